@@ -1,0 +1,112 @@
+-- The numbers and the names of the refusals: this project's own.
+use Rattle.std.specs.Prelude.{ℕ, List, codes}
+use Rattle.gfx_base.specs.declared.refusal.Refusal.{Refusal}
+use Rattle.gfx_base.specs.declared.refusal.Refusal.TheVariants.{ChannelTruncated, ChannelLength, Descriptor, SegmentSize, BulkCompressed, PduTruncated, PduLength, PduUnknown, CountMismatch, NoSurface, SurfaceExists, SurfaceSize, SurfaceBudget, RectOutside, PixelFormat, CodecRefused, PayloadLength, SlotRange, SlotEmpty, CacheBudget, FrameOpen, FrameMismatch, CapsVersion, ClearFlags, ClearSequence, ClearLengths, RunTotal, BandShape, BarOrder, BarEmpty, BarHeight, SubcodecRefused, PaletteRange, GlyphIndex, GlyphArea, GlyphEmpty, GlyphSize, BlockLength, BlockUnknown, TileCount, TileOutside, QuantIndex, QuantRange, QualityIndex, NoFirstPass, QualityWorse, TransformChanged, CoefficientRange, TileBudget, MonitorCount, OutputSize}
+
+-- the number that a report prints
+abbrev pub number_of : Refusal → ℕ
+number_of ChannelTruncated = 1
+number_of ChannelLength = 2
+number_of Descriptor = 3
+number_of SegmentSize = 4
+number_of BulkCompressed = 5
+number_of PduTruncated = 6
+number_of PduLength = 7
+number_of PduUnknown = 8
+number_of CountMismatch = 9
+number_of NoSurface = 10
+number_of SurfaceExists = 11
+number_of SurfaceSize = 12
+number_of SurfaceBudget = 13
+number_of RectOutside = 14
+number_of PixelFormat = 15
+number_of CodecRefused = 16
+number_of PayloadLength = 17
+number_of SlotRange = 18
+number_of SlotEmpty = 19
+number_of CacheBudget = 20
+number_of FrameOpen = 21
+number_of FrameMismatch = 22
+number_of CapsVersion = 23
+number_of ClearFlags = 24
+number_of ClearSequence = 25
+number_of ClearLengths = 26
+number_of RunTotal = 27
+number_of BandShape = 28
+number_of BarOrder = 29
+number_of BarEmpty = 30
+number_of BarHeight = 31
+number_of SubcodecRefused = 32
+number_of PaletteRange = 33
+number_of GlyphIndex = 34
+number_of GlyphArea = 35
+number_of GlyphEmpty = 36
+number_of GlyphSize = 37
+number_of BlockLength = 38
+number_of BlockUnknown = 39
+number_of TileCount = 40
+number_of TileOutside = 41
+number_of QuantIndex = 42
+number_of QuantRange = 43
+number_of QualityIndex = 44
+number_of NoFirstPass = 45
+number_of QualityWorse = 46
+number_of TransformChanged = 47
+number_of CoefficientRange = 48
+number_of TileBudget = 49
+number_of MonitorCount = 51
+number_of OutputSize = 52
+
+-- the name that a report prints
+abbrev pub name_of : Refusal → List ℕ
+name_of ChannelTruncated = codes "ChannelTruncated"
+name_of ChannelLength = codes "ChannelLength"
+name_of Descriptor = codes "Descriptor"
+name_of SegmentSize = codes "SegmentSize"
+name_of BulkCompressed = codes "BulkCompressed"
+name_of PduTruncated = codes "PduTruncated"
+name_of PduLength = codes "PduLength"
+name_of PduUnknown = codes "PduUnknown"
+name_of CountMismatch = codes "CountMismatch"
+name_of NoSurface = codes "NoSurface"
+name_of SurfaceExists = codes "SurfaceExists"
+name_of SurfaceSize = codes "SurfaceSize"
+name_of SurfaceBudget = codes "SurfaceBudget"
+name_of RectOutside = codes "RectOutside"
+name_of PixelFormat = codes "PixelFormat"
+name_of CodecRefused = codes "CodecRefused"
+name_of PayloadLength = codes "PayloadLength"
+name_of SlotRange = codes "SlotRange"
+name_of SlotEmpty = codes "SlotEmpty"
+name_of CacheBudget = codes "CacheBudget"
+name_of FrameOpen = codes "FrameOpen"
+name_of FrameMismatch = codes "FrameMismatch"
+name_of CapsVersion = codes "CapsVersion"
+name_of ClearFlags = codes "ClearFlags"
+name_of ClearSequence = codes "ClearSequence"
+name_of ClearLengths = codes "ClearLengths"
+name_of RunTotal = codes "RunTotal"
+name_of BandShape = codes "BandShape"
+name_of BarOrder = codes "BarOrder"
+name_of BarEmpty = codes "BarEmpty"
+name_of BarHeight = codes "BarHeight"
+name_of SubcodecRefused = codes "SubcodecRefused"
+name_of PaletteRange = codes "PaletteRange"
+name_of GlyphIndex = codes "GlyphIndex"
+name_of GlyphArea = codes "GlyphArea"
+name_of GlyphEmpty = codes "GlyphEmpty"
+name_of GlyphSize = codes "GlyphSize"
+name_of BlockLength = codes "BlockLength"
+name_of BlockUnknown = codes "BlockUnknown"
+name_of TileCount = codes "TileCount"
+name_of TileOutside = codes "TileOutside"
+name_of QuantIndex = codes "QuantIndex"
+name_of QuantRange = codes "QuantRange"
+name_of QualityIndex = codes "QualityIndex"
+name_of NoFirstPass = codes "NoFirstPass"
+name_of QualityWorse = codes "QualityWorse"
+name_of TransformChanged = codes "TransformChanged"
+name_of CoefficientRange = codes "CoefficientRange"
+name_of TileBudget = codes "TileBudget"
+name_of MonitorCount = codes "MonitorCount"
+name_of OutputSize = codes "OutputSize"

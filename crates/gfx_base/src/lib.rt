@@ -1,0 +1,30 @@
+//! What all crates of the graphics pipe share: refusals and faults, pixels and rectangles, lists of
+//! them, little-endian fields, and the two traits of the outside, `Source` and `Sink`.
+//!
+//! The other crates stand on this one, and it stands on none.
+#![tactic(auto)]
+
+mod answer;
+mod bitmap;
+mod fields;
+mod format;
+mod geometry;
+mod items;
+mod pixel;
+mod refusal;
+mod sink;
+mod source;
+
+pub use answer::{Failed, Fault, NoMemory};
+pub use bitmap::Bitmap;
+pub use fields::{field_u16, field_u32, field_u64};
+pub use format::Format;
+pub use geometry::{Cell, Point, Rect};
+pub use items::{Bytes, Items, Pixels, Points, Rects, Rgbs};
+pub use pixel::{Pixel, Rgb};
+pub use refusal::Refusal;
+pub use sink::{Sink, VecSink, write_all};
+pub use source::{SliceSource, Source};
+
+#[cfg(test)]
+mod tests;

@@ -1,0 +1,14 @@
+//! The command line of `gfxpipe`: which command the words behind the program's name are.
+//! `gfxpipe` asks this crate first, before it reads any input.
+#![tactic(auto)]
+
+mod laws;
+mod line;
+mod table;
+
+pub use laws::only_render_is_render;
+pub use line::command_of;
+pub use table::{Command, USAGE};
+
+#[cfg(test)]
+mod tests;

@@ -1,0 +1,39 @@
+//! The commands, and the words that name each of them.
+ghost use Rattle.std.specs.Prelude.{◌≡◌, option_map};
+ghost use Rattle.gfx_words.specs.Table.{command_named, plain_command};
+
+/// The line that a caller prints where the words are no command, without its newline.
+pub const USAGE: &str =
+    "usage: gfxpipe encode | render [--output] | audit | session | make N | trial N";
+
+/// A command of `gfxpipe`, of those that are built.
+#[derive(Clone, Copy, Debug, PartialEq, Eq)]
+pub enum Command {
+    /// Reads a stream of channel messages and writes the pixels of all its surfaces.
+    Render,
+}
+
+/// The command that its name, the number behind it and the flag `--output` make.
+pub(crate) fn command_named(
+    name: Option<&str>,
+    has_output: bool,
+    number: Option<&str>,
+) -> Option<Command>
+    ensures { result ≡ command_named (option_map (λ text. text.now) name.entry) has_output
+        (option_map (λ text. text.now) number.entry) }
+{
+    match (name, has_output, number) {
+        (Some(name), false, None) => plain_command(name),
+        _ => None,
+    }
+}
+
+#[tactic(auto, unfolding(crate::specs::Table::plain_command))]
+fn plain_command(name: &str) -> Option<Command>
+    ensures { result ≡ plain_command name.now }
+{
+    match name {
+        "render" => Some(Command::Render),
+        _ => None,
+    }
+}

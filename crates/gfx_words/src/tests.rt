@@ -1,0 +1,70 @@
+use crate::{Command, USAGE, command_of};
+use std::test::Fail;
+
+// Which of these word lists are a command at all is what a reference implementation of the whole
+// table answers. Of those, only `render` is built here.
+#[test]
+fn the_words_of_each_command(rt: HostRuntime) -> Result<(), Fail> {
+    let render = Some(Command::Render);
+    let table: [(&[&str], Option<Command>); 31] = [
+        (&["render"], render),
+        (&["render", "--"], render),
+        (&["--", "render"], render),
+        (&[], None),
+        (&[""], None),
+        (&["-"], None),
+        (&["--"], None),
+        (&["--", "--"], None),
+        (&["-h"], None),
+        (&["-V"], None),
+        (&["--help"], None),
+        (&["--version"], None),
+        (&["help"], None),
+        (&["gfxpipe", "render"], None),
+        (&["render", "-h"], None),
+        (&["render", "--help"], None),
+        (&["render", "--wide"], None),
+        (&["render", "--out"], None),
+        (&["render", "--output="], None),
+        (&["render", "--output=true"], None),
+        (&["render", "--output", "--output"], None),
+        (&["render", ""], None),
+        (&["render", "-1"], None),
+        (&["render", "1"], None),
+        (&["render", "render"], None),
+        (&["render", "--", "--"], None),
+        (&["--", "render", "--"], None),
+        (&["Render"], None),
+        (&["ren"], None),
+        (&["--output"], None),
+        (&["render", "extra", "more"], None),
+    ];
+    for (words, command) in table {
+        assert!(rt; command_of(rt.alloc(), words)? == command, "{words:?}");
+    }
+    Ok(())
+}
+
+// Words of the whole table whose commands are not built yet.
+#[test]
+fn commands_that_are_not_built(rt: HostRuntime) -> Result<(), Fail> {
+    let table: [&[&str]; 7] = [
+        &["render", "--output"],
+        &["--output", "render"],
+        &["encode"],
+        &["audit"],
+        &["session"],
+        &["make", "1"],
+        &["trial", "1"],
+    ];
+    for words in table {
+        assert!(rt; command_of(rt.alloc(), words)?.is_none(), "{words:?}");
+    }
+    Ok(())
+}
+
+#[test]
+fn the_usage_line(rt: HostRuntime) {
+    let line = "usage: gfxpipe encode | render [--output] | audit | session | make N | trial N";
+    assert!(rt; USAGE == line);
+}

@@ -1,0 +1,13 @@
+//! Bits read and written as a list: the floor of the entropy coders RLGR and SRL.
+//!
+//! It stands on nothing. A reader is seen as the bits that are left, a writer as the bits written.
+#![tactic(auto)]
+
+mod reader;
+mod writer;
+
+pub use reader::BitReader;
+pub use writer::{BitWriter, NoBits};
+
+#[cfg(test)]
+mod tests;

@@ -1,0 +1,122 @@
+-- Terms in their places.
+use Rattle.std.proofs.Common.{get_or, ◌≡◌, ℕ, zero, suc, ◌+◌, ◌-◌, ◌<◌, ◌≤◌, Bool, true, false, ◌&&◌, ℤ, pos, List, [], ◌∷◌, ◌++◌, length, take, set, refl, sym, ap, ◌∙◌, arith, append_assoc, length-append, replicate, min}
+use Rattle.std.specs.List.{All, list_all}
+use Rattle.std.proofs.lemmas.List.{take-replicate, replicate-append-replicate, length-replicate, get_or-replicate, take-append-le, take_all, append-nil}
+use Rattle.std.proofs.lemmas.List.Folds.{list_all-append}
+use Rattle.std.proofs.Math.Seq.{take-append-add}
+use Rattle.gfx_rlgr.specs.Rlgr.{in_range}
+use Rattle.gfx_rlgr.specs.Steps.{filled}
+
+same-zeros : (values : List ℤ) (n i j : ℕ) → n ≤ i → n ≤ j → take n (values ++ replicate i (pos 0)) ≡ take n (values ++ replicate j (pos 0))
+same-zeros [] n i j p q = take-replicate n i (pos 0) p ∙ sym (take-replicate n j (pos 0) q)
+same-zeros (v ∷ values) zero i j p q = refl
+same-zeros (v ∷ values) (suc n) i j p q = ap (λ vs. v ∷ vs) (same-zeros values n i j (omega arith) (omega arith))
+
+-- zeros behind the values are there already
+pub more-zeros : (n z : ℕ) (values : List ℤ) → filled n (values ++ replicate z (pos 0)) ≡ filled n values
+unfolding filled
+more-zeros n z values =
+    ap (take n) (append_assoc values (replicate z (pos 0)) (replicate n (pos 0)) ∙ ap (λ vs. values ++ vs) (replicate-append-replicate z n (pos 0)))
+    ∙ same-zeros values n (z + n) n (omega arith) (omega arith)
+
+pub zeros-filled : (n : ℕ) → replicate n (pos 0) ≡ filled n []
+unfolding filled
+zeros-filled n = sym (take-replicate n n (pos 0) (omega arith))
+
+pub all-zero : (n : ℕ) (out : List ℤ) → out ≡ filled n [] → All (λ value. value ≡ pos 0) out
+all-zero n out is place d h =
+    let zeros : out ≡ replicate n (pos 0) = is ∙ sym (zeros-filled n) in
+    ap (λ values. get_or values place d) zeros ∙ get_or-replicate n place (pos 0) d (omega (arith, ap length zeros, length-replicate n (pos 0)))
+
+-- what is behind the last place is cut
+pub filled-whole : (n : ℕ) (values : List ℤ) → n ≤ length values → filled n values ≡ take n values
+unfolding filled
+filled-whole n values h = take-append-le n values (replicate n (pos 0)) h
+
+pub filled-past : (n : ℕ) (values more : List ℤ) → n ≤ length values → filled n (values ++ more) ≡ filled n values
+filled-past n values more h =
+    filled-whole n (values ++ more) (omega (arith, length-append values more)) ∙ take-append-le n values more h ∙ sym (filled-whole n values h)
+
+set-zero : (values : List ℤ) (n i j : ℕ) (v : ℤ) → length values < n → n ≤ i → n ≤ suc j
+    → set (take n (values ++ replicate i (pos 0))) (length values) v ≡ take n ((values ++ v ∷ []) ++ replicate j (pos 0))
+set-zero values zero i j v h p q = absurd (omega arith)
+set-zero [] (suc n) zero j v h p q = absurd (omega arith)
+set-zero [] (suc n) (suc i) j v h p q = ap (λ vs. v ∷ vs) (take-replicate n i (pos 0) (omega arith) ∙ sym (take-replicate n j (pos 0) (omega arith)))
+set-zero (x ∷ values) (suc n) i j v h p q = ap (λ vs. x ∷ vs) (set-zero values n i j v (omega arith) (omega arith) (omega arith))
+
+-- the next value in its place
+pub filled-set : (n : ℕ) (values : List ℤ) (v : ℤ) → length values < n → set (filled n values) (length values) v ≡ filled n (values ++ v ∷ [])
+unfolding filled
+filled-set n values v h = set-zero values n n n v h (omega arith) (omega arith)
+
+zeros-in-range : (n : ℕ) → list_all in_range (replicate n (pos 0)) ≡ true
+zeros-in-range zero = refl
+zeros-in-range (suc n) = zeros-in-range n
+
+and-true : (b : Bool) → (b && true) ≡ b
+and-true true = refl
+and-true false = refl
+
+-- ---- what `place` leaves: a run past the end, a run, and a run with its value
+
+pub placed-past : (n : ℕ) (values more out : List ℤ) (z : ℕ) → out ≡ filled n values → length values < n → n ≤ length values + z
+    → (out ≡ filled n (values ++ (replicate z (pos 0) ++ more)))
+    × (n ≡ min n (length (values ++ (replicate z (pos 0) ++ more))))
+    × (list_all in_range (take n (values ++ (replicate z (pos 0) ++ more))) ≡ (list_all in_range values && true))
+placed-past n values more out z is h past = (
+  is ∙ sym (more-zeros n z values) ∙ sym (filled-past n (values ++ replicate z (pos 0)) more (omega (arith, long))) ∙ ap (filled n) (append_assoc values (replicate z (pos 0)) more),
+  omega (arith, long, all),
+  ap (list_all in_range) front ∙ list_all-append in_range values (replicate (n - length values) (pos 0)) ∙ ap (λ b. list_all in_range values && b) (zeros-in-range (n - length values)),
+)
+  where
+    long : length (values ++ replicate z (pos 0)) ≡ length values + z
+    long = length-append values (replicate z (pos 0)) ∙ ap (λ k. length values + k) (length-replicate z (pos 0))
+
+    all : length (values ++ (replicate z (pos 0) ++ more)) ≡ length values + (z + length more)
+    all = length-append values (replicate z (pos 0) ++ more) ∙ ap (λ k. length values + k) (length-append (replicate z (pos 0)) more ∙ ap (λ k. k + length more) (length-replicate z (pos 0)))
+
+    front : take n (values ++ (replicate z (pos 0) ++ more)) ≡ values ++ replicate (n - length values) (pos 0)
+    front =
+        ap (λ k. take k (values ++ (replicate z (pos 0) ++ more))) {y = length values + (n - length values)} (omega arith)
+        ∙ take-append-add values (replicate z (pos 0) ++ more) (n - length values)
+        ∙ ap (λ vs. values ++ vs)
+        (take-append-le (n - length values) (replicate z (pos 0)) more (omega (arith, length-replicate z (pos 0)))
+        ∙ take-replicate (n - length values) z (pos 0) (omega arith))
+
+pub placed-run : (n : ℕ) (values out : List ℤ) (z : ℕ) → out ≡ filled n values → length values + z < n
+    → (out ≡ filled n (values ++ (replicate z (pos 0) ++ [])))
+    × (length values + z ≡ min n (length (values ++ (replicate z (pos 0) ++ []))))
+    × (list_all in_range (take n (values ++ (replicate z (pos 0) ++ []))) ≡ (list_all in_range values && true))
+placed-run n values out z is h = (
+  is ∙ sym (more-zeros n z values) ∙ ap (λ vs. filled n (values ++ vs)) (sym (append-nil (replicate z (pos 0)))),
+  omega (arith, all),
+  ap (list_all in_range) (take_all n (values ++ (replicate z (pos 0) ++ [])) (omega (arith, all)))
+      ∙ list_all-append in_range values (replicate z (pos 0) ++ [])
+      ∙ ap (λ vs. list_all in_range values && list_all in_range vs) (append-nil (replicate z (pos 0)))
+      ∙ ap (λ b. list_all in_range values && b) (zeros-in-range z),
+)
+  where
+    all : length (values ++ (replicate z (pos 0) ++ [])) ≡ length values + z
+    all = length-append values (replicate z (pos 0) ++ []) ∙ ap (λ k. length values + k) (ap length (append-nil (replicate z (pos 0))) ∙ length-replicate z (pos 0))
+
+pub placed-value : (n : ℕ) (values out : List ℤ) (z : ℕ) (v : ℤ) → out ≡ filled n values → length values + z < n
+    → (set out (length values + z) v ≡ filled n (values ++ (replicate z (pos 0) ++ v ∷ [])))
+    × (length values + z + 1 ≡ min n (length (values ++ (replicate z (pos 0) ++ v ∷ []))))
+    × (list_all in_range (take n (values ++ (replicate z (pos 0) ++ v ∷ []))) ≡ (list_all in_range values && in_range v))
+placed-value n values out z v is h = (
+  ap (λ vs. set vs (length values + z) v) (is ∙ sym (more-zeros n z values))
+      ∙ ap (λ k. set (filled n (values ++ replicate z (pos 0))) k v) (sym long)
+      ∙ filled-set n (values ++ replicate z (pos 0)) v (omega (arith, long))
+      ∙ ap (filled n) (append_assoc values (replicate z (pos 0)) (v ∷ [])),
+  omega (arith, all),
+  ap (list_all in_range) (take_all n (values ++ (replicate z (pos 0) ++ v ∷ [])) (omega (arith, all)))
+      ∙ list_all-append in_range values (replicate z (pos 0) ++ v ∷ [])
+      ∙ ap (λ b. list_all in_range values && b)
+      (list_all-append in_range (replicate z (pos 0)) (v ∷ []) ∙ ap (λ b. b && (in_range v && true)) (zeros-in-range z) ∙ and-true (in_range v)),
+)
+  where
+    long : length (values ++ replicate z (pos 0)) ≡ length values + z
+    long = length-append values (replicate z (pos 0)) ∙ ap (λ k. length values + k) (length-replicate z (pos 0))
+
+    all : length (values ++ (replicate z (pos 0) ++ v ∷ [])) ≡ length values + (z + 1)
+    all = length-append values (replicate z (pos 0) ++ v ∷ []) ∙ ap (λ k. length values + k) (length-append (replicate z (pos 0)) (v ∷ []) ∙ ap (λ k. k + 1) (length-replicate z (pos 0)))

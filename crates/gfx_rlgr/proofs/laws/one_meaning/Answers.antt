@@ -1,0 +1,5 @@
+use Rattle.gfx_rlgr.proofs.Unique as unique
+use Rattle.gfx_rlgr.proofs.laws.one_meaning.Goals as goal
+
+pub returns : goal.returns
+returns c = unique.one-meaning

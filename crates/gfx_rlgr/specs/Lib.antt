@@ -1,0 +1,4 @@
+pub mod Code
+pub mod Rlgr
+pub mod Bound
+pub mod Steps

@@ -1,0 +1,63 @@
+-- What one step of the decoder has read, and where the values stand meanwhile.
+use Rattle.std.specs.Prelude.{ℕ, ◌<◌, ◌≤◌, ◌≡◌, length, min, ◌/◌, ◌%◌, ◌==◌, ℤ, pos, negsuc, Bool, List, ◌++◌, map, take, replicate, if◌then◌else◌}
+use Rattle.std.specs.Option.{option_to_list}
+use Rattle.gfx_bits.specs.Bits.{Spelled}
+use Rattle.gfx_rlgr.specs.declared.params.Params.{Params}
+use Rattle.gfx_rlgr.specs.declared.params.TheConstants.{PARAMETER_MAX}
+use Rattle.gfx_rlgr.specs.declared.decoder.Terms.{Terms}
+use Rattle.gfx_rlgr.specs.Code.{Token, kr, number_code, after_number, code, after, IsToken, terms_of}
+use Rattle.gfx_rlgr.specs.Rlgr.{in_range}
+
+-- both parameters keep to their range
+pub record AreWithin (params : Params) : Type 0 where
+  pub kp : params.kp ≤ PARAMETER_MAX
+  pub krp : params.krp ≤ PARAMETER_MAX
+
+-- a number's code was read; a number that no value in range has may be known as another such number
+pub record ReadsNumber (old new : List Bool) (before behind : Params) (number : ℕ) : Type 0 where
+  pub exact : ℕ
+  pub spelled : Spelled old (number_code (kr before) exact) new
+  pub params : behind ≡ after_number before exact
+  pub same : min exact 65535 ≡ min number 65535
+
+-- a value, or one mark for all values that are out of range
+abbrev pub kept : ℤ → ℤ
+kept value = if in_range value then value else pos 32768
+
+-- the value that a number stands for
+abbrev pub unfold_number : ℕ → ℤ
+unfold_number n = if n % 2 == 0 then pos (n / 2) else negsuc (n / 2)
+
+-- a token was read, and these are its terms
+pub record ReadsToken (old new : List Bool) (before behind : Params) (shown : List ℤ) : Type 0 where
+  pub token : Token
+  pub fits : IsToken before token
+  pub spelled : Spelled old (code before token) new
+  pub params : behind ≡ after before token
+  pub shows : shown ≡ map kept (terms_of before token)
+
+-- the terms of a token that was read
+abbrev pub shown : Terms → List ℤ
+shown terms = replicate terms.zeros (pos 0) ++ option_to_list terms.value
+
+-- the first n of these values, and zeros behind them if they are fewer
+unfoldable pub filled : ℕ → List ℤ → List ℤ
+filled n values = take n (values ++ replicate n (pos 0))
+
+-- a token was written, and these are its terms
+pub record WritesToken (old new : List Bool) (before behind : Params) (shown : List ℤ) : Type 0 where
+  pub token : Token
+  pub fits : IsToken before token
+  pub spelled : new ≡ old ++ code before token
+  pub params : behind ≡ after before token
+  pub shows : shown ≡ terms_of before token
+
+-- a token was written for the values from one place to the next; the last may give zeros beyond them
+pub record Covers (values : List ℤ) (at next : ℕ) (old new : List Bool) (before behind : Params) : Type 0 where
+  pub shown : List ℤ
+  pub written : WritesToken old new before behind shown
+  pub within : AreWithin behind
+  pub on : (at < next) × (next ≤ length values)
+  pub more : ℕ
+  pub gives : take at values ++ shown ≡ take next values ++ replicate more (pos 0)
+  pub none : next < length values → more ≡ 0

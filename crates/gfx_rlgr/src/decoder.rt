@@ -1,0 +1,179 @@
+ghost use Rattle.std.specs.Prelude.{All, ◌≡◌, ◌+◌, ◌<◌, ◌≤◌, ◌∷◌, ◌++◌, [], true, min, ℤ, pos, negsuc, ℕ, suc, if◌then◌else◌, List, length, take, map, unwrap_or, OnOk, IfErr, OnErr, Ok, Err, ◌&&◌};
+ghost use Rattle.std.specs.List.{list_all};
+ghost use Rattle.gfx_base.specs.declared.refusal.Refusal.TheVariants.{CoefficientRange};
+ghost use Rattle.gfx_bits.specs.Bits.{bits_of};
+ghost use Rattle.gfx_rlgr.specs.Code.{Token, start, k};
+ghost use Rattle.gfx_rlgr.specs.Rlgr.{Rlgr, Reading, terms as terms_from, in_range};
+ghost use Rattle.gfx_rlgr.specs.Steps.{AreWithin, ReadsNumber, ReadsToken, kept, unfold_number, shown, filled};
+
+use crate::params::{MAGNITUDE_MAX, Params, TERMS};
+use gfx_base::Refusal;
+use gfx_bits::BitReader;
+
+/// What stands for each value that is out of range until it is refused.
+const OUT_OF_RANGE: i32 = 32_768;
+
+/// What a token gives: zeros, and behind them a value, if it has one.
+#[derive(Clone, Copy)]
+struct Terms {
+    zeros: u32,
+    value: Option<i32>,
+}
+
+/// Reads the 4,096 values that the bytes say, with zero bits behind their end ([MS-RDPRFX]
+/// 3.1.8.1.7.3, RLGR1). A magnitude above 32,767 among them is `CoefficientRange`, and all values
+/// are then zero. It takes no memory.
+pub fn decode(bytes: &[u8], out: &mut [i32; 4096]) -> Result<(), Refusal>
+    ensures ok { OnOk result (Rlgr bytes.now (Ok out.new)) }
+    ensures refused { IfErr result (λ refusal. (refusal ≡ CoefficientRange) × Rlgr bytes.now (Err CoefficientRange)) }
+    ensures err { OnErr result (All (λ value. value ≡ pos 0) out.new) }
+{
+    if fill(bytes, out) {
+        return Ok(());
+    }
+    clear(out);
+    Err(Refusal::CoefficientRange)
+}
+
+// Reads tokens until the values are there, and says whether all are in range.
+fn fill(bytes: &[u8], out: &mut [i32; 4096]) -> bool
+    ensures { (tokens : List Token) × Reading (bits_of bytes.now) tokens
+        × (out.new ≡ map kept (take 4096 (terms_from start tokens)))
+        × (result ≡ list_all in_range (take 4096 (terms_from start tokens))) }
+{
+    clear(out);
+    let mut bits = BitReader::new(bytes);
+    let mut params = Params::start();
+    let mut at = 0;
+    let mut all_in_range = true;
+    'tokens: while at < TERMS {
+        let terms = read_token(&mut bits, &mut params);
+        let (next, in_range) = place(out, at, terms);
+        at = next;
+        all_in_range = all_in_range & in_range;
+    }
+    all_in_range
+}
+
+// Makes all values zero.
+fn clear(out: &mut [i32; 4096])
+    ensures { out.new ≡ filled 4096 [] }
+{
+    *out = [0; 4096];
+}
+
+// Puts the terms in their places, and says how many places are taken, and whether the value is in range.
+#[inline(always)]
+fn place(out: &mut [i32; 4096], at: usize, terms: Terms) -> (usize, bool)
+    requires { at < 4096 }
+    ensures { (values : List ℤ) → out.old ≡ filled 4096 values → at ≡ length values
+        → (out.new ≡ filled 4096 (values ++ shown terms))
+        × (result.0 ≡ min 4096 (length (values ++ shown terms)))
+        × (list_all in_range (take 4096 (values ++ shown terms)) ≡ (list_all in_range values && result.1)) }
+{
+    let next = at + terms.zeros as usize;
+    if next >= TERMS {
+        return (TERMS, true);
+    }
+    match terms.value {
+        None => (next, true),
+        Some(value) => {
+            out[next] = value;
+            (next + 1, value.unsigned_abs() <= MAGNITUDE_MAX)
+        }
+    }
+}
+
+// Reads a token, by whether the parameters have runs.
+#[inline(always)]
+fn read_token(bits: &mut BitReader<'_>, params: &mut Params) -> Terms
+    requires { AreWithin params.old }
+    ensures reads { ReadsToken bits.old bits.new params.old params.new (shown result) }
+    ensures within { AreWithin params.new }
+{
+    let k = params.k();
+    if k == 0 {
+        return Terms {
+            zeros: 0,
+            value: Some(read_value(bits, params)),
+        };
+    }
+    if bits.read(1) == 0 {
+        params.after_run();
+        return Terms {
+            zeros: 1 << k,
+            value: None,
+        };
+    }
+    read_last_run(bits, params, k)
+}
+
+// Reads the rest of a run that a value ends, behind its first bit.
+#[inline(always)]
+fn read_last_run(bits: &mut BitReader<'_>, params: &mut Params, width: u8) -> Terms
+    requires within { AreWithin params.old }
+    requires width { width ≡ k params.old }
+    requires run { 0 < width }
+    ensures { ReadsToken (true ∷ bits.old) bits.new params.old params.new (shown result) }
+{
+    let zeros = bits.read(width);
+    let negative = bits.read(1) == 1;
+    params.after_last_run();
+    let below = read_number(bits, params);
+    Terms {
+        zeros,
+        value: Some(signed(negative, below)),
+    }
+}
+
+// Reads a value on its own.
+#[inline(always)]
+fn read_value(bits: &mut BitReader<'_>, params: &mut Params) -> i32
+    requires within { AreWithin params.old }
+    requires single { k params.old ≡ 0 }
+    ensures { ReadsToken bits.old bits.new params.old params.new (result ∷ []) }
+{
+    let number = read_number(bits, params);
+    params.after_value(number);
+    unfolded(number)
+}
+
+// Reads a number's code.
+#[inline(always)]
+fn read_number(bits: &mut BitReader<'_>, params: &mut Params) -> u64
+    requires { AreWithin params.old }
+    ensures { ReadsNumber bits.old bits.new params.old params.new result }
+{
+    let kr = params.kr();
+    let (ones, low) = bits.read_ones_then(kr);
+    params.after_ones(ones);
+    ((ones as u64) << kr) + low as u64
+}
+
+// The value of this sign whose magnitude is one more.
+#[inline(always)]
+fn signed(negative: bool, below: u64) -> i32
+    ensures { (exact : ℕ) → min exact 65535 ≡ min below 65535 → result ≡ kept (if negative then negsuc exact else pos (suc exact)) }
+{
+    if below >= MAGNITUDE_MAX as u64 {
+        OUT_OF_RANGE
+    } else if negative {
+        -(below as i32) - 1
+    } else {
+        below as i32 + 1
+    }
+}
+
+// The value that a number stands for.
+#[inline(always)]
+fn unfolded(number: u64) -> i32
+    ensures { (exact : ℕ) → min exact 65535 ≡ min number 65535 → result ≡ kept (unfold_number exact) }
+{
+    if number > 2 * MAGNITUDE_MAX as u64 {
+        OUT_OF_RANGE
+    } else if number % 2 == 0 {
+        (number / 2) as i32
+    } else {
+        -((number / 2) as i32) - 1
+    }
+}

@@ -1,0 +1,86 @@
+//! Reading a message.
+
+ghost use Rattle.std.specs.Prelude.{◌≡◌, ◌+◌, ◌-◌, ◌<◌, ◌≤◌, length, drop, IfOk, IfSome};
+ghost use Rattle.gfx_base.specs.Outcome.{Gives};
+ghost use Rattle.gfx_pdu.specs.Reading.{body_of, front, next_pdu};
+ghost use Rattle.gfx_pdu.specs.Spelling.{Begins};
+
+use crate::cache::{read_cache_to_surface, read_evict_cache_entry, read_surface_to_cache};
+use crate::drawing::{
+    read_delete_encoding_context, read_solid_fill, read_surface_to_surface, read_wire_to_surface_1,
+    read_wire_to_surface_2,
+};
+use crate::frames::{read_end_frame, read_start_frame};
+use crate::header::{HEADER, read_kind, read_size};
+use crate::id::Id;
+use crate::output::{read_caps_confirm, read_map_surface_to_output, read_reset_graphics};
+use crate::pdu::Pdu;
+use crate::surfaces::{read_create_surface, read_delete_surface};
+use gfx_base::Fault;
+use std::alloc::Global;
+
+/// Reads the body of a message with this id.
+#[tactic(auto, unfolding(crate::specs::Reading::body_of))]
+fn read_body(alloc: Global, id: Id, body: &[u8]) -> Result<Pdu, Fault>
+    ensures { Gives (λ p. p) result (body_of id body.now) }
+{
+    match id {
+        Id::WireToSurface1 => read_wire_to_surface_1(alloc, body),
+        Id::WireToSurface2 => read_wire_to_surface_2(alloc, body),
+        Id::DeleteEncodingContext => Ok(read_delete_encoding_context(body)?),
+        Id::SolidFill => read_solid_fill(alloc, body),
+        Id::SurfaceToSurface => read_surface_to_surface(alloc, body),
+        Id::SurfaceToCache => Ok(read_surface_to_cache(body)?),
+        Id::CacheToSurface => read_cache_to_surface(alloc, body),
+        Id::EvictCacheEntry => Ok(read_evict_cache_entry(body)?),
+        Id::CreateSurface => Ok(read_create_surface(body)?),
+        Id::DeleteSurface => Ok(read_delete_surface(body)?),
+        Id::StartFrame => Ok(read_start_frame(body)?),
+        Id::EndFrame => Ok(read_end_frame(body)?),
+        Id::ResetGraphics => read_reset_graphics(alloc, body),
+        Id::MapSurfaceToOutput => Ok(read_map_surface_to_output(body)?),
+        Id::CapsConfirm => read_caps_confirm(alloc, body),
+    }
+}
+
+/// Reads the message at the front, and says how many bytes it has.
+#[tactic(auto, unfolding(crate::specs::Reading::front, gfx_base::specs::Results::and_then))]
+fn read_front(alloc: Global, bytes: &[u8]) -> Result<(Pdu, usize), Fault>
+    ensures value { Gives (λ m. m) result (front bytes.now) }
+    ensures within { IfOk result (λ m. (8 ≤ m.1) × (m.1 ≤ length bytes.now)) }
+{
+    let size = read_size(bytes)?;
+    let id = read_kind(bytes)?;
+    let (_, behind) = bytes.split_at(HEADER);
+    let (body, _) = behind.split_at(size - HEADER);
+    let pdu = read_body(alloc, id, body)?;
+    Ok((pdu, size))
+}
+
+/// Reads the message at a place of a payload, as `read_pdu` does.
+#[tactic(auto, unfolding(crate::specs::Reading::next_pdu, crate::specs::Reading::message_at, gfx_base::specs::Results::and_then))]
+fn read_next(alloc: Global, payload: &[u8], at: usize) -> Result<Option<(Pdu, usize)>, Fault>
+    ensures value { Gives (λ found. found) result (next_pdu payload.now at) }
+    ensures within { IfOk result (λ found. IfSome found (λ m. (at < m.1) × (m.1 ≤ length payload.now))) }
+{
+    if at >= payload.len() {
+        return Ok(None);
+    }
+    let (_, bytes) = payload.split_at(at);
+    let (pdu, size) = read_front(alloc, bytes)?;
+    Ok(Some((pdu, at + size)))
+}
+
+/// Reads the message at a place of a payload, and says which place is behind it. None exactly where
+/// the payload ends at or before that place.
+///
+/// Refusals are PduTruncated, PduLength, PduUnknown, CountMismatch and MonitorCount, by the first of
+/// the checks of `specs/Reading` that fails.
+pub fn read_pdu(alloc: Global, payload: &[u8], at: usize) -> Result<Option<(Pdu, usize)>, Fault>
+    ensures value { Gives (λ found. found) result (next_pdu payload.now at) }
+    ensures within { IfOk result (λ found. IfSome found (λ m. (at < m.1) × (m.1 ≤ length payload.now))) }
+    // What is read is spelled so, byte for byte but for flags and padding.
+    ensures spelled { IfOk result (λ found. IfSome found (λ m. Begins (drop at payload.now) m.0 (m.1 - at))) }
+{
+    read_next(alloc, payload, at)
+}

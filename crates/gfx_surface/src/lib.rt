@@ -1,0 +1,17 @@
+//! A surface: a rectangle of pixels that messages draw on. Contracts see the picture that it shows,
+//! row by row, and never how the pixels are kept.
+//!
+//! It stands on `gfx_base`; the surfaces of a client or a server stand in `gfx_surface_map` above it.
+#![tactic(auto)]
+
+mod colour;
+mod rows;
+mod surface;
+
+pub use surface::Surface;
+
+/// The longest side of a surface, in pixels. This project's own rule.
+pub const MOST_SIDE: u16 = 8192;
+
+#[cfg(test)]
+mod tests;

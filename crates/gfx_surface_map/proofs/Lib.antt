@@ -1,0 +1,4 @@
+pub mod Entries
+pub mod PaintedLemmas
+pub mod CreatedLemmas
+pub mod OrderLemmas

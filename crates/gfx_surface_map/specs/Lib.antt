@@ -1,0 +1,4 @@
+pub mod Surfaces
+pub mod Order
+pub mod Inside
+pub mod Lending

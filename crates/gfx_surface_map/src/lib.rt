@@ -1,0 +1,24 @@
+//! The surfaces of a client or of a server, by their ids, within the limits on their number and
+//! their size. Contracts see a finite map from ids to pictures.
+//!
+//! It stands on `gfx_surface`; the state of the client and of the planner above it hold one.
+#![tactic(auto)]
+
+mod map;
+mod scan;
+mod size;
+
+pub use map::SurfaceMap;
+pub use size::fits_size;
+
+/// The side of a cell, in pixels ([MS-RDPRFX] cuts a surface into tiles of this side).
+pub const CELL_SIDE: u16 = 64;
+
+/// The most surfaces at one time. This project's own rule.
+pub const MOST_SURFACES: usize = 1024;
+
+/// The most cells of all surfaces together, part cells counted whole. This project's own rule.
+pub const MOST_CELLS: u32 = 16384;
+
+#[cfg(test)]
+mod tests;

@@ -1,0 +1,14 @@
+use Rattle.std.proofs.Common.{length}
+use Rattle.std.specs.List.{flat_map}
+use Rattle.gfx_base.specs.Stream.{change}
+use Rattle.gfx_base.proofs.Streams.{Sent}
+use Rattle.gfx_report.specs.Texts.{pixel_digits}
+use Rattle.gfx_report.proofs.row.write_pixels.Given as goal
+
+abbrev pub invariant-pieces : goal.invariant-pieces
+invariant-pieces g l =
+    Sent (change (g.O.Sink.faults l.fn.out) (g.O.Sink.faults l.out) (g.O.Sink.held l.fn.out) (g.O.Sink.held l.out))
+    (flat_map pixel_digits l.pixels) (flat_map pixel_digits l.rest)
+
+abbrev pub decreases-pieces : goal.decreases-pieces
+decreases-pieces g l = length l.rest

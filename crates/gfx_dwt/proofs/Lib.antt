@@ -1,0 +1,12 @@
+pub mod Bounds
+pub mod Edges
+pub mod Levels
+pub mod Pairs
+pub mod Planes
+pub mod Same
+pub mod SplitBounds
+pub mod SplitLevels
+pub mod SplitLines
+pub mod SplitSame
+pub mod Strips
+pub mod WholeLines

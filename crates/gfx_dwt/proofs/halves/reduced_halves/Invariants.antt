@@ -1,0 +1,14 @@
+use Rattle.std.proofs.Common.{◌≡◌, ℕ, ◌-◌, ◌*◌, ◌<◌, ◌^◌}
+use Rattle.gfx_dwt.specs.declared.layout.Transform.TheVariants.{Reduced}
+use Rattle.gfx_dwt.specs.Lifting.{low_of}
+use Rattle.gfx_dwt.specs.Ranges.{Within, at}
+use Rattle.gfx_dwt.specs.Splitting.{differed}
+use Rattle.gfx_dwt.proofs.halves.reduced_halves.Given as goal
+
+abbrev pub invariant-loop-k : goal.invariant-loop-k
+invariant-loop-k l = record {
+  last : l.before ≡ differed Reduced (at l.line) (l.k - 1);
+  small : Within (2 ^ 28) l.before;
+  lows : (j : ℕ) → j < l.k → at l.low j ≡ low_of Reduced (at l.line (2 * j)) (differed Reduced (at l.line) (j - 1)) (differed Reduced (at l.line) j);
+  highs : (j : ℕ) → j < l.k → at l.high j ≡ differed Reduced (at l.line) j;
+}

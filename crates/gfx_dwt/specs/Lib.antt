@@ -1,0 +1,7 @@
+pub mod Place
+pub mod Ranges
+pub mod Lifting
+pub mod Joining
+pub mod Splitting
+pub mod Samples
+pub mod Coefficients

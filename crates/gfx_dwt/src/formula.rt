@@ -1,0 +1,191 @@
+ghost use Rattle.std.specs.Prelude.{◌≡◌, ◌^◌, pos, ◌+ℤ◌, ◌-ℤ◌, ◌*ℤ◌};
+ghost use Rattle.gfx_dwt.specs.declared.layout.Transform.TheVariants.{Plain, Reduced};
+ghost use Rattle.gfx_dwt.specs.Lifting.{even_of, halved, high_of, low_of, mean, odd_of};
+ghost use Rattle.gfx_dwt.specs.Ranges.{Within};
+ghost use Rattle.gfx_dwt.specs.Splitting.{beyond as beyond_of};
+
+#[inline]
+#[tactic(auto, using(crate::proofs::Bounds::halved_within), unfolding(crate::specs::Lifting::halved))]
+fn floor_half(z: i32) -> i32
+    requires { Within (2 ^ 30) z }
+    ensures value { result ≡ halved Plain z }
+    ensures small { Within (2 ^ 29) result }
+{
+    z >> 1
+}
+
+#[inline]
+#[tactic(auto, using(crate::proofs::Bounds::halved_within), unfolding(crate::specs::Lifting::halved))]
+fn zero_half(z: i32) -> i32
+    requires { Within (2 ^ 30) z }
+    ensures value { result ≡ halved Reduced z }
+    ensures small { Within (2 ^ 29) result }
+{
+    z / 2
+}
+
+#[inline]
+fn sum(left: i32, right: i32) -> i32
+    requires left { Within (2 ^ 29) left }
+    requires right { Within (2 ^ 29) right }
+    ensures value { result ≡ left +ℤ right }
+    ensures small { Within (2 ^ 30) result }
+{
+    left + right
+}
+
+#[inline]
+fn double(high: i32) -> i32
+    requires { Within (2 ^ 28) high }
+    ensures value { result ≡ pos 2 *ℤ high }
+    ensures small { Within (2 ^ 29) result }
+{
+    2 * high
+}
+
+#[inline]
+#[tactic(auto, using(crate::proofs::Bounds::mean_within))]
+fn plain_mean(before: i32, here: i32) -> i32
+    requires before { Within (2 ^ 28) before }
+    requires here { Within (2 ^ 28) here }
+    ensures value { result ≡ mean Plain before here }
+    ensures small { Within (2 ^ 28) result }
+{
+    floor_half(sum(before, here) + 1)
+}
+
+#[inline]
+#[tactic(auto, using(crate::proofs::Bounds::mean_within))]
+fn reduced_mean(before: i32, here: i32) -> i32
+    requires before { Within (2 ^ 28) before }
+    requires here { Within (2 ^ 28) here }
+    ensures value { result ≡ mean Reduced before here }
+    ensures small { Within (2 ^ 28) result }
+{
+    zero_half(sum(before, here))
+}
+
+#[inline]
+pub fn plain_even(low: i32, before: i32, here: i32) -> i32
+    requires low { Within (2 ^ 28) low }
+    requires before { Within (2 ^ 28) before }
+    requires here { Within (2 ^ 28) here }
+    ensures value { result ≡ even_of Plain low before here }
+    ensures small { Within (2 ^ 29) result }
+{
+    low - plain_mean(before, here)
+}
+
+#[inline]
+pub fn reduced_even(low: i32, before: i32, here: i32) -> i32
+    requires low { Within (2 ^ 28) low }
+    requires before { Within (2 ^ 28) before }
+    requires here { Within (2 ^ 28) here }
+    ensures value { result ≡ even_of Reduced low before here }
+    ensures small { Within (2 ^ 29) result }
+{
+    low - reduced_mean(before, here)
+}
+
+#[inline]
+pub fn plain_odd(high: i32, left: i32, right: i32) -> i32
+    requires high { Within (2 ^ 28) high }
+    requires left { Within (2 ^ 29) left }
+    requires right { Within (2 ^ 29) right }
+    ensures { result ≡ odd_of Plain high left right }
+{
+    sum(double(high), floor_half(sum(left, right)))
+}
+
+#[inline]
+pub fn reduced_odd(high: i32, left: i32, right: i32) -> i32
+    requires high { Within (2 ^ 28) high }
+    requires left { Within (2 ^ 29) left }
+    requires right { Within (2 ^ 29) right }
+    ensures { result ≡ odd_of Reduced high left right }
+{
+    sum(double(high), zero_half(sum(left, right)))
+}
+
+#[inline]
+fn difference(left: i32, right: i32) -> i32
+    requires left { Within (2 ^ 29) left }
+    requires right { Within (2 ^ 29) right }
+    ensures value { result ≡ left -ℤ right }
+    ensures small { Within (2 ^ 30) result }
+{
+    left - right
+}
+
+#[inline]
+fn plain_between(left: i32, right: i32) -> i32
+    requires left { Within (2 ^ 28) left }
+    requires right { Within (2 ^ 28) right }
+    ensures value { result ≡ halved Plain (left +ℤ right) }
+    ensures small { Within (2 ^ 28) result }
+{
+    floor_half(sum(left, right))
+}
+
+#[inline]
+pub fn plain_high(odd: i32, left: i32, right: i32) -> i32
+    requires odd { Within (2 ^ 28) odd }
+    requires left { Within (2 ^ 28) left }
+    requires right { Within (2 ^ 28) right }
+    ensures value { result ≡ high_of Plain odd left right }
+    ensures small { Within (2 ^ 28) result }
+{
+    floor_half(difference(odd, plain_between(left, right)))
+}
+
+#[inline]
+pub fn plain_low(even: i32, before: i32, here: i32) -> i32
+    requires even { Within (2 ^ 30) even }
+    requires before { Within (2 ^ 28) before }
+    requires here { Within (2 ^ 28) here }
+    ensures { result ≡ low_of Plain even before here }
+{
+    even + plain_mean(before, here)
+}
+
+#[inline]
+fn reduced_between(left: i32, right: i32) -> i32
+    requires left { Within (2 ^ 28) left }
+    requires right { Within (2 ^ 28) right }
+    ensures value { result ≡ halved Reduced (left +ℤ right) }
+    ensures small { Within (2 ^ 28) result }
+{
+    zero_half(sum(left, right))
+}
+
+#[inline]
+pub fn reduced_high(odd: i32, left: i32, right: i32) -> i32
+    requires odd { Within (2 ^ 28) odd }
+    requires left { Within (2 ^ 28) left }
+    requires right { Within (2 ^ 28) right }
+    ensures value { result ≡ high_of Reduced odd left right }
+    ensures small { Within (2 ^ 28) result }
+{
+    zero_half(difference(odd, reduced_between(left, right)))
+}
+
+#[inline]
+pub fn reduced_low(even: i32, before: i32, here: i32) -> i32
+    requires even { Within (2 ^ 30) even }
+    requires before { Within (2 ^ 28) before }
+    requires here { Within (2 ^ 28) here }
+    ensures { result ≡ low_of Reduced even before here }
+{
+    even + reduced_mean(before, here)
+}
+
+/// The sample behind two neighbours, in a straight line with them.
+#[inline]
+pub fn beyond(before: i32, last: i32) -> i32
+    requires before { Within (2 ^ 28) before }
+    requires last { Within (2 ^ 28) last }
+    ensures value { result ≡ beyond_of before last }
+    ensures small { Within (2 ^ 30) result }
+{
+    difference(double(last), before)
+}

@@ -1,0 +1,122 @@
+ghost use Rattle.std.specs.Prelude.{◌≡◌, ℕ, ◌+◌, ◌-◌, ◌*◌, ◌<◌, ◌≤◌, ◌^◌, length};
+ghost use Rattle.gfx_dwt.specs.declared.layout.Level.TheVariants.{First};
+ghost use Rattle.gfx_dwt.specs.declared.layout.Level.{Level};
+ghost use Rattle.gfx_dwt.specs.declared.layout.Transform.TheVariants.{Plain, Reduced};
+ghost use Rattle.gfx_dwt.specs.Lifting.{low_of};
+ghost use Rattle.gfx_dwt.specs.Place.{high_size, line_size, low_size};
+ghost use Rattle.gfx_dwt.specs.Ranges.{AllWithin, Within, at};
+ghost use Rattle.gfx_dwt.specs.Splitting.{differed, high_half, low_half};
+
+use crate::formula::{beyond, plain_high, plain_low, reduced_high, reduced_low};
+use crate::layout::{Level, Transform};
+
+/// The first places of both halves, as far as their even samples have one behind them; gives the last of the high half.
+fn plain_halves(line: &[i32], low: &mut [i32], high: &mut [i32], count: usize) -> i32
+    requires some { 0 < count }
+    requires line_len { 2 * count < length line.now }
+    requires low_len { count ≤ length low.old }
+    requires high_len { count ≤ length high.old }
+    requires line { AllWithin (2 ^ 28) line.now }
+    ensures lows { (k : ℕ) → k < count → at low.new k ≡ low_of Plain (at line.now (2 * k)) (differed Plain (at line.now) (k - 1)) (differed Plain (at line.now) k) }
+    ensures highs { (k : ℕ) → k < count → at high.new k ≡ differed Plain (at line.now) k }
+    ensures last { result ≡ differed Plain (at line.now) (count - 1) }
+    ensures small { Within (2 ^ 28) result }
+{
+    let mut before = plain_high(line[1], line[0], line[2]);
+    for k in 0..count {
+        let here = plain_high(line[2 * k + 1], line[2 * k], line[2 * k + 2]);
+        high[k] = here;
+        low[k] = plain_low(line[2 * k], before, here);
+        before = here;
+    }
+    before
+}
+
+/// The first places of both halves, as far as their even samples have one behind them; gives the last of the high half.
+fn reduced_halves(line: &[i32], low: &mut [i32], high: &mut [i32], count: usize) -> i32
+    requires some { 0 < count }
+    requires line_len { 2 * count < length line.now }
+    requires low_len { count ≤ length low.old }
+    requires high_len { count ≤ length high.old }
+    requires line { AllWithin (2 ^ 28) line.now }
+    ensures lows { (k : ℕ) → k < count → at low.new k ≡ low_of Reduced (at line.now (2 * k)) (differed Reduced (at line.now) (k - 1)) (differed Reduced (at line.now) k) }
+    ensures highs { (k : ℕ) → k < count → at high.new k ≡ differed Reduced (at line.now) k }
+    ensures last { result ≡ differed Reduced (at line.now) (count - 1) }
+    ensures small { Within (2 ^ 28) result }
+{
+    let mut before = reduced_high(line[1], line[0], line[2]);
+    for k in 0..count {
+        let here = reduced_high(line[2 * k + 1], line[2 * k], line[2 * k + 2]);
+        high[k] = here;
+        low[k] = reduced_low(line[2 * k], before, here);
+        before = here;
+    }
+    before
+}
+
+/// Splits a line of the plain transform, whose last even sample stands behind itself.
+fn split_plain(line: &[i32], low: &mut [i32], high: &mut [i32])
+    requires some { 1 < length high.old }
+    requires low_len { length low.old ≡ length high.old }
+    requires line_len { length line.now ≡ 2 * length high.old }
+    requires line { AllWithin (2 ^ 28) line.now }
+    ensures lows { (l : Level) → length high.old ≡ high_size Plain l → (k : ℕ) → k < length high.old → at low.new k ≡ low_half Plain l (at line.now) k }
+    ensures highs { (l : Level) → length high.old ≡ high_size Plain l → (k : ℕ) → k < length high.old → at high.new k ≡ high_half Plain l (at line.now) k }
+{
+    let end = high.len() - 1;
+    let before = plain_halves(line, low, high, end);
+    let here = plain_high(line[2 * end + 1], line[2 * end], line[2 * end]);
+    high[end] = here;
+    low[end] = plain_low(line[2 * end], before, here);
+}
+
+/// Splits a line of reduce-extrapolate at its second and third level, whose last sample is an even one.
+fn split_later(line: &[i32], low: &mut [i32], high: &mut [i32])
+    requires some { 0 < length high.old }
+    requires low_len { length low.old ≡ length high.old + 1 }
+    requires line_len { length line.now ≡ 2 * length high.old + 1 }
+    requires line { AllWithin (2 ^ 28) line.now }
+    ensures lows { (l : Level) → length high.old ≡ high_size Reduced l → length low.old ≡ low_size Reduced l → (k : ℕ) → k < length low.old → at low.new k ≡ low_half Reduced l (at line.now) k }
+    ensures highs { (l : Level) → length high.old ≡ high_size Reduced l → length low.old ≡ low_size Reduced l → (k : ℕ) → k < length high.old → at high.new k ≡ high_half Reduced l (at line.now) k }
+{
+    let count = high.len();
+    let before = reduced_halves(line, low, high, count);
+    low[count] = reduced_low(line[2 * count], before, before);
+}
+
+/// Splits a line of reduce-extrapolate at its first level, which is longer by an even sample than it has.
+fn split_first(line: &[i32], low: &mut [i32], high: &mut [i32])
+    requires low_len { length low.old ≡ 33 }
+    requires high_len { length high.old ≡ 31 }
+    requires line_len { length line.now ≡ 64 }
+    requires line { AllWithin (2 ^ 28) line.now }
+    ensures lows { (k : ℕ) → k < length low.old → at low.new k ≡ low_half Reduced First (at line.now) k }
+    ensures highs { (k : ℕ) → k < length high.old → at high.new k ≡ high_half Reduced First (at line.now) k }
+{
+    let before = reduced_halves(line, low, high, 31);
+    low[31] = reduced_low(line[62], before, 0);
+    let last = beyond(line[62], line[63]);
+    low[32] = reduced_low(last, 0, 0);
+}
+
+/// Splits a line into its halves.
+pub fn split_line(
+    transform: Transform,
+    level: Level,
+    line: &[i32],
+    low: &mut [i32],
+    high: &mut [i32],
+)
+    requires low_len { length low.old ≡ low_size transform level }
+    requires high_len { length high.old ≡ high_size transform level }
+    requires line_len { length line.now ≡ line_size transform level }
+    requires line { AllWithin (2 ^ 28) line.now }
+    ensures lows { (k : ℕ) → k < low_size transform level → at low.new k ≡ low_half transform level (at line.now) k }
+    ensures highs { (k : ℕ) → k < high_size transform level → at high.new k ≡ high_half transform level (at line.now) k }
+{
+    match (transform, level) {
+        (Transform::Plain, _) => split_plain(line, low, high),
+        (Transform::Reduced, Level::First) => split_first(line, low, high),
+        (Transform::Reduced, _) => split_later(line, low, high),
+    }
+}

@@ -1,0 +1,21 @@
+//! The wavelet transforms of RemoteFX, both ways.
+//! A leaf of the pipe: the tile crates stand on it, and it on nothing.
+#![tactic(auto)]
+
+mod analysis;
+mod formula;
+mod grid;
+mod halves;
+mod joining;
+mod kernels;
+mod layout;
+mod lines;
+mod splitting;
+mod synthesis;
+
+pub use analysis::{forward, forward_with};
+pub use layout::{Band, Level, Transform};
+pub use synthesis::{inverse, inverse_with};
+
+#[cfg(test)]
+mod tests;

@@ -1,0 +1,9 @@
+pub mod Bounds
+pub mod Floors
+pub mod Steps
+pub mod InBands
+pub mod InRange
+pub mod Quotients
+pub mod Everywhere
+pub mod Smaller
+pub mod Nibbles

@@ -1,0 +1,4 @@
+pub mod Quant
+pub mod Coefficient
+pub mod Colour
+pub mod Planes

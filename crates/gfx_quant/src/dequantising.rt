@@ -1,0 +1,147 @@
+ghost use Rattle.std.specs.Prelude.{◌≡◌, ℕ, ◌≤◌, ◌<◌, ◌-◌, ◌+◌, ◌/◌, ◌^◌, pos, neg_ℤ, ◌*ℤ◌, ◌≤ℤ◌, ◌<ℤ◌, ◌⊎◌, length, IsTrue, MatchBool};
+ghost use Rattle.gfx_dwt.specs.Place.{number};
+ghost use Rattle.gfx_dwt.specs.Ranges.{AllCoefficients, IsCoefficient};
+ghost use Rattle.gfx_quant.specs.Coefficient.{coefficient_of};
+ghost use Rattle.gfx_quant.specs.Planes.{AllHave, ArePositions, BandLeavesRange, Dequantises, DequantisesBand, LeavesRange, MapsBands, MapsBetween, PlaneHas, SomeLacks};
+ghost use Rattle.gfx_quant.specs.Quant.{value_of};
+
+use crate::bands::{band_size, band_start, nth_band};
+use crate::coefficients::weight;
+use gfx_dwt::Transform;
+
+/// The least value that has a coefficient at this bit position.
+#[inline]
+fn least(position: u8) -> i32
+    requires low { 1 ≤ position }
+    requires high { position ≤ 30 }
+    ensures { result ≡ neg_ℤ (pos (32768 / 2 ^ (position - 1))) }
+{
+    -((32_768u32 >> (position - 1)) as i32)
+}
+
+/// The greatest value that has a coefficient at this bit position.
+#[inline]
+fn most(position: u8) -> i32
+    requires low { 1 ≤ position }
+    requires high { position ≤ 30 }
+    ensures { result ≡ pos (32767 / 2 ^ (position - 1)) }
+{
+    (32_767u32 >> (position - 1)) as i32
+}
+
+#[inline]
+fn is_between(v: i32, least: i32, most: i32) -> bool
+    ensures { MatchBool result ((least ≤ℤ v) × (v ≤ℤ most)) ((v <ℤ least) ⊎ (most <ℤ v)) }
+{
+    least <= v && v <= most
+}
+
+/// Whether all values from one place to before another have a coefficient.
+// No early return: so it is done on many values at a time.
+#[inline]
+fn all_have(values: &[i32], from: usize, to: usize, position: u8) -> bool
+    requires order { from ≤ to }
+    requires end { to ≤ length values.now }
+    requires low { 1 ≤ position }
+    requires high { position ≤ 30 }
+    ensures { MatchBool result (AllHave position values.now from to) (SomeLacks position values.now from to) }
+{
+    let least = least(position);
+    let most = most(position);
+    let mut fits = true;
+    for place in from..to {
+        fits &= is_between(values[place], least, most);
+    }
+    fits
+}
+
+#[inline]
+fn scaled(v: i32, weight: i32) -> i32
+    requires { IsCoefficient (v *ℤ weight) }
+    ensures { result ≡ v *ℤ weight }
+{
+    v * weight
+}
+
+/// Puts the coefficients in place of the values from one place to before another.
+#[inline]
+fn scale(values: &mut [i32], from: usize, to: usize, position: u8)
+    requires order { from ≤ to }
+    requires end { to ≤ length values.old }
+    requires low { 1 ≤ position }
+    requires high { position ≤ 30 }
+    requires fits { AllHave position values.old from to }
+    ensures { MapsBetween (λ v. coefficient_of v position) from to values.old values.old values.new }
+{
+    let weight = weight(position);
+    for place in from..to {
+        values[place] = scaled(values[place], weight);
+    }
+}
+
+/// Puts the coefficients in place of the values of a band, each as `dequantise` gives it. Where one has
+/// none the answer is false, and all values stay.
+pub fn dequantise_band(values: &mut [i32], position: u8) -> bool
+    requires low { 1 ≤ position }
+    requires high { position ≤ 30 }
+    ensures { MatchBool result (DequantisesBand position values.old values.new) (BandLeavesRange position values.old × (values.new ≡ values.old)) }
+{
+    let size = values.len();
+    let fits = all_have(values, 0, size, position);
+    if fits {
+        scale(values, 0, size, position);
+    }
+    fits
+}
+
+/// Whether all values of a plane have a coefficient.
+fn plane_has(plane: &[i32; 4096], transform: Transform, positions: &[u8; 10]) -> bool
+    requires { ArePositions positions.now }
+    ensures { MatchBool result (PlaneHas 10 transform positions.now plane.now) (LeavesRange transform positions.now plane.now) }
+{
+    let mut fits = true;
+    for index in 0..10 {
+        let band = nth_band(index);
+        let start = band_start(transform, band);
+        fits &= all_have(
+            plane,
+            start,
+            start + band_size(transform, band),
+            positions[index],
+        );
+    }
+    fits
+}
+
+/// Puts the coefficients in place of the values of a plane.
+fn scale_plane(plane: &mut [i32; 4096], transform: Transform, positions: &[u8; 10])
+    requires positions { ArePositions positions.now }
+    requires fits { PlaneHas 10 transform positions.now plane.old }
+    ensures { MapsBands transform (λ band v. coefficient_of v (value_of positions.now band)) plane.old plane.new }
+{
+    for index in 0..10 {
+        let band = nth_band(index);
+        let start = band_start(transform, band);
+        scale(
+            plane,
+            start,
+            start + band_size(transform, band),
+            positions[index],
+        );
+    }
+}
+
+/// Puts the coefficients in place of the values of a component, each as `dequantise` gives it at the
+/// bit position of its band; these have the order of `Band`. Where one has none the answer is false,
+/// and all values stay.
+pub fn dequantise_plane(plane: &mut [i32; 4096], transform: Transform, positions: &[u8; 10]) -> bool
+    requires { ArePositions positions.now }
+    ensures coefficients { IsTrue result → AllCoefficients plane.new }
+    ensures exact { MatchBool result (Dequantises transform positions.now plane.old plane.new) (LeavesRange transform positions.now plane.old × (plane.new ≡ plane.old)) }
+{
+    let fits = plane_has(plane, transform, positions);
+    if fits {
+        scale_plane(plane, transform, positions);
+    }
+    fits
+}

@@ -1,0 +1,27 @@
+//! Bands, quantising and colour of RemoteFX: what stands between the coded values of a tile and its
+//! wavelet transform, and between the samples of a transform and pixels.
+//!
+//! It stands on the wavelet transforms. The tile crates, the block grammar and the scripts stand on it.
+#![tactic(auto)]
+
+mod bands;
+mod coefficients;
+mod colour;
+mod colours;
+mod dequantising;
+mod quant;
+mod quantising;
+mod setting;
+
+pub use bands::{band_of, band_size, band_start, nth_band};
+pub use coefficients::{dequantise, quantise, truncate};
+pub use colour::{from_colour, to_colour};
+pub use colours::{from_colours, to_colours};
+pub use dequantising::{dequantise_band, dequantise_plane};
+pub use gfx_dwt::Band;
+pub use quant::{Component, LEAST_BASE, Quant, check_base, quant_from, quant_to};
+pub use quantising::{cut_plane, quantise_plane, truncate_plane};
+pub use setting::{Level, Levels, MOST_LEVELS, Setting};
+
+#[cfg(test)]
+mod tests;

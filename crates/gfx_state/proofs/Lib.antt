@@ -1,0 +1,5 @@
+pub mod Runs
+pub mod Payloads
+pub mod Moves
+pub mod NextMoves
+pub mod Weights

@@ -1,0 +1,6 @@
+pub mod State
+pub mod Step
+pub mod Payload
+pub mod Run
+pub mod Cursor
+pub mod Codes

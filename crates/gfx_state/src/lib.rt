@@ -1,0 +1,10 @@
+//! The state of the graphics channel, and what each message does to it: definitions and laws alone.
+//!
+//! The client, the server's planner and the program above speak of this one state and this one step,
+//! so there is nothing to prove equal between them. The functions here have no parameters and no
+//! work to do: each states a law of the definitions, and its contract is the law.
+#![tactic(auto)]
+
+mod laws;
+
+pub use laws::{pieces_are_the_whole, refusals_stay, steps_keep_the_run};

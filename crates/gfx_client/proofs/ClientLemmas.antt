@@ -1,0 +1,181 @@
+-- What reading, applying and opening come to for a client.
+use Rattle.std.proofs.Common.{◌≡◌, ℕ, ◌+◌, ◌<◌, ◌≤◌, suc, min, List, [], ◌∷◌, length, drop, Bool, true, false, ◌||◌, ◌==◌, Option, Some, None, is_some, if◌then◌else◌, Result, Ok, Err, refl, sym, ap, ◌∙◌, subst}
+use Rattle.std.proofs.lemmas.List.{drop-drop}
+use Rattle.gfx_base.specs.Memory.{next_count}
+use Rattle.gfx_base.specs.Outcome.{Gives, Applies}
+use Rattle.gfx_base.specs.declared.refusal.Refusal.{Refusal}
+use Rattle.gfx_base.specs.declared.answer.Fault.{Fault}
+use Rattle.gfx_base.specs.declared.answer.Fault.TheVariants as fault
+use Rattle.gfx_pdu.specs.declared.pdu.Pdu.{Pdu}
+use Rattle.gfx_pdu.specs.declared.pdu.Pdu.TheVariants as pdus
+use Rattle.gfx_pdu.specs.Reading.{message_at, next_pdu}
+use Rattle.gfx_segment.specs.Framing.{Held, holding, refused, next, after_next, payload, ended, Answers}
+use Rattle.gfx_state.specs.State.{State}
+use Rattle.gfx_state.specs.Step.{step}
+use Rattle.gfx_state.specs.Cursor.{Cursor, Opens, Needs, Refuses, what_next, Reaches, Here}
+use Rattle.gfx_state.specs.Cursor as cursor
+use Rattle.gfx_state.proofs.NextMoves.{what_next_takes, what_next_refuses, what_next_unread, what_next_opens, what_next_needs, what_next_ends, next_pdu_found, next_pdu_none, next_pdu_refused}
+use Rattle.gfx_base.specs.Results.{check}
+use Rattle.gfx_base.specs.declared.refusal.Refusal.TheVariants.{ChannelTruncated}
+use Rattle.gfx_client.specs.declared.fault.ClientFault.{ClientFault}
+use Rattle.gfx_client.specs.declared.fault.ClientFault.TheVariants as faults
+use Rattle.gfx_state.proofs.Moves.{next_short, needs_nothing, after_next_none, after_next_fewer, Reaches-opens, Reaches-takes, Reaches-none}
+use Rattle.gfx_client.specs.declared.client.Client.{Client}
+use Rattle.gfx_client.specs.declared.screen.Stepped.{Stepped}
+use Rattle.gfx_client.specs.declared.screen.Stepped.TheVariants as stepped
+use Rattle.gfx_client.specs.Stepped.{stepped_by}
+use Rattle.gfx_client.specs.Client.{cursor_of, closed_by, TakesMessage, TakesOne, OpensMessage, OpensOne, Stays, IsAtPayloadEnd, Moves, MovesBy, Ends, Waits, Advances, Steps, end_of}
+
+-- taking a message ---------------------------------------------------------------------------------
+
+-- it can't be read
+pub unread : (client : Client) (f : Fault) → Gives (λ found. found) (Err f) (next_pdu client.payload client.at) → TakesMessage (Err f) client client
+unread client fault.Memory due = refl
+unread client (fault.Refused r) due = (what_next_unread (cursor_of client) r (next_pdu_refused client.payload client.at r due), refl)
+
+-- it isn't applied
+pub not_applied : (client : Client) (pdu : Pdu) (after : ℕ) (f : Fault) (screen : State) → next_pdu client.payload client.at ≡ Ok (Some (pdu, after)) → Applies (Err f) client.screen screen (step client.screen pdu) → TakesMessage (Err f) client (record client { screen = screen })
+not_applied client pdu after fault.Memory screen read same = ap (λ z. record client { screen = z }) same
+not_applied client pdu after (fault.Refused r) screen read due =
+    let found = next_pdu_found client.payload client.at pdu after read in
+    (what_next_refuses (cursor_of client) pdu found.size r found.read due.0, ap (λ z. record client { screen = z }) due.1)
+
+-- it is applied
+pub taken : (client : Client) (pdu : Pdu) (after applied : ℕ) (screen : State) (stepped : Stepped) → next_pdu client.payload client.at ≡ Ok (Some (pdu, after)) → step client.screen pdu ≡ Ok screen → applied ≡ next_count client.applied → stepped ≡ stepped_by pdu → TakesOne client (record client { at = after; screen = screen; applied = applied }) stepped
+taken client pdu after applied screen stepped read stepping counted says =
+    let found = next_pdu_found client.payload client.at pdu after read in
+    let left : drop found.size (drop client.at client.payload) ≡ drop after client.payload = drop-drop found.size client.at client.payload ∙ ap (λ z. drop z client.payload) (sym found.behind) in
+    record {
+      pdu = pdu;
+      says = says;
+      takes = what_next_takes (cursor_of client) pdu found.size screen found.read stepping
+          ∙ ap (λ z. cursor.Takes pdu (record { held = client.splitter; left = z; state = screen; applied = next_count client.applied })) left
+          ∙ ap (λ z. cursor.Takes pdu (record { held = client.splitter; left = drop after client.payload; state = screen; applied = z })) (sym counted);
+      closed = refl;
+    }
+
+-- opening a channel message ------------------------------------------------------------------------
+
+pub not_opened : (client : Client) (f : Fault) (held : Held) → IsAtPayloadEnd client → Answers (Err f) client.splitter held (next payload client.splitter) (after_next payload client.splitter) → OpensMessage (Err f) client (record client { splitter = held })
+not_opened client fault.Memory held end same = ap (λ z. record client { splitter = z }) same
+not_opened client (fault.Refused r) held end due =
+    (what_next_ends (cursor_of client) r end due.0, record { state = refl; applied = refl; closed = refl })
+
+-- no whole channel message is there: the splitter is as it was
+pub needs : (client : Client) (held : Held) → IsAtPayloadEnd client → Answers (Ok None) client.splitter held (next payload client.splitter) (after_next payload client.splitter) → (what_next (cursor_of client) ≡ Needs) × (record client { splitter = held } ≡ client)
+needs client held end due =
+    let gave : next payload client.splitter ≡ Ok None = due.0 in
+    (what_next_needs (cursor_of client) end gave, ap (λ z. record client { splitter = z }) (due.1 ∙ after_next_none client.splitter gave))
+
+-- a channel message is opened
+pub opened : (client : Client) (p : List ℕ) (held : Held) → IsAtPayloadEnd client → Answers (Ok (Some p)) client.splitter held (next payload client.splitter) (after_next payload client.splitter) → OpensOne client (record client { splitter = held; payload = p; at = 0 })
+opened client p held end due =
+    let gave : next payload client.splitter ≡ Ok (Some p) = due.0 in
+    record {
+      opens = what_next_opens (cursor_of client) p end gave
+          ∙ ap (λ z. Opens (record { held = z; left = p; state = client.screen; applied = client.applied })) (sym due.1);
+      fewer = rw due.1 (after_next_fewer client.splitter p gave);
+      closed = refl;
+    }
+
+-- one message or more ------------------------------------------------------------------------------
+
+-- no message says that more bytes are needed
+never_need : (pdu : Pdu) → stepped_by pdu ≡ stepped.Need → ⊥
+never_need (pdus.EndFrame frame) e = absurd cc
+never_need other e = absurd cc
+
+pub not_moved : (client : Client) → Moves client client []
+not_moved client = record { reaches = Here (cursor_of client); closed = refl }
+
+-- a channel message was opened on the way
+pub moved_on : (old mid new : Client) → Moves old mid [] → OpensOne mid new → Moves old new []
+moved_on old mid new m o = record {
+  reaches = Reaches-opens (cursor_of old) (cursor_of mid) (cursor_of new) [] m.reaches o.opens;
+  closed = o.closed ∙ m.closed;
+}
+
+-- a message was applied
+pub moved_by : (old mid new : Client) (said : Stepped) → Moves old mid [] → TakesOne mid new said → Advances (Ok said) old new
+moved_by old mid new stepped.Need m t = absurd (never_need t.pdu (sym t.says))
+moved_by old mid new stepped.Applied m t = record {
+  pdu = t.pdu;
+  says = t.says;
+  moves = record { reaches = Reaches-takes (cursor_of old) (cursor_of mid) (cursor_of new) [] t.pdu m.reaches t.takes; closed = t.closed ∙ m.closed };
+}
+moved_by old mid new (stepped.Ended frame) m t = record {
+  pdu = t.pdu;
+  says = t.says;
+  moves = record { reaches = Reaches-takes (cursor_of old) (cursor_of mid) (cursor_of new) [] t.pdu m.reaches t.takes; closed = t.closed ∙ m.closed };
+}
+
+-- more bytes are needed
+pub waits : (old mid new : Client) → Moves old mid [] → OpensMessage (Ok false) mid new → Waits old new
+waits old mid new m (needed, same) = record {
+  moves = subst (λ z. Moves old z []) (sym same) m;
+  needs = ap (λ z. what_next (cursor_of z)) same ∙ needed;
+}
+
+-- a fault at the next message
+pub stopped_taking : (old mid new : Client) (f : Fault) → Moves old mid [] → TakesMessage (Err f) mid new → Advances (Err f) old new
+stopped_taking old mid new fault.Memory m same = subst (λ z. Moves old z []) (sym same) m
+stopped_taking old mid new (fault.Refused r) m (refuses, same) =
+    let unchanged = Reaches-none (cursor_of old) (cursor_of mid) [] m.reaches refl in (
+      record {
+        at = cursor_of mid;
+        reaches = m.reaches;
+        refuses = refuses;
+        state = ap (λ z. (cursor_of z).state) same ∙ unchanged.0;
+        applied = ap (λ z. (cursor_of z).applied) same ∙ unchanged.1;
+      },
+      ap closed_by same ∙ m.closed,
+    )
+
+-- a fault at the next channel message
+pub stopped_opening : (old mid new : Client) (f : Fault) → Moves old mid [] → OpensMessage (Err f) mid new → Advances (Err f) old new
+stopped_opening old mid new fault.Memory m same = subst (λ z. Moves old z []) (sym same) m
+stopped_opening old mid new (fault.Refused r) m (refuses, stays) =
+    let unchanged = Reaches-none (cursor_of old) (cursor_of mid) [] m.reaches refl in (
+      record {
+        at = cursor_of mid;
+        reaches = m.reaches;
+        refuses = refuses;
+        state = stays.state ∙ unchanged.0;
+        applied = stays.applied ∙ unchanged.1;
+      },
+      stays.closed ∙ m.closed,
+    )
+
+-- the end of the stream ----------------------------------------------------------------------------
+
+-- where no more messages come, only bytes of an unfinished one can be left
+ended_waiting : (held : Held) → next payload held ≡ Ok None → ended held ≡ check ChannelTruncated (length held.rest == 0)
+unfolding ended
+ended_waiting held gave =
+    ap (λ z. check ChannelTruncated (is_some z || (length held.rest == 0))) (next_short held.refusal held.rest gave).0
+
+-- what the splitter answers at the end is what the client does
+pub end_ok : (client : Client) → closed_by client ≡ None → what_next (cursor_of client) ≡ Needs → ended client.splitter ≡ Ok tt → Ok tt ≡ end_of (closed_by client) (cursor_of client)
+end_ok client none needed due =
+    let whole = sym (ended_waiting client.splitter (needs_nothing (cursor_of client) needed)) ∙ due in
+    rw none (elim (length client.splitter.rest == 0) as (λ b. check ChannelTruncated b ≡ Ok (tt {0}) → ◌≡◌ {A = Result (Unit {0}) ClientFault} (Ok (tt {0})) (if b then Ok (tt {0}) else Err (faults.Refused (next_count client.applied) ChannelTruncated))) [
+      | true ↦ λ e. refl
+      | false ↦ λ e. absurd cc
+    ] whole)
+
+pub end_refused : (client : Client) (r : Refusal) (number : ℕ) → closed_by client ≡ None → what_next (cursor_of client) ≡ Needs → ended client.splitter ≡ Err r → number ≡ next_count client.applied → Err (faults.Refused number r) ≡ end_of (closed_by client) (cursor_of client)
+end_refused client r number none needed due counted =
+    let cut = sym (ended_waiting client.splitter (needs_nothing (cursor_of client) needed)) ∙ due in
+    rw (none, counted) (elim (length client.splitter.rest == 0) as (λ b. check ChannelTruncated b ≡ Err r → ◌≡◌ {A = Result (Unit {0}) ClientFault} (Err (faults.Refused (next_count client.applied) r)) (if b then Ok (tt {0}) else Err (faults.Refused (next_count client.applied) ChannelTruncated))) [
+      | true ↦ λ e. absurd cc
+      | false ↦ λ e. let same : r ≡ ChannelTruncated = cc in ap (λ z. Err (faults.Refused (next_count client.applied) z)) same
+    ] cut)
+
+-- a refusal closes the client
+pub closing : (old mid : Client) (r : Refusal) (number : ℕ) → closed_by old ≡ None → Ends old mid r → number ≡ next_count mid.applied → Steps (closed_by old) (Err (faults.Refused number r)) old (record mid { closed = Some (faults.ClosedRefused number r) })
+closing old mid r number none e counted =
+    rw none (
+      record { at = e.at; reaches = e.reaches; refuses = e.refuses; state = e.state; applied = e.applied },
+      counted ∙ ap next_count e.applied,
+      refl,
+    )

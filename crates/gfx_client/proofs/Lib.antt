@@ -1,0 +1,2 @@
+pub mod ScreenLemmas
+pub mod ClientLemmas

@@ -1,0 +1,143 @@
+-- A client as the steps of a cursor, and what each of its calls answers.
+use Rattle.std.specs.Prelude.{◌≡◌, ℕ, ◌<◌, List, [], ◌∷◌, length, drop, Bool, true, false, ◌==◌, if◌then◌else◌, Option, Some, None, Result, Ok, Err}
+use Rattle.gfx_base.specs.Memory.{next_count}
+use Rattle.gfx_base.specs.declared.refusal.Refusal.{Refusal}
+use Rattle.gfx_base.specs.declared.refusal.Refusal.TheVariants.{ChannelTruncated}
+use Rattle.gfx_base.specs.declared.answer.Fault.{Fault}
+use Rattle.gfx_base.specs.declared.answer.Fault.TheVariants as fault
+use Rattle.gfx_pdu.specs.declared.pdu.Pdu.{Pdu}
+use Rattle.gfx_pdu.specs.Reading.{message_at}
+use Rattle.gfx_state.specs.Cursor.{Cursor, given, Opens, Needs, Refuses, what_next, Reaches}
+use Rattle.gfx_state.specs.Cursor as cursor
+use Rattle.gfx_client.specs.declared.client.Client.{Client}
+use Rattle.gfx_client.specs.declared.fault.ClientFault.{ClientFault}
+use Rattle.gfx_client.specs.declared.fault.ClientFault.TheVariants.{Refused, Memory, ClosedRefused, ClosedMemory}
+use Rattle.gfx_client.specs.declared.screen.Stepped.{Stepped}
+use Rattle.gfx_client.specs.declared.screen.Stepped.TheVariants.{Applied, Ended, Need}
+use Rattle.gfx_client.specs.Stepped.{stepped_by}
+
+-- where a client is in its stream
+abbrev pub cursor_of : Client → Cursor
+cursor_of client = record {
+  held = client.splitter;
+  left = drop client.at client.payload;
+  state = client.screen;
+  applied = client.applied;
+}
+
+-- what a closed client answers
+abbrev pub closed_by : Client → Option ClientFault
+closed_by client = client.closed
+
+-- a message was refused or memory ran out: it has closed the client
+abbrev pub closed_form : ClientFault → ClientFault
+closed_form (Refused number r) = ClosedRefused number r
+closed_form Memory = ClosedMemory
+closed_form other = other
+
+-- the client has moved, and is not closed
+pub record Moves (old new : Client) (pdus : List Pdu) : Type 0 where
+  pub reaches : Reaches (cursor_of old) pdus (cursor_of new)
+  pub closed : closed_by new ≡ closed_by old
+
+-- the message after this client's is refused
+pub record Ends (old new : Client) (r : Refusal) : Type 0 where
+  pub at : Cursor
+  pub reaches : Reaches (cursor_of old) [] at
+  pub refuses : what_next at ≡ Refuses r
+  pub state : (cursor_of new).state ≡ (cursor_of old).state
+  pub applied : (cursor_of new).applied ≡ (cursor_of old).applied
+
+-- a message was applied, and this was said of it
+pub record MovesBy (old new : Client) (stepped : Stepped) : Type 0 where
+  pub pdu : Pdu
+  pub says : stepped ≡ stepped_by pdu
+  pub moves : Moves old new (pdu ∷ [])
+
+-- all messages are applied that the bytes taken hold whole
+pub record Waits (old new : Client) : Type 0 where
+  pub moves : Moves old new []
+  pub needs : what_next (cursor_of new) ≡ Needs
+
+-- what a step did that wasn't closed off before
+abbrev pub Advances : Result Stepped Fault → Client → Client → Type 0
+Advances (Ok Need) old new = Waits old new
+Advances (Ok Applied) old new = MovesBy old new Applied
+Advances (Ok (Ended frame)) old new = MovesBy old new (Ended frame)
+Advances (Err fault.Memory) old new = Moves old new []
+Advances (Err (fault.Refused r)) old new = Ends old new r × (closed_by new ≡ closed_by old)
+
+-- what a step of a client answers. A closed client answers its fault, and stays as it is
+abbrev pub StepsOpen : Result Stepped ClientFault → Client → Client → Type 0
+StepsOpen (Ok Need) old new = Waits old new
+StepsOpen (Ok Applied) old new = MovesBy old new Applied
+StepsOpen (Ok (Ended frame)) old new = MovesBy old new (Ended frame)
+StepsOpen (Err (Refused number r)) old new =
+    Ends old new r × (number ≡ next_count (cursor_of old).applied) × (closed_by new ≡ Some (ClosedRefused number r))
+StepsOpen (Err Memory) old new =
+    Reaches (cursor_of old) [] (cursor_of new) × (closed_by new ≡ Some ClosedMemory)
+StepsOpen (Err (ClosedRefused number r)) old new = ⊥
+StepsOpen (Err ClosedMemory) old new = ⊥
+
+abbrev pub Steps : Option ClientFault → Result Stepped ClientFault → Client → Client → Type 0
+Steps (Some fault) result old new = (result ≡ Err fault) × (new ≡ old)
+Steps None result old new = StepsOpen result old new
+
+-- what taking bytes answers
+abbrev pub TakesOpen : Result (Unit {0}) ClientFault → Client → Client → List ℕ → Type 0
+TakesOpen (Ok done) old new piece = (cursor_of new ≡ given (cursor_of old) piece) × (closed_by new ≡ None)
+TakesOpen (Err Memory) old new piece = (cursor_of new ≡ cursor_of old) × (closed_by new ≡ Some ClosedMemory)
+TakesOpen (Err (Refused number r)) old new piece = ⊥
+TakesOpen (Err (ClosedRefused number r)) old new piece = ⊥
+TakesOpen (Err ClosedMemory) old new piece = ⊥
+
+abbrev pub Takes : Option ClientFault → Result (Unit {0}) ClientFault → Client → Client → List ℕ → Type 0
+Takes (Some fault) result old new piece = (result ≡ Err fault) × (new ≡ old)
+Takes None result old new piece = TakesOpen result old new piece
+
+-- the stream has ended: an open client needs more bytes
+abbrev pub IsAtEnd : Client → Type 0
+IsAtEnd client = closed_by client ≡ None → what_next (cursor_of client) ≡ Needs
+
+-- what is said at the end: part of a channel message may not be left
+abbrev pub end_of : Option ClientFault → Cursor → Result (Unit {0}) ClientFault
+end_of (Some fault) at = Err fault
+end_of None at =
+    if length at.held.rest == 0 then Ok tt else Err (Refused (next_count at.applied) ChannelTruncated)
+
+-- one message of the present payload -------------------------------------------------------------
+
+-- the payload is at its end
+abbrev pub IsAtPayloadEnd : Client → Type 0
+IsAtPayloadEnd client = message_at (cursor_of client).left ≡ Ok None
+
+-- a message was taken, and this was said of it
+pub record TakesOne (old new : Client) (stepped : Stepped) : Type 0 where
+  pub pdu : Pdu
+  pub says : stepped ≡ stepped_by pdu
+  pub takes : what_next (cursor_of old) ≡ cursor.Takes pdu (cursor_of new)
+  pub closed : closed_by new ≡ closed_by old
+
+abbrev pub TakesMessage : Result (Option Stepped) Fault → Client → Client → Type 0
+TakesMessage (Ok (Some stepped)) old new = TakesOne old new stepped
+TakesMessage (Ok None) old new = IsAtPayloadEnd old × (new ≡ old)
+TakesMessage (Err fault.Memory) old new = new ≡ old
+TakesMessage (Err (fault.Refused r)) old new = (what_next (cursor_of old) ≡ Refuses r) × (new ≡ old)
+
+-- a channel message was opened: fewer bytes are left
+pub record OpensOne (old new : Client) : Type 0 where
+  pub opens : what_next (cursor_of old) ≡ Opens (cursor_of new)
+  pub fewer : length (cursor_of new).held.rest < length (cursor_of old).held.rest
+  pub closed : closed_by new ≡ closed_by old
+
+-- the client is as it was, but for the bytes that it has not used
+pub record Stays (old new : Client) : Type 0 where
+  pub state : (cursor_of new).state ≡ (cursor_of old).state
+  pub applied : (cursor_of new).applied ≡ (cursor_of old).applied
+  pub closed : closed_by new ≡ closed_by old
+
+abbrev pub OpensMessage : Result Bool Fault → Client → Client → Type 0
+OpensMessage (Ok true) old new = OpensOne old new
+OpensMessage (Ok false) old new = (what_next (cursor_of old) ≡ Needs) × (new ≡ old)
+OpensMessage (Err fault.Memory) old new = new ≡ old
+OpensMessage (Err (fault.Refused r)) old new = (what_next (cursor_of old) ≡ Refuses r) × Stays old new

@@ -1,0 +1,165 @@
+ghost use Rattle.std.specs.Prelude.{◌≡◌, ◌≤◌, ◌<◌, length, Ok, Err, OnOk, IfOk, IfSome, IfNone, Some, None};
+ghost use Rattle.gfx_state.specs.Cursor.{before_all};
+ghost use Rattle.gfx_client.specs.Stepped.{stepped_by};
+
+use crate::fault::ClientFault;
+use crate::offer::{MOST_OFFERS, Offers};
+use crate::screen::{Screen, Stepped};
+use gfx_base::{Bytes, Fault, NoMemory, Refusal};
+use gfx_pdu::{Pdu, read_pdu};
+use gfx_segment::Splitter;
+use gfx_surface_map::SurfaceMap;
+use std::alloc::Global;
+
+/// A client: the bytes that it was given and has not used, the payload that it is in, and what the
+/// messages before have drawn.
+#[derive(Drop)]
+pub struct Client {
+    alloc: Global,
+    offers: Offers,
+    splitter: Splitter,
+    payload: Bytes,
+    at: usize,
+    screen: Screen,
+    applied: u64,
+    closed: Option<ClientFault>,
+}
+
+impl Client {
+    ghost use Rattle.gfx_client.specs.Client.{cursor_of, closed_by, Takes, Steps, Advances, TakesMessage, OpensMessage, IsAtPayloadEnd, IsAtEnd, end_of};
+
+    /// A client at the start of a stream, which offers these versions.
+    pub fn new(alloc: Global, offers: Offers) -> Result<Client, NoMemory>
+        requires { length offers ≤ MOST_OFFERS }
+        ensures start { IfOk result (λ client. cursor_of client ≡ before_all) }
+        ensures open { IfOk result (λ client. closed_by client ≡ None) }
+    {
+        Ok(Client {
+            alloc,
+            offers,
+            splitter: Splitter::new(alloc),
+            payload: Bytes::new(alloc),
+            at: 0,
+            screen: Screen::new(alloc),
+            applied: 0,
+            closed: None,
+        })
+    }
+
+    /// Takes the next bytes of the stream, cut anywhere. It never refuses them.
+    pub fn take(&mut self, piece: &[u8]) -> Result<(), ClientFault>
+        ensures { Takes (closed_by self.old) result self.old self.new piece.now }
+    {
+        if let Some(fault) = self.closed {
+            return Err(fault);
+        }
+        if self.splitter.feed(piece).is_err() {
+            self.closed = Some(ClientFault::ClosedMemory);
+            return Err(ClientFault::Memory);
+        }
+        Ok(())
+    }
+
+    /// Applies the next message. `Need` says that the bytes taken hold no further whole message and
+    /// no refusal. The first fault closes the client.
+    pub fn step(&mut self) -> Result<Stepped, ClientFault>
+        ensures { Steps (closed_by self.old) result self.old self.new }
+    {
+        if let Some(fault) = self.closed {
+            return Err(fault);
+        }
+        match self.advance() {
+            Ok(stepped) => Ok(stepped),
+            Err(Fault::Refused(refusal)) => {
+                let number = self.applied.saturating_add(1);
+                self.closed = Some(ClientFault::ClosedRefused { number, refusal });
+                Err(ClientFault::Refused { number, refusal })
+            }
+            Err(Fault::Memory) => {
+                self.closed = Some(ClientFault::ClosedMemory);
+                Err(ClientFault::Memory)
+            }
+        }
+    }
+
+    /// The end of the stream: refused where a channel message isn't whole. It takes no memory.
+    pub fn finish(&self) -> Result<(), ClientFault>
+        requires { IsAtEnd self.now }
+        ensures { result ≡ end_of (closed_by self.now) (cursor_of self.now) }
+    {
+        if let Some(fault) = self.closed {
+            return Err(fault);
+        }
+        match self.splitter.finish() {
+            Ok(()) => Ok(()),
+            Err(refusal) => Err(ClientFault::Refused {
+                number: self.applied.saturating_add(1),
+                refusal,
+            }),
+        }
+    }
+
+    /// The surfaces as the messages so far have drawn them.
+    pub fn surfaces(&self) -> &SurfaceMap
+        ensures { result.now ≡ (cursor_of self.now).state.surfaces }
+    {
+        self.screen.surfaces()
+    }
+
+    /// How many messages were applied, up to the last value of a count.
+    pub fn applied(&self) -> u64
+        ensures { result ≡ (cursor_of self.now).applied }
+    {
+        self.applied
+    }
+
+    /// Applies the next message, and opens channel messages until there is one.
+    fn advance(&mut self) -> Result<Stepped, Fault>
+        ensures { Advances result self.old self.new }
+    {
+        'messages: loop {
+            if let Some(stepped) = self.take_message()? {
+                return Ok(stepped);
+            }
+            if !self.open_message()? {
+                return Ok(Stepped::Need);
+            }
+        }
+    }
+
+    /// Applies the next message of the payload, if there is one.
+    fn take_message(&mut self) -> Result<Option<Stepped>, Fault>
+        ensures { TakesMessage result self.old self.new }
+    {
+        let Some((pdu, after)) = read_pdu(self.alloc, self.payload.as_slice(), self.at)? else {
+            return Ok(None);
+        };
+        self.screen.apply(self.alloc, &pdu)?;
+        self.at = after;
+        self.applied = self.applied.saturating_add(1);
+        Ok(Some(stepped_by(&pdu)))
+    }
+
+    /// Goes on to the next channel message, if a whole one is there.
+    fn open_message(&mut self) -> Result<bool, Fault>
+        requires { IsAtPayloadEnd self.old }
+        ensures { OpensMessage result self.old self.new }
+    {
+        let Some(payload) = self.splitter.next_message()? else {
+            return Ok(false);
+        };
+        self.payload = payload;
+        self.at = 0;
+        Ok(true)
+    }
+}
+
+/// What a step says of the message that it applied.
+fn stepped_by(pdu: &Pdu) -> Stepped
+    ensures { result ≡ stepped_by pdu.now }
+{
+    match pdu {
+        Pdu::EndFrame { frame } => Stepped::Ended { frame: *frame },
+        _ => Stepped::Applied,
+    }
+}

@@ -1,0 +1,19 @@
+//! The client's end of the graphics channel: it is given the bytes of a stream in any pieces, and
+//! draws its messages, one at a time, on its surfaces.
+//!
+//! In the pipe it stands above the framing, the messages and the surfaces, and below the program,
+//! which prints what it holds. What a message does is the step of `gfx_state`.
+#![tactic(auto)]
+
+mod client;
+mod fault;
+mod offer;
+mod screen;
+
+pub use client::Client;
+pub use fault::ClientFault;
+pub use offer::{MOST_OFFERS, Offer, Offers};
+pub use screen::Stepped;
+
+#[cfg(test)]
+mod tests;

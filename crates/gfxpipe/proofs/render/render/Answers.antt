@@ -1,0 +1,21 @@
+use Rattle.std.proofs.Common.{Some}
+use Rattle.std.proofs.lemmas.Result.{err_from_is_err_and}
+use Rattle.gfx_words.specs.declared.table.Command.TheVariants.{Render}
+use Rattle.gfxpipe.proofs.Commands.{memory_first, not_played, printed, not_printed}
+use Rattle.gfxpipe.proofs.render.render.Goals as goal
+
+pub returns-in_err-client : goal.returns-in_err-client
+returns-in_err-client g c =
+    let p = err_from_is_err_and c.from_residual.result c.from_residual.ensures.1 in
+    rw (p.1, p.2) (memory_first (Some Render) c.args.limit _ _ _ _)
+
+pub returns-in_err-stop : goal.returns-in_err-stop
+returns-in_err-stop g c =
+    let p = err_from_is_err_and c.from_residual-in_err-stop.result c.from_residual-in_err-stop.ensures.1 in
+    rw (p.1, p.2) (not_played c.in_err-stop.field-0.0 c.args.limit _ _ _ _ c.in_err-stop.ensures)
+
+pub returns-in-Ok : goal.returns-in-Ok
+returns-in-Ok g c = printed c.in_ok-stop.stop c.args.limit _ _ _ _ c.in_ok-stop.ensures c.surfaces.ensures c.in-Ok.ensures
+
+pub returns : goal.returns
+returns g c = not_printed c.in_ok-stop.stop c.args.limit _ _ _ _ c.in_ok-stop.ensures c.surfaces.ensures c.in-Err.ensures

@@ -1,0 +1,52 @@
+-- How a run ends: its status, and the line that says so. This project's own rule.
+use Rattle.std.specs.Prelude.{ℕ, ◌≡◌, List, [], ◌++◌, codes, decimal, Result, Ok, Err, ◌⊎◌}
+use Rattle.gfx_base.specs.Refusal.{number_of, name_of}
+use Rattle.gfx_base.specs.Stream.{Change, Gains, FailsAfter}
+use Rattle.gfx_base.specs.declared.refusal.Refusal.{Refusal}
+use Rattle.gfx_words.specs.declared.table.TheConstants.{USAGE}
+use Rattle.gfxpipe.specs.declared.ending.Ending.{Ending}
+use Rattle.gfxpipe.specs.declared.ending.Ending.TheVariants.{Usage, Played}
+use Rattle.gfxpipe.specs.declared.player.Stop.TheVariants as stop
+use Rattle.gfxpipe.specs.declared.status.Status.{Status}
+use Rattle.gfxpipe.specs.declared.status.Status.TheVariants as status
+use Rattle.gfxpipe.specs.declared.trouble.Trouble.{Trouble}
+use Rattle.gfxpipe.specs.declared.trouble.Trouble.TheVariants as trouble
+
+-- the exit number of the program
+abbrev pub exit_number : Status → ℕ
+exit_number status.Done = 0
+exit_number status.Refused = 1
+exit_number status.Usage = 2
+exit_number status.ReadFault = 3
+exit_number status.WriteFault = 4
+exit_number status.NoMemory = 5
+
+-- the status of a run that ends so
+abbrev pub status_of : Result Ending Trouble → Status
+status_of (Ok Usage) = status.Usage
+status_of (Ok (Played stop.End)) = status.Done
+status_of (Ok (Played (stop.Refused number r))) = status.Refused
+status_of (Ok (Played stop.TooLong)) = status.Refused
+status_of (Err trouble.Read) = status.ReadFault
+status_of (Err trouble.Write) = status.WriteFault
+status_of (Err trouble.Memory) = status.NoMemory
+
+-- the line of a refused message, as in `message 4: 14 RectOutside`
+unfoldable pub message_line : ℕ → Refusal → List ℕ
+message_line number r =
+    codes "message " ++ (decimal number ++ (codes ": " ++ (decimal (number_of r) ++ (codes " " ++ (name_of r ++ codes "\n")))))
+
+-- the line that says how a run ends; none where all is done
+abbrev pub line_of : Result Ending Trouble → List ℕ
+line_of (Ok Usage) = USAGE.now ++ codes "\n"
+line_of (Ok (Played stop.End)) = []
+line_of (Ok (Played (stop.Refused number r))) = message_line number r
+line_of (Ok (Played stop.TooLong)) = codes "input: TooLong\n"
+line_of (Err trouble.Read) = codes "input: read failed\n"
+line_of (Err trouble.Write) = codes "output: write failed\n"
+line_of (Err trouble.Memory) = codes "memory: none left\n"
+
+-- the line was written, and the status is that of the ending; or it was not, and that is the status
+abbrev pub Closes : Status → Result Ending Trouble → Change → Type 0
+Closes answer ended e =
+    ((answer ≡ status_of ended) × Gains e (line_of ended)) ⊎ ((answer ≡ status.WriteFault) × FailsAfter e (line_of ended))

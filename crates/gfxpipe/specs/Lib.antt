@@ -1,0 +1,4 @@
+pub mod Played
+pub mod Play
+pub mod Ending
+pub mod Run

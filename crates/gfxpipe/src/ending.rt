@@ -1,0 +1,108 @@
+//! What a command comes to, and the line that says so.
+ghost use Rattle.std.specs.Prelude.{◌≡◌, ◌+◌, ◌≤◌, ◌++◌, length, decimal, codes};
+ghost use Rattle.arrayvec.specs.ArrayVec.{array_vec_len};
+ghost use Rattle.gfx_base.specs.Stream.{Writes, change};
+ghost use Rattle.gfxpipe.specs.Ending.{status_of, line_of, message_line, Closes};
+
+use crate::player::Stop;
+use crate::status::Status;
+use crate::trouble::Trouble;
+use arrayvec::ArrayVec;
+use gfx_base::{Failed, Refusal, Sink, write_all};
+use gfx_words::USAGE;
+use itoa::Buffer;
+
+/// What a command comes to where no call failed.
+#[derive(Clone, Copy, Debug, PartialEq, Eq)]
+pub enum Ending {
+    /// The words are no command.
+    Usage,
+    /// A recording was played, and was read no further because of this.
+    Played(Stop),
+}
+
+/// The status of a run that ends so.
+fn status_of(ended: &Result<Ending, Trouble>) -> Status
+    ensures { result ≡ status_of ended.now }
+{
+    match ended {
+        Ok(Ending::Usage) => Status::Usage,
+        Ok(Ending::Played(Stop::End)) => Status::Done,
+        Ok(Ending::Played(Stop::Refused { .. } | Stop::TooLong)) => Status::Refused,
+        Err(Trouble::Read) => Status::ReadFault,
+        Err(Trouble::Write) => Status::WriteFault,
+        Err(Trouble::Memory) => Status::NoMemory,
+    }
+}
+
+/// No line of a refused message is longer.
+const ROOM: usize = 96;
+
+type Line = ArrayVec<u8, ROOM>;
+
+/// Says on `err` how the run ended, in a line of its own or, where all is done, in none. A line that
+/// can't be written makes the status WriteFault.
+pub fn close<E: Sink>(ended: &Result<Ending, Trouble>, err: &mut E) -> Status
+    ensures { Closes result ended.now
+        (change (E.faults err.old) (E.faults err.new) (E.held err.old) (E.held err.new)) }
+{
+    let written = match ended {
+        Ok(Ending::Usage) => write_usage(err),
+        Ok(Ending::Played(Stop::End)) => Ok(()),
+        Ok(Ending::Played(Stop::Refused { number, refusal })) => {
+            write_all(err, message_line(*number, *refusal).as_slice())
+        }
+        Ok(Ending::Played(Stop::TooLong)) => write_all(err, b"input: TooLong\n"),
+        Err(Trouble::Read) => write_all(err, b"input: read failed\n"),
+        Err(Trouble::Write) => write_all(err, b"output: write failed\n"),
+        Err(Trouble::Memory) => write_all(err, b"memory: none left\n"),
+    };
+    match written {
+        Ok(()) => status_of(ended),
+        Err(_) => Status::WriteFault,
+    }
+}
+
+/// Writes the usage line.
+fn write_usage<E: Sink>(err: &mut E) -> Result<(), Failed>
+    ensures { Writes result
+        (change (E.faults err.old) (E.faults err.new) (E.held err.old) (E.held err.new)) (USAGE.now ++ codes "\n") }
+{
+    write_all(err, USAGE.as_bytes())?;
+    write_all(err, b"\n")
+}
+
+/// The line of a refused message.
+#[tactic(auto, unfolding(crate::specs::Ending::message_line))]
+fn message_line(number: u64, refusal: Refusal) -> Line
+    ensures { result.items ≡ message_line number refusal }
+{
+    let mut line = Line::new();
+    put(&mut line, b"message ");
+    put_number(&mut line, number);
+    put(&mut line, b": ");
+    put_number(&mut line, u64::from(refusal.number()));
+    put(&mut line, b" ");
+    put(&mut line, refusal.name().as_bytes());
+    put(&mut line, b"\n");
+    line
+}
+
+/// Appends a number in decimal.
+fn put_number(line: &mut Line, number: u64)
+    requires { array_vec_len line.old + 20 ≤ ROOM }
+    ensures items { line.new.items ≡ line.old.items ++ decimal number }
+    ensures len { array_vec_len line.new ≤ array_vec_len line.old + 20 }
+{
+    let mut buffer = Buffer::new();
+    put(line, buffer.format(number).as_bytes());
+}
+
+/// Appends bytes, for which there is room.
+fn put(line: &mut Line, piece: &[u8])
+    requires { array_vec_len line.old + length piece.now ≤ ROOM }
+    ensures items { line.new.items ≡ line.old.items ++ piece.now }
+    ensures len { array_vec_len line.new ≡ array_vec_len line.old + length piece.now }
+{
+    line.try_extend_from_slice(piece).unwrap();
+}

@@ -1,0 +1,200 @@
+//! What no clause says: worked examples, and streams, reads and writes that end too early. The
+//! answers are those of the definitions by hand, and of a reference implementation.
+use crate::{Status, run};
+use gfx_base::{NoMemory, SliceSource, VecSink};
+use std::alloc::Global;
+use std::test::Fail;
+
+/// One red surface in one frame.
+const FILL: [u8; 91] = [
+    // StartFrame 1.
+    0x12, 0, 0, 0, 0xe0, 4, 0xb, 0, 0, 0, 0x10, 0, 0, 0, 0, 0, 0, 0, 1, 0, 0, 0,
+    // CreateSurface 1 of 2 by 1, XRGB.
+    0x11, 0, 0, 0, 0xe0, 4, 9, 0, 0, 0, 0xf, 0, 0, 0, 1, 0, 2, 0, 1, 0, 0x20,
+    // SolidFill of all of it in red.
+    0x1a, 0, 0, 0, 0xe0, 4, 4, 0, 0, 0, 0x18, 0, 0, 0, 1, 0, 0, 0, 0xff, 0, 1, 0, 0, 0, 0, 0, 2, 0,
+    1, 0,
+    // EndFrame 1.
+    0xe, 0, 0, 0, 0xe0, 4, 0xc, 0, 0, 0, 0xc, 0, 0, 0, 1, 0, 0, 0,
+];
+
+const BLACK: &str = "surface 1 2x1 xrgb\n000000ff000000ff\n";
+
+const RED: &str = "surface 1 2x1 xrgb\n0000ffff0000ffff\n";
+
+/// A channel message of one compressed segment.
+const COMPRESSED: [u8; 6] = [2, 0, 0, 0, 0xe0, 0x24];
+
+/// What a run has come to.
+#[derive(Drop)]
+struct Ran<'a> {
+    status: Status,
+    input: SliceSource<'a>,
+    out: VecSink<'a>,
+    err: VecSink<'a>,
+}
+
+/// Runs `render` on these bytes. The reads and the writes to `out` of these numbers fail.
+fn render<'a>(
+    alloc: Global,
+    bytes: &'a [u8],
+    reads: &'a [u64],
+    writes: &'a [u64],
+) -> Result<Ran<'a>, NoMemory> {
+    let mut input = SliceSource::new(bytes, reads);
+    let mut out = VecSink::new(alloc, 64, writes)?;
+    let mut err = VecSink::new(alloc, 64, &[])?;
+    let status = run(alloc, &["render"], &mut input, &mut out, &mut err);
+    Ok(Ran {
+        status,
+        input,
+        out,
+        err,
+    })
+}
+
+#[test]
+fn worked_examples(rt: HostRuntime) -> Result<(), Fail> {
+    let table: [(&[u8], Status, &str, &str); 5] = [
+        (&FILL, Status::Done, RED, ""),
+        (&[], Status::Done, "", ""),
+        (
+            &[0x11, 0],
+            Status::Refused,
+            "",
+            "message 1: 1 ChannelTruncated\n",
+        ),
+        (
+            &COMPRESSED,
+            Status::Refused,
+            "",
+            "message 1: 5 BulkCompressed\n",
+        ),
+        (
+            &[0xd, 0, 0, 0, 0xe1, 1, 0, 2, 0, 0, 0, 2, 0, 0, 0, 4, 0],
+            Status::Refused,
+            "",
+            "message 1: 4 SegmentSize\n",
+        ),
+    ];
+    for (bytes, status, text, line) in table {
+        let ran = render(rt.alloc(), bytes, &[], &[])?;
+        assert_eq!(rt; ran.status, status);
+        assert_eq!(rt; ran.out.held(), text.as_bytes());
+        assert_eq!(rt; ran.err.held(), line.as_bytes());
+    }
+    Ok(())
+}
+
+#[test]
+fn other_words_read_nothing(rt: HostRuntime) -> Result<(), Fail> {
+    let mut input = SliceSource::new(&FILL, &[]);
+    let mut out = VecSink::new(rt.alloc(), 64, &[])?;
+    let mut err = VecSink::new(rt.alloc(), 96, &[])?;
+    let status = run(
+        rt.alloc(),
+        &["render", "--wide"],
+        &mut input,
+        &mut out,
+        &mut err,
+    );
+    assert_eq!(rt; (status, status.number()), (Status::Usage, 2));
+    assert_eq!(rt; (input.left().len(), out.held().len()), (91, 0));
+    let line = b"usage: gfxpipe encode | render [--output] | audit | session | make N | trial N\n";
+    assert_eq!(rt; err.held(), line.as_slice());
+    Ok(())
+}
+
+#[test]
+fn a_stream_cut_after_each_byte(rt: HostRuntime) -> Result<(), Fail> {
+    let cut_in = [
+        "message 1: 1 ChannelTruncated\n",
+        "message 2: 1 ChannelTruncated\n",
+        "message 3: 1 ChannelTruncated\n",
+        "message 4: 1 ChannelTruncated\n",
+    ];
+    for count in 0..=FILL.len() {
+        let (bytes, _) = FILL.split_at(count);
+        let ran = render(rt.alloc(), bytes, &[], &[])?;
+        let line = match count {
+            0 | 22 | 43 | 73 | 91 => "",
+            1..22 => cut_in[0],
+            23..43 => cut_in[1],
+            44..73 => cut_in[2],
+            _ => cut_in[3],
+        };
+        let text = match count {
+            0..43 => "",
+            43..73 => BLACK,
+            _ => RED,
+        };
+        let status = if line.is_empty() {
+            Status::Done
+        } else {
+            Status::Refused
+        };
+        assert_eq!(rt; ran.status, status, "after {count}");
+        assert_eq!(rt; ran.out.held(), text.as_bytes(), "after {count}");
+        assert_eq!(rt; ran.err.held(), line.as_bytes(), "after {count}");
+    }
+    Ok(())
+}
+
+/// The stream is one read, and its end another. No third read is made.
+#[test]
+fn each_read_fails(rt: HostRuntime) -> Result<(), Fail> {
+    for (read, status, text, line, left) in [
+        (1, Status::ReadFault, "", "input: read failed\n", 91),
+        (2, Status::ReadFault, "", "input: read failed\n", 0),
+        (3, Status::Done, RED, "", 0),
+    ] {
+        let fails = [read];
+        let ran = render(rt.alloc(), &FILL, &fails, &[])?;
+        assert_eq!(rt; ran.status, status);
+        assert_eq!(rt; ran.out.held(), text.as_bytes());
+        assert_eq!(rt; ran.err.held(), line.as_bytes());
+        assert_eq!(rt; ran.input.left().len(), left);
+    }
+    Ok(())
+}
+
+/// The dump is three writes: its header, the digits of its row and their newline.
+#[test]
+fn each_write_fails(rt: HostRuntime) -> Result<(), Fail> {
+    for (write, status, line) in [
+        (1, Status::WriteFault, "output: write failed\n"),
+        (2, Status::WriteFault, "output: write failed\n"),
+        (3, Status::WriteFault, "output: write failed\n"),
+        (4, Status::Done, ""),
+    ] {
+        let fails = [write];
+        let ran = render(rt.alloc(), &FILL, &[], &fails)?;
+        assert_eq!(rt; ran.status, status);
+        assert_eq!(rt; ran.err.held(), line.as_bytes());
+        assert!(rt; RED.as_bytes().starts_with(ran.out.held()));
+    }
+    Ok(())
+}
+
+#[test]
+fn a_line_that_cannot_be_written(rt: HostRuntime) -> Result<(), Fail> {
+    let mut input = SliceSource::new(&[0x11, 0], &[]);
+    let mut out = VecSink::new(rt.alloc(), 64, &[])?;
+    let mut err = VecSink::new(rt.alloc(), 64, &[1])?;
+    let status = run(rt.alloc(), &["render"], &mut input, &mut out, &mut err);
+    assert_eq!(rt; (status, err.held().len()), (Status::WriteFault, 0));
+    Ok(())
+}
+
+/// What is refused in the first piece is answered without a second: of 200,006 bytes at most one
+/// piece of 65,536 and one byte are read.
+#[test]
+fn a_refusal_ends_the_reading(rt: HostRuntime) -> Result<(), Fail> {
+    let mut bytes = COMPRESSED.to_vec(rt.alloc())?;
+    bytes.resize(COMPRESSED.len() + 200_000, 0)?;
+    let ran = render(rt.alloc(), &bytes, &[], &[])?;
+    assert_eq!(rt; ran.status, Status::Refused);
+    assert_eq!(rt; ran.err.held(), b"message 1: 5 BulkCompressed\n".as_slice());
+    assert!(rt; ran.input.left().len() >= 134_465);
+    Ok(())
+}

@@ -1,19 +1,19 @@
 -- A client's moves keep it on the run of its bytes.
-use Rattle.std.proofs.Common.{◌≡◌, ℕ, ◌<◌, Bool, true, ◌||◌, List, [], ◌∷◌, ◌++◌, length, drop, Option, Some, None, is_some, if◌then◌else◌, Result, Ok, Err, fold, refl, sym, ap, ◌∙◌, subst}
+use Rattle.std.proofs.Common.{◌≡◌, ℕ, ◌<◌, true, ◌||◌, List, [], ◌∷◌, ◌++◌, length, drop, Option, Some, None, is_some, if◌then◌else◌, Result, Ok, Err, fold, refl, sym, ap, ◌∙◌, subst}
 use Rattle.gfx_base.specs.declared.refusal.Refusal.{Refusal}
 use Rattle.gfx_base.specs.declared.refusal.Refusal.TheVariants.{ChannelLength}
 use Rattle.gfx_pdu.specs.declared.pdu.Pdu.{Pdu}
 use Rattle.gfx_pdu.specs.Reading.{message_at}
-use Rattle.gfx_segment.specs.Framing.{Held, holding, refused, fed, next, next_of, after_next, answer_of, behind, is_short, is_drained, Front, front, payload, Whole, Short, Bad}
+use Rattle.gfx_segment.specs.Framing.{Held, holding, fed, next, next_of, after_next, answer_of, behind, is_short, is_drained, Front, front, payload, Whole, Short, Bad}
 use Rattle.gfx_segment.proofs.FrontLemmas.{front-nil, length-after}
 use Rattle.gfx_state.specs.State.{State}
 use Rattle.gfx_state.specs.Step.{step}
 use Rattle.gfx_base.specs.Results.{and_then}
 use Rattle.gfx_base.proofs.ResultLemmas.{and_then_ok, and_then-Ok, and_then-Err}
-use Rattle.gfx_state.specs.Payload.{Messages, none_left, messages_within, messages_of, before}
-use Rattle.gfx_state.specs.Run.{Run, refuse, took, apply, close, deliver, opened, eats, run_of, begun}
+use Rattle.gfx_state.specs.Payload.{Messages, messages_within, messages_of}
+use Rattle.gfx_state.specs.Run.{Run, refuse, took, apply, close, deliver, opened, eats, run_of}
 use Rattle.gfx_state.specs.Cursor.{Cursor, given, before_all, Move, Opens, Takes, Needs, Refuses, next_payload, next_state, next_message, what_next, Reaches, Here, Opening, Taking, after_held, run_at, waiting, settled}
-use Rattle.gfx_state.proofs.Runs.{stays, goes_on, apply_refused, close_refused, eats-append, eats-nil, eats_refused, eats_short, eats_bad, eats_whole}
+use Rattle.gfx_state.proofs.Runs.{stays, goes_on, apply_refused, close_refused, eats-append, eats_refused, eats_short, eats_bad, eats_whole}
 use Rattle.gfx_state.proofs.NextMoves.{what_next_needs}
 use Rattle.gfx_state.proofs.Payloads.{message_at-nil, messages_of_more, messages_of_refused, messages_of_none}
 

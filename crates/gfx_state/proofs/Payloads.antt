@@ -1,6 +1,5 @@
 -- The messages of a payload, from its front.
-use Rattle.std.proofs.Common.{◌≡◌, ◌==◌, nat_lt, Bool, true, false, cond, ℕ, zero, suc, ◌+◌, ◌-◌, ◌≤◌, ◌<◌, List, [], ◌∷◌, ◌++◌, length, drop, Option, Some, None, Result, Ok, Err, refl, sym, ap, ◌∙◌, subst, arith, length-drop}
-use Rattle.std.proofs.lemmas.List.{nil_from_length}
+use Rattle.std.proofs.Common.{◌≡◌, ◌==◌, nat_lt, Bool, true, false, cond, ℕ, zero, suc, ◌≤◌, ◌<◌, List, [], ◌∷◌, length, drop, Some, None, Result, Ok, Err, refl, sym, ap, ◌∙◌, arith, length-drop}
 use Rattle.gfx_base.specs.declared.refusal.Refusal.{Refusal}
 use Rattle.gfx_base.specs.declared.refusal.Refusal.TheVariants.{PduTruncated, PduLength}
 use Rattle.gfx_pdu.specs.declared.pdu.Pdu.{Pdu}
@@ -10,7 +9,7 @@ use Rattle.gfx_base.specs.Field.{number_at}
 use Rattle.gfx_base.specs.Results.{and_then}
 use Rattle.gfx_base.proofs.ResultLemmas.{and_then_ok}
 use Rattle.gfx_pdu.specs.Reading.{message_at, front, size_of, kind_of, body_of}
-use Rattle.gfx_state.specs.Payload.{Messages, none_left, before, found, messages_within, messages_of}
+use Rattle.gfx_state.specs.Payload.{none_left, before, found, messages_within, messages_of}
 
 pub message_at-nil : message_at [] ≡ Ok None
 unfolding message_at

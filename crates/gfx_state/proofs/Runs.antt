@@ -1,19 +1,17 @@
 -- The run of a stream: in pieces, behind a refusal, and channel message by channel message.
-use Rattle.std.proofs.Common.{◌≡◌, ℕ, ◌+◌, ◌≤◌, ◌<◌, List, [], ◌∷◌, ◌++◌, length, take, drop, Option, Some, None, is_some, Result, Ok, Err, inl, inr, refl, sym, ap, ◌∙◌, subst, append_assoc, arith, length-append, length-drop}
+use Rattle.std.proofs.Common.{◌≡◌, ℕ, ◌+◌, ◌≤◌, List, [], ◌∷◌, ◌++◌, length, take, drop, Option, Some, None, inl, inr, refl, sym, ap, ◌∙◌, append_assoc, arith, length-append, length-drop}
 use Rattle.std.specs.Int.{w32}
 use Rattle.std.proofs.lemmas.Bool.{cases_lt}
-use Rattle.std.proofs.lemmas.List.{nil_from_length, append-nil, drop-append-le, length-take-le}
+use Rattle.std.proofs.lemmas.List.{nil_from_length, append-nil, length-take-le}
 use Rattle.std.proofs.lemmas.List.Sums.{fold-append}
 use Rattle.gfx_base.proofs.FieldLemmas.{number_at-append}
 use Rattle.gfx_base.specs.declared.refusal.Refusal.{Refusal}
 use Rattle.gfx_base.specs.declared.refusal.Refusal.TheVariants.{ChannelLength}
 use Rattle.gfx_pdu.specs.declared.pdu.Pdu.{Pdu}
 use Rattle.gfx_segment.specs.declared.profile.TheConstants.{MOST_MESSAGE}
-use Rattle.gfx_segment.specs.Framing.{Front, Whole, Short, Bad, front, front_of, payload}
-use Rattle.gfx_segment.proofs.FrontLemmas.{front-nil, front-append_whole, front-append_bad, length-front, front_whole, front_at, whole_at}
-use Rattle.gfx_state.specs.State.{State}
-use Rattle.gfx_state.specs.Payload.{Messages}
-use Rattle.gfx_state.specs.Run.{Run, refuse, unless_refused, took, apply, close, deliver, opened, judge, eat, eats}
+use Rattle.gfx_segment.specs.Framing.{Front, Whole, Short, Bad, front, payload}
+use Rattle.gfx_segment.proofs.FrontLemmas.{front-append_whole, front-append_bad, length-front, front_whole, front_at, whole_at}
+use Rattle.gfx_state.specs.Run.{Run, refuse, unless_refused, apply, close, opened, judge, eat, eats}
 
 -- cut anywhere ------------------------------------------------------------------------------------
 

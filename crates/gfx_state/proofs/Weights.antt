@@ -1,11 +1,11 @@
 -- Each message that a client takes leaves it fewer bytes.
-use Rattle.std.proofs.Common.{◌≡◌, ℕ, zero, suc, ◌+◌, ◌≤◌, ◌<◌, ◌==◌, ◌%◌, ◌/◌, nat_lt, nat_le, not, Bool, true, false, cond, ◌&&◌, List, [], ◌∷◌, ◌++◌, length, take, drop, Option, Some, None, Result, Ok, Err, refl, sym, ap, ◌∙◌, subst, arith, length-append, length-drop}
+use Rattle.std.proofs.Common.{◌≡◌, ℕ, zero, suc, ◌+◌, ◌≤◌, ◌<◌, ◌==◌, ◌%◌, ◌/◌, nat_lt, nat_le, not, Bool, true, false, cond, ◌&&◌, List, [], ◌∷◌, ◌++◌, length, take, drop, Option, Some, None, Result, Ok, Err, refl, ap, subst, arith, length-append, length-drop}
 use Rattle.std.specs.Int.{w16, w32}
 use Rattle.std.specs.Option.{ok_or}
-use borrow.Author.Tests.{ltb-false, leb-true}
+use borrow.Author.Tests.{leb-true}
 use Rattle.std.proofs.lemmas.List.{length-take-le}
 use Rattle.gfx_base.specs.Field.{field}
-use Rattle.gfx_base.specs.Results.{and_then, check}
+use Rattle.gfx_base.specs.Results.{check}
 use Rattle.gfx_base.proofs.ResultLemmas.{and_then_ok}
 use Rattle.gfx_base.specs.declared.refusal.Refusal.{Refusal}
 use Rattle.gfx_base.specs.declared.refusal.Refusal.TheVariants.{Descriptor, SegmentSize, BulkCompressed}

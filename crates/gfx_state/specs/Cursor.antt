@@ -8,7 +8,7 @@ use Rattle.gfx_segment.specs.Framing.{Held, holding, fed, next, after_next, payl
 use Rattle.gfx_state.specs.State.{State, fresh}
 use Rattle.gfx_state.specs.Step.{step}
 use Rattle.gfx_state.specs.Payload.{messages_of}
-use Rattle.gfx_state.specs.Run.{Run, eats, deliver, close, run_of}
+use Rattle.gfx_state.specs.Run.{Run, eats, deliver, close}
 
 -- the bytes that are not used yet, what is left of the present payload, and what was applied
 pub record Cursor : Type 0 where

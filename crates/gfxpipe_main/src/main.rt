@@ -7,35 +7,50 @@ use crate::streams::{StdSink, StdSource};
 use gfx_base::{Failed, NoMemory, VecSink};
 use gfxpipe::{Status, run};
 use std::env;
-use std::io::{BufWriter, Write};
+use std::io::{BufWriter, ErrorKind, Write};
 use std::process::ExitCode;
 
 /// No line on the standard error is longer.
 const LINE_ROOM: usize = 128;
 
+/// No command has this word. It stands for words that aren't UTF-8.
+const NO_COMMAND: &str = "\u{fffd}";
+
 fn main(rt: HostRuntime) -> ExitCode {
-    ExitCode::from(start(&rt).unwrap_or(Status::NoMemory).number())
+    let status = match start(&rt) {
+        Ok(status) => status,
+        Err(NoMemory) => say(&rt, Status::NoMemory, Ok(()), b"memory: none left\n"),
+    };
+    ExitCode::from(status.number())
+}
+
+/// Takes the words of the command line, and runs the program on the real streams.
+fn start(rt: &HostRuntime) -> Result<Status, NoMemory> {
+    match env::args(rt) {
+        Ok(arguments) => {
+            let arguments = arguments.skip(1).collect::<Vec<_>>(rt.alloc())?;
+            let mut words = Vec::new(rt.alloc());
+            for argument in &arguments {
+                words.push(argument.as_str())?;
+            }
+            run_on_streams(rt, &words)
+        }
+        Err(error) if error.kind() == ErrorKind::InvalidData => run_on_streams(rt, &[NO_COMMAND]),
+        Err(_) => Err(NoMemory),
+    }
 }
 
 /// Runs the program on the real streams. What it prints is buffered; the line on the standard error
 /// is written last, once the output is out.
-fn start(rt: &HostRuntime) -> Result<Status, NoMemory> {
+fn run_on_streams(rt: &HostRuntime, words: &[&str]) -> Result<Status, NoMemory> {
     let alloc = rt.alloc();
-    let Ok(arguments) = env::args(rt) else {
-        return Err(NoMemory);
-    };
-    let arguments = arguments.skip(1).collect::<Vec<_>>(alloc)?;
-    let mut words = Vec::new(alloc);
-    for argument in &arguments {
-        words.push(argument.as_str())?;
-    }
     let mut input = StdSource::new(rt.stdin());
     let Ok(buffered) = BufWriter::new(alloc, rt.stdout()) else {
         return Err(NoMemory);
     };
     let mut output = StdSink::new(buffered);
     let mut line = VecSink::new(alloc, LINE_ROOM, &[])?;
-    let status = run(alloc, &words, &mut input, &mut output, &mut line);
+    let status = run(alloc, words, &mut input, &mut output, &mut line);
     Ok(say(rt, status, output.flush(), line.held()))
 }
 

@@ -1,12 +1,11 @@
 -- What the parts of a command come to.
-use Rattle.std.proofs.Common.{◌≡◌, ℕ, ◌+◌, ◌-◌, ◌≤◌, ◌<◌, List, [], ◌++◌, length, take, Option, Some, None, Result, Ok, Err, refl, sym, ap, ◌∙◌, subst, arith}
-use Rattle.gfx_base.specs.Stream.{Change, change, Gains, FailsAfter, Rose, Writes}
-use Rattle.gfx_base.specs.declared.answer.Failed.{Failed}
+use Rattle.std.proofs.Common.{◌≡◌, ℕ, List, [], Option, Some, None, Result, Ok, Err, refl, sym, ap, ◌∙◌, subst, arith}
+use Rattle.gfx_base.specs.Stream.{Change, change, Gains, FailsAfter}
 use Rattle.gfx_base.proofs.Streams.{Gains_none}
 use Rattle.gfx_client.specs.declared.client.Client.{Client}
 use Rattle.gfx_client.specs.Client.{cursor_of}
 use Rattle.gfx_report.specs.Texts.{dump_text}
-use Rattle.gfx_state.specs.Run.{Run, begun, run_of}
+use Rattle.gfx_state.specs.Run.{Run, begun}
 use Rattle.gfx_state.specs.State.{State}
 use Rattle.gfx_state.proofs.Runs.{eats-nil}
 use Rattle.gfx_surface_map.specs.Surfaces.{Surfaces}
@@ -18,9 +17,9 @@ use Rattle.gfxpipe.specs.declared.player.Stop.{Stop}
 use Rattle.gfxpipe.specs.declared.player.Stop.TheVariants as stop
 use Rattle.gfxpipe.specs.declared.trouble.Trouble.{Trouble}
 use Rattle.gfxpipe.specs.declared.trouble.Trouble.TheVariants as trouble
-use Rattle.gfxpipe.specs.Played.{played, stop_of}
-use Rattle.gfxpipe.specs.Play.{rest_of, Reads, input_of, Plays}
-use Rattle.gfxpipe.specs.Run.{Answer, answer_of, Executes}
+use Rattle.gfxpipe.specs.Played.{played}
+use Rattle.gfxpipe.specs.Play.{Reads, input_of, Plays}
+use Rattle.gfxpipe.specs.Run.{answer_of, Executes}
 use Rattle.gfxpipe.proofs.Pieces.{Tells_rest}
 
 -- nothing was read

@@ -1,5 +1,5 @@
 -- What steps until more bytes are needed come to.
-use Rattle.std.proofs.Common.{◌≡◌, ℕ, ◌+◌, ◌≤◌, ◌<◌, List, [], ◌∷◌, length, Option, Some, None, Result, Ok, Err, ◌⊎◌, inl, inr, refl, sym, ap, ◌∙◌, subst, arith}
+use Rattle.std.proofs.Common.{◌≡◌, ℕ, ◌<◌, List, [], ◌∷◌, Option, None, Result, Ok, Err, ◌⊎◌, inl, inr, refl, sym, ap, ◌∙◌, subst, arith}
 use Rattle.gfx_base.specs.Memory.{next_count}
 use Rattle.gfx_base.specs.declared.refusal.Refusal.{Refusal}
 use Rattle.gfx_client.specs.declared.client.Client.{Client}
@@ -7,9 +7,9 @@ use Rattle.gfx_client.specs.declared.fault.ClientFault.{ClientFault}
 use Rattle.gfx_client.specs.declared.fault.ClientFault.TheVariants as fault
 use Rattle.gfx_client.specs.declared.screen.Stepped.{Stepped}
 use Rattle.gfx_client.specs.declared.screen.Stepped.TheVariants as stepped
-use Rattle.gfx_client.specs.Client.{cursor_of, closed_by, Steps, StepsOpen, Takes, TakesOpen, MovesBy, Waits, Ends}
-use Rattle.gfx_state.specs.Cursor.{Cursor, settled, given, run_at}
-use Rattle.gfx_state.specs.Run.{Run, refuse, eats}
+use Rattle.gfx_client.specs.Client.{cursor_of, closed_by, Steps, StepsOpen, Takes, MovesBy, Ends}
+use Rattle.gfx_state.specs.Cursor.{settled, run_at}
+use Rattle.gfx_state.specs.Run.{refuse, eats}
 use Rattle.gfx_state.proofs.Moves.{settled_reaches, settled_refuses, settled-given, Reaches-none}
 use Rattle.gfx_state.proofs.Weights.{weight, weight_reaches}
 use Rattle.gfxpipe.specs.Play.{Drains, IsDrained, IsRefused, Gives}

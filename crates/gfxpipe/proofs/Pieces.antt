@@ -1,7 +1,7 @@
 -- What reading piece by piece comes to.
-use Rattle.std.proofs.Common.{◌≡◌, ℕ, ◌+◌, ◌-◌, ◌≤◌, ◌<◌, ◌==◌, nat_le, min, Bool, true, false, cond, if◌then◌else◌, List, [], ◌∷◌, ◌++◌, length, take, drop, Option, Some, None, is_some, Result, Ok, Err, inl, inr, refl, sym, ap, ◌∙◌, subst, append_assoc, arith, length-append, length-drop}
+use Rattle.std.proofs.Common.{◌≡◌, ℕ, ◌+◌, ◌-◌, ◌≤◌, ◌<◌, ◌==◌, nat_le, min, Bool, true, false, cond, if◌then◌else◌, List, [], ◌++◌, length, take, drop, Option, Some, None, Ok, Err, inl, inr, refl, sym, ap, ◌∙◌, subst, append_assoc, arith, length-append}
 use Rattle.std.proofs.lemmas.Bool.{cases_lt, le-leb, lt-leb}
-use Rattle.std.proofs.lemmas.List.{nil_from_length, append-nil, take-append-le, take-append-drop, take-take, length-take-le, length-take}
+use Rattle.std.proofs.lemmas.List.{append-nil, take-append-le, take-append-drop, take-take, length-take-le}
 use Rattle.std.proofs.Math.Seq.{take-append-add, take-append_seam}
 use Rattle.gfx_base.specs.Memory.{next_count}
 use Rattle.gfx_base.specs.Stream.{Change, change, Tells, Gave, Rose}
@@ -10,8 +10,8 @@ use Rattle.gfx_base.specs.declared.refusal.Refusal.TheVariants.{ChannelTruncated
 use Rattle.gfx_base.proofs.Streams.{Tells-Gave}
 use Rattle.gfx_client.specs.declared.client.Client.{Client}
 use Rattle.gfx_client.specs.Client.{cursor_of, closed_by}
-use Rattle.gfx_state.specs.Cursor.{Cursor, Needs, what_next, settled, waiting}
-use Rattle.gfx_state.specs.Run.{Run, begun, run_of, refuse, eats, end, unless_refused}
+use Rattle.gfx_state.specs.Cursor.{Needs, what_next, settled, waiting}
+use Rattle.gfx_state.specs.Run.{Run, begun, run_of, refuse, eats, end}
 use Rattle.gfx_state.proofs.Runs.{eats-append, eats_refused, stays}
 use Rattle.gfx_state.proofs.Moves.{settled_needs}
 use Rattle.gfxpipe.specs.declared.player.TheConstants.{PIECE}

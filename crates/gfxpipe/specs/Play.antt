@@ -9,7 +9,7 @@ use Rattle.gfx_client.specs.declared.fault.ClientFault.{ClientFault}
 use Rattle.gfx_client.specs.declared.fault.ClientFault.TheVariants as fault
 use Rattle.gfx_client.specs.Client.{cursor_of, closed_by}
 use Rattle.gfx_state.specs.Cursor.{Cursor, Needs, what_next, settled}
-use Rattle.gfx_state.specs.Run.{Run, run_of, eats}
+use Rattle.gfx_state.specs.Run.{run_of, eats}
 use Rattle.gfxpipe.specs.declared.player.TheConstants.{PIECE}
 use Rattle.gfxpipe.specs.declared.player.Stop.{Stop}
 use Rattle.gfxpipe.specs.declared.player.Stop.TheVariants as stop

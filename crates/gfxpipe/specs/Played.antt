@@ -1,5 +1,5 @@
 -- What a recording comes to, within the limit on its length: this project's own rule.
-use Rattle.std.specs.Prelude.{ℕ, ◌≡◌, ◌+◌, List, length, take, nat_le, Option, Some, None, Result, Ok, Err, if◌then◌else◌}
+use Rattle.std.specs.Prelude.{ℕ, List, length, take, nat_le, Option, Some, None, if◌then◌else◌}
 use Rattle.gfx_base.specs.Memory.{next_count}
 use Rattle.gfx_base.specs.declared.refusal.Refusal.{Refusal}
 use Rattle.gfx_state.specs.Run.{Run, run_of, end}

@@ -1,6 +1,4 @@
-use Rattle.std.proofs.Common.{List, ℕ, subst}
 use Rattle.gfx_base.proofs.Streams.{FailsAfter_more}
-use Rattle.gfx_base.specs.Stream.{Gains, FailsAfter}
 use Rattle.gfx_report.proofs.Writing.{Writes-append, Writes_failed}
 use Rattle.gfxpipe.proofs.ending.write_usage.Goals as goal
 

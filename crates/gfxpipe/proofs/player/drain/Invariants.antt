@@ -1,4 +1,4 @@
-use Rattle.std.proofs.Common.{◌≡◌, ℕ, None}
+use Rattle.std.proofs.Common.{◌≡◌, None}
 use Rattle.gfx_state.specs.Cursor.{settled}
 use Rattle.gfx_state.proofs.Weights.{weight}
 use Rattle.gfx_client.specs.Client.{cursor_of, closed_by}

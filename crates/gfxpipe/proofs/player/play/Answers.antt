@@ -1,9 +1,8 @@
 use Rattle.std.proofs.Common.{refl, ap, ◌∙◌}
 use Rattle.std.proofs.lemmas.Result.{err_from_is_err_and}
-use Rattle.gfx_client.specs.Client.{cursor_of}
 use Rattle.gfx_state.specs.Cursor.{what_next, settled}
 use Rattle.gfx_state.proofs.Moves.{settled_before_all, needs_before_all}
-use Rattle.gfxpipe.proofs.Pieces.{playing_none, playing_more, plays_end, plays_fault}
+use Rattle.gfxpipe.proofs.Pieces.{playing_none, plays_end, plays_fault}
 use Rattle.gfxpipe.proofs.player.play.Goals as goal
 
 pub pieces-init : goal.pieces-init

@@ -1,4 +1,4 @@
-use Rattle.std.proofs.Common.{ℕ, ◌+◌, ◌-◌, ◌≡◌, length}
+use Rattle.std.proofs.Common.{◌+◌, ◌-◌, ◌≡◌, length}
 use Rattle.gfx_base.specs.Stream.{change}
 use Rattle.gfxpipe.specs.declared.player.TheConstants.{PIECE}
 use Rattle.gfxpipe.proofs.Pieces.{Playing}

@@ -1,7 +1,5 @@
-use Rattle.std.proofs.Common.{ℕ, ◌<◌, ◌≤◌, List, length, [], take, arith, sym, ap, ◌∙◌, subst}
-use Rattle.gfx_base.specs.Stream.{Gave}
+use Rattle.std.proofs.Common.{arith}
 use Rattle.gfxpipe.proofs.Pieces.{ends_at_end, goes_on, ends_past, ends_refused}
-use Rattle.gfxpipe.specs.Play.{HasTaken, HasRefused, EndsHere}
 use Rattle.gfxpipe.proofs.player.play_piece.Goals as goal
 
 pub returns-then-count-eq0 : goal.returns-then-count-eq0

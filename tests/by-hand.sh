@@ -1,0 +1,192 @@
+#!/usr/bin/env bash
+# Runs the built program where the machine refuses it a stream, at the limit of its input and, where a
+# reference program is given, beside that one on many streams. It takes some minutes, and needs python3.
+#
+#     tests/by-hand.sh PROGRAM [REFERENCE [SEEDS]]
+#
+# REFERENCE has the same `render`, and prints a stream of its own for `--random-stream SEED surface fill`;
+# 100 SEEDS are taken where none are named. Each case is a line, `ok` or `FAILED`; the exit number is 1
+# where one failed.
+set -u
+if [ $# -lt 1 ] || [ $# -gt 3 ]; then
+    sed -n '5s/^# *//p' "$0" >&2
+    exit 2
+fi
+program=$(realpath "$1")
+reference=${2:+$(realpath "$2")}
+seeds=${3:-100}
+examples=$(realpath "$(dirname "$0")")/../examples
+work=$(mktemp -d)
+trap 'rm -rf "$work"' EXIT
+failures=0
+
+# The result of a case: its name, what is wanted and what came.
+report() {
+    if [ "$2" = "$3" ]; then
+        echo "ok      $1"
+    else
+        echo "FAILED  $1: wanted \"$2\", got \"$3\""
+        failures=$((failures + 1))
+    fi
+}
+
+# The exit number and the line on the standard error of the last run.
+ended() {
+    echo "$1 $(cat "$work/err")"
+}
+
+# Writes a stream of whole messages, as many bytes as the first number says, in a few large channel
+# messages; then, where there is a second word, what it names: `byte` a single byte, `refused` a frame's
+# end that has no start, and a byte.
+stream_of() {
+    python3 - "$@" <<'PYTHON'
+import struct, sys
+
+def channel(payload):
+    return struct.pack("<IBB", 2 + len(payload), 0xE0, 0x04) + payload
+
+def message(number, body):
+    return channel(struct.pack("<HHI", number, 0, 8 + len(body)) + body)
+
+def fill(count):
+    """A fill of surface 1 with this many empty rectangles."""
+    return message(4, struct.pack("<H4BH", 1, 0, 0, 255, 255, count) + bytes(8 * count))
+
+total, last = int(sys.argv[1]), sys.argv[2:]
+surfaces = b"".join(message(9, struct.pack("<HHHB", number, 64, 64, 0x20)) for number in (1, 2))
+end = message(12, struct.pack("<I", 1))
+nothing = channel(b"")
+large = fill(8000)
+left = total - len(surfaces) - (len(end) if last == ["refused"] else 0)
+out = sys.stdout.buffer
+try:
+    out.write(surfaces)
+    while left > 2 * len(large):
+        out.write(large)
+        left -= len(large)
+    # An even number is left: a small fill makes it a multiple of the 6 bytes of an empty channel message.
+    small = {0: b"", 2: fill(2), 4: fill(0)}[left % 6]
+    out.write(small)
+    left -= len(small)
+    out.write(nothing * (left // len(nothing)))
+    if last == ["refused"]:
+        out.write(end)
+    if last:
+        out.write(b"\0")
+    out.flush()
+except BrokenPipeError:
+    sys.stderr.close()
+PYTHON
+}
+
+# Passes its input on in small pieces, whose sizes the seed decides.
+in_pieces() {
+    python3 -c '
+import os, random, sys, time
+chance = random.Random(int(sys.argv[1]))
+data = sys.stdin.buffer.read()
+at = 0
+try:
+    while at < len(data):
+        count = chance.choice((1, 2, 3, 7, 20, 100, 500))
+        os.write(1, data[at:at + count])
+        at += count
+        if chance.random() < 0.1:
+            time.sleep(0.0005)
+except BrokenPipeError:
+    pass
+' "$1"
+}
+
+# Streams that fail.
+for name in fill desktop; do
+    "$program" render < "$examples/$name.bin" > /dev/full 2> "$work/err"
+    report "a full output, $name" "4 output: write failed" "$(ended $?)"
+    "$program" render < "$examples/$name.bin" 2> "$work/err" >&-
+    report "a closed output, $name" "4 output: write failed" "$(ended $?)"
+done
+"$program" render < "$examples/desktop.bin" 2> "$work/err" | true
+report "an output that nobody reads" "4 output: write failed" "$(ended "${PIPESTATUS[0]}")"
+"$program" render > "$work/out" 2> "$work/err" <&-
+report "a closed input" "3 input: read failed" "$(ended $?)"
+"$program" render < "$work" > "$work/out" 2> "$work/err"
+report "a folder as input" "3 input: read failed" "$(ended $?)"
+report "a read that fails prints nothing" "0" "$(stat -c %s "$work/out")"
+"$program" render < "$examples/outside.bin" > "$work/out" 2> /dev/full
+report "a full standard error" "4" "$?"
+"$program" render < "$examples/outside.bin" > /dev/full 2> "$work/err"
+report "a full output of a refused stream" "4 output: write failed" "$(ended $?)"
+
+# A surface of 8,192 by 8,192, for which there is no room.
+printf '\x11\0\0\0\xe0\x04\x09\0\0\0\x0f\0\0\0\x01\0\0\x20\0\x20\x20' |
+    (ulimit -v 100000 && "$program" render > "$work/out" 2> "$work/err")
+report "no memory" "5 memory: none left" "$(ended $?)$(cat "$work/out")"
+
+# Words.
+usage="2 usage: gfxpipe encode | render [--output] | audit | session | make N | trial N"
+for words in "render --wide" "" "renders" "render 1 2" "--help" $'\xff' $'render \xff'; do
+    # shellcheck disable=SC2086
+    "$program" $words < "$examples/fill.bin" > "$work/out" 2> "$work/err"
+    report "the words '$words'" "$usage" "$(ended $?)$(cat "$work/out")"
+done
+
+# The examples.
+example() {
+    "$program" render < "$examples/$1.bin" > "$work/out" 2> "$work/err"
+    report "the example $1" "$2" "$(ended $?)"
+    report "the example $1, the output" "same" "$(cmp -s "$work/out" "$examples/$1.txt" && echo same)"
+}
+example fill "0 "
+example desktop "0 "
+example outside "1 message 4: 14 RectOutside"
+
+# The limit of the input: 1 GiB. Nothing of these streams is stored.
+limit=$((1 << 30))
+blank=$(for id in 1 2; do
+    echo "surface $id 64x64 xrgb"
+    for _ in $(seq 64); do printf '000000ff%.0s' $(seq 64); echo; done
+done)
+limit_case() {
+    local name=$1 wanted=$2
+    shift 2
+    stream_of "$@" | "$program" render > "$work/out" 2> "$work/err"
+    report "$name" "$wanted" "$(ended "${PIPESTATUS[1]}")"
+    report "$name, the output" "$blank" "$(cat "$work/out")"
+}
+limit_case "1 GiB" "0 " "$limit"
+limit_case "1 GiB and one byte" "1 input: TooLong" "$limit" byte
+stream_of "$limit" refused | "$program" render > "$work/out" 2> "$work/err"
+report "1 GiB whose last message is refused, and one byte" "1 22 FrameMismatch" \
+    "$(ended "${PIPESTATUS[1]}" | sed 's/message [0-9]*: //')"
+
+# Beside the reference program.
+if [ -n "$reference" ]; then
+    # Both programs on one stream; notes the seed where they differ.
+    beside() {
+        "$reference" render < "$work/stream" > "$work/wanted" 2> "$work/wanted.err"
+        echo "exit $?" >> "$work/wanted.err"
+        if [ "$1" = pieces ]; then
+            in_pieces "$2" < "$work/stream" | "$program" render > "$work/out" 2> "$work/err"
+            echo "exit ${PIPESTATUS[1]}" >> "$work/err"
+        else
+            "$program" render < "$work/stream" > "$work/out" 2> "$work/err"
+            echo "exit $?" >> "$work/err"
+        fi
+        cmp -s "$work/out" "$work/wanted" && cmp -s "$work/err" "$work/wanted.err" || different="$different $2"
+    }
+    for way in whole cut pieces; do
+        different=
+        for seed in $(seq "$seeds"); do
+            "$reference" --random-stream "$seed" surface fill > "$work/stream"
+            if [ $way = cut ]; then
+                RANDOM=$seed
+                size=$(stat -c %s "$work/stream")
+                truncate -s $(((RANDOM * 32768 + RANDOM) % (size + 1))) "$work/stream"
+            fi
+            beside $way "$seed"
+        done
+        report "$seeds streams beside the reference, $way" "" "$different"
+    done
+fi
+
+[ "$failures" -eq 0 ]

@@ -1,5 +1,5 @@
 -- A list that is filled pair by pair.
-use Rattle.std.proofs.Common.{◌≡◌, ℕ, ◌+◌, ◌*◌, ◌<◌, ℤ, List, length, set, arith, below_more}
+use Rattle.std.proofs.Common.{◌≡◌, ◌≢◌, ℕ, ◌+◌, ◌*◌, ◌<◌, ◌≤◌, ℤ, pos, List, length, set, arith, below_more, get_or-set_other, ◌∙◌}
 use Rattle.std.proofs.lemmas.Grind.{common_steps}
 use Rattle.gfx_dwt.specs.Ranges.{at}
 
@@ -17,3 +17,9 @@ pair_put xs f g k e o h p q r = record {
 -- one place more is written
 pub put_next : (xs : List ℤ) (f : ℕ → ℤ) (k : ℕ) (v : ℤ) → k < length xs → v ≡ f k → ((j : ℕ) → j < k → at xs j ≡ f j) → (j : ℕ) → j < k + 1 → at (set xs k v) j ≡ f j
 put_next xs f k v h e before = below_more (λ j. at (set xs k v) j ≡ f j) k (λ j l. grind (arith, common_steps, before j l)) (grind (arith, common_steps))
+
+-- the places behind the one that is written stay
+pub put_keeps : (xs ys : List ℤ) (k : ℕ) (v : ℤ) → ((j : ℕ) → k ≤ j → at xs j ≡ at ys j) → (j : ℕ) → k + 1 ≤ j → at (set xs k v) j ≡ at ys j
+put_keeps xs ys k v same j h =
+    let apart : j ≢ k = omega arith in
+    get_or-set_other xs k j v (pos 0) apart ∙ same j (omega arith)

@@ -44,26 +44,30 @@ fn reduced_halves(line: &[i32], low: &mut [i32], high: &mut [i32], count: usize)
     ensures last { result ≡ differed Reduced (at line.now) (count - 1) }
     ensures small { Within (2 ^ 28) result }
 {
-    let mut before = reduced_high(line[1], line[0], line[2]);
+    let mut even = line[0];
+    let mut before = reduced_high(line[1], even, line[2]);
     for k in 0..count {
-        let here = reduced_high(line[2 * k + 1], line[2 * k], line[2 * k + 2]);
+        let next = line[2 * k + 2];
+        let here = reduced_high(line[2 * k + 1], even, next);
         high[k] = here;
-        low[k] = reduced_low(line[2 * k], before, here);
+        low[k] = reduced_low(even, before, here);
         before = here;
+        even = next;
     }
     before
 }
 
 /// Splits a line of the plain transform, whose last even sample stands behind itself.
-fn split_plain(line: &[i32], low: &mut [i32], high: &mut [i32])
-    requires some { 1 < length high.old }
+#[inline(always)]
+fn split_plain(line: &[i32], low: &mut [i32], high: &mut [i32], end: usize)
+    requires some { 0 < end }
+    requires end { length high.old ≡ end + 1 }
     requires low_len { length low.old ≡ length high.old }
     requires line_len { length line.now ≡ 2 * length high.old }
     requires line { AllWithin (2 ^ 28) line.now }
     ensures lows { (l : Level) → length high.old ≡ high_size Plain l → (k : ℕ) → k < length high.old → at low.new k ≡ low_half Plain l (at line.now) k }
     ensures highs { (l : Level) → length high.old ≡ high_size Plain l → (k : ℕ) → k < length high.old → at high.new k ≡ high_half Plain l (at line.now) k }
 {
-    let end = high.len() - 1;
     let before = plain_halves(line, low, high, end);
     let here = plain_high(line[2 * end + 1], line[2 * end], line[2 * end]);
     high[end] = here;
@@ -71,15 +75,16 @@ fn split_plain(line: &[i32], low: &mut [i32], high: &mut [i32])
 }
 
 /// Splits a line of reduce-extrapolate at its second and third level, whose last sample is an even one.
-fn split_later(line: &[i32], low: &mut [i32], high: &mut [i32])
-    requires some { 0 < length high.old }
+#[inline(always)]
+fn split_later(line: &[i32], low: &mut [i32], high: &mut [i32], count: usize)
+    requires some { 0 < count }
+    requires count { length high.old ≡ count }
     requires low_len { length low.old ≡ length high.old + 1 }
     requires line_len { length line.now ≡ 2 * length high.old + 1 }
     requires line { AllWithin (2 ^ 28) line.now }
     ensures lows { (l : Level) → length high.old ≡ high_size Reduced l → length low.old ≡ low_size Reduced l → (k : ℕ) → k < length low.old → at low.new k ≡ low_half Reduced l (at line.now) k }
     ensures highs { (l : Level) → length high.old ≡ high_size Reduced l → length low.old ≡ low_size Reduced l → (k : ℕ) → k < length high.old → at high.new k ≡ high_half Reduced l (at line.now) k }
 {
-    let count = high.len();
     let before = reduced_halves(line, low, high, count);
     low[count] = reduced_low(line[2 * count], before, before);
 }
@@ -99,7 +104,7 @@ fn split_first(line: &[i32], low: &mut [i32], high: &mut [i32])
     low[32] = reduced_low(last, 0, 0);
 }
 
-/// Splits a line into its halves.
+/// Splits a line into its halves. Sizes stand here as numbers, so that each loop has a copy of its own for its size.
 pub fn split_line(
     transform: Transform,
     level: Level,
@@ -115,8 +120,11 @@ pub fn split_line(
     ensures highs { (k : ℕ) → k < high_size transform level → at high.new k ≡ high_half transform level (at line.now) k }
 {
     match (transform, level) {
-        (Transform::Plain, _) => split_plain(line, low, high),
+        (Transform::Plain, Level::First) => split_plain(line, low, high, 31),
+        (Transform::Plain, Level::Second) => split_plain(line, low, high, 15),
+        (Transform::Plain, Level::Third) => split_plain(line, low, high, 7),
         (Transform::Reduced, Level::First) => split_first(line, low, high),
-        (Transform::Reduced, _) => split_later(line, low, high),
+        (Transform::Reduced, Level::Second) => split_later(line, low, high, 16),
+        (Transform::Reduced, Level::Third) => split_later(line, low, high, 8),
     }
 }

@@ -273,6 +273,103 @@ pub fn smooth(transform: Transform, out: &mut [i32], even: &[i32], before: &[i32
     }
 }
 
+/// Writes a row of the high half and the row of the low half beside it. The row before in the high half is known,
+/// and makes way for the new one: a row of its own, so that the compiler sees what is written apart from what is read.
+#[inline(always)]
+fn plain_divide(
+    even: &[i32],
+    odd: &[i32],
+    next: &[i32],
+    known: &mut [i32],
+    high: &mut [i32],
+    low: &mut [i32],
+)
+    requires odd_len { length odd.now ≡ length even.now }
+    requires next_len { length next.now ≡ length even.now }
+    requires known_len { length known.old ≡ length even.now }
+    requires high_len { length high.old ≡ length even.now }
+    requires low_len { length low.old ≡ length even.now }
+    requires even { AllWithin (2 ^ 28) even.now }
+    requires odd { AllWithin (2 ^ 28) odd.now }
+    requires next { AllWithin (2 ^ 28) next.now }
+    requires known { AllWithin (2 ^ 28) known.old }
+    ensures known { (k : ℕ) → k < length even.now → at known.new k ≡ high_of Plain (at odd.now k) (at even.now k) (at next.now k) }
+    ensures highs { (k : ℕ) → k < length even.now → at high.new k ≡ high_of Plain (at odd.now k) (at even.now k) (at next.now k) }
+    ensures lows { (k : ℕ) → k < length even.now → at low.new k ≡ low_of Plain (at even.now k) (at known.old k) (high_of Plain (at odd.now k) (at even.now k) (at next.now k)) }
+{
+    for k in 0..even.len() {
+        let sample = even[k];
+        let before = known[k];
+        let here = plain_high(odd[k], sample, next[k]);
+        known[k] = here;
+        high[k] = here;
+        low[k] = plain_low(sample, before, here);
+    }
+}
+
+/// Writes a row of the high half and the row of the low half beside it. The row before in the high half is known,
+/// and makes way for the new one: a row of its own, so that the compiler sees what is written apart from what is read.
+#[inline(always)]
+fn reduced_divide(
+    even: &[i32],
+    odd: &[i32],
+    next: &[i32],
+    known: &mut [i32],
+    high: &mut [i32],
+    low: &mut [i32],
+)
+    requires odd_len { length odd.now ≡ length even.now }
+    requires next_len { length next.now ≡ length even.now }
+    requires known_len { length known.old ≡ length even.now }
+    requires high_len { length high.old ≡ length even.now }
+    requires low_len { length low.old ≡ length even.now }
+    requires even { AllWithin (2 ^ 28) even.now }
+    requires odd { AllWithin (2 ^ 28) odd.now }
+    requires next { AllWithin (2 ^ 28) next.now }
+    requires known { AllWithin (2 ^ 28) known.old }
+    ensures known { (k : ℕ) → k < length even.now → at known.new k ≡ high_of Reduced (at odd.now k) (at even.now k) (at next.now k) }
+    ensures highs { (k : ℕ) → k < length even.now → at high.new k ≡ high_of Reduced (at odd.now k) (at even.now k) (at next.now k) }
+    ensures lows { (k : ℕ) → k < length even.now → at low.new k ≡ low_of Reduced (at even.now k) (at known.old k) (high_of Reduced (at odd.now k) (at even.now k) (at next.now k)) }
+{
+    for k in 0..even.len() {
+        let sample = even[k];
+        let before = known[k];
+        let here = reduced_high(odd[k], sample, next[k]);
+        known[k] = here;
+        high[k] = here;
+        low[k] = reduced_low(sample, before, here);
+    }
+}
+
+#[inline(always)]
+pub fn divide(
+    transform: Transform,
+    even: &[i32],
+    odd: &[i32],
+    next: &[i32],
+    known: &mut [i32],
+    high: &mut [i32],
+    low: &mut [i32],
+)
+    requires odd_len { length odd.now ≡ length even.now }
+    requires next_len { length next.now ≡ length even.now }
+    requires known_len { length known.old ≡ length even.now }
+    requires high_len { length high.old ≡ length even.now }
+    requires low_len { length low.old ≡ length even.now }
+    requires even { AllWithin (2 ^ 28) even.now }
+    requires odd { AllWithin (2 ^ 28) odd.now }
+    requires next { AllWithin (2 ^ 28) next.now }
+    requires known { AllWithin (2 ^ 28) known.old }
+    ensures known { (k : ℕ) → k < length even.now → at known.new k ≡ high_of transform (at odd.now k) (at even.now k) (at next.now k) }
+    ensures highs { (k : ℕ) → k < length even.now → at high.new k ≡ high_of transform (at odd.now k) (at even.now k) (at next.now k) }
+    ensures lows { (k : ℕ) → k < length even.now → at low.new k ≡ low_of transform (at even.now k) (at known.old k) (high_of transform (at odd.now k) (at even.now k) (at next.now k)) }
+{
+    match transform {
+        Transform::Plain => plain_divide(even, odd, next, known, high, low),
+        Transform::Reduced => reduced_divide(even, odd, next, known, high, low),
+    }
+}
+
 /// Writes the row behind two neighbouring rows, in straight lines with them.
 pub fn extend(out: &mut [i32], before: &[i32], last: &[i32])
     requires before_len { length before.now ≡ length out.old }

@@ -1,4 +1,4 @@
-ghost use Rattle.std.specs.Prelude.{◌≡◌, ℕ, ◌+◌, ◌-◌, ◌*◌, ◌<◌, ◌≤◌, ◌^◌, length};
+ghost use Rattle.std.specs.Prelude.{◌≡◌, ℕ, ◌+◌, ◌-◌, ◌*◌, ◌<◌, ◌≤◌, ◌^◌, length, min};
 ghost use Rattle.gfx_dwt.specs.Joining.{edged};
 ghost use Rattle.gfx_dwt.specs.Lifting.{low_of};
 ghost use Rattle.gfx_dwt.specs.Place.{high_size, line_size, low_size};
@@ -8,7 +8,7 @@ ghost use Rattle.gfx_dwt.specs.Splitting.{evens, grows, high_half, low_half};
 
 use crate::grid::{edge_row, row};
 use crate::halves::split_line;
-use crate::kernels::{differ, extend, smooth};
+use crate::kernels::{differ, divide, extend, smooth};
 use crate::layout::{Level, Transform};
 
 /// Splits each row of a half plane into its quarters.
@@ -97,7 +97,95 @@ fn low_row(
     }
 }
 
-/// Splits each column of a plane into its halves.
+/// Writes a row of the high half of a plane and the row of the low half beside it.
+#[inline(always)]
+fn split_pair(
+    transform: Transform,
+    level: Level,
+    source: &[i32],
+    index: usize,
+    next: usize,
+    known: &mut [i32],
+    low: &mut [i32],
+    high: &mut [i32],
+    width: usize,
+)
+    requires width { width ≡ line_size transform level }
+    requires index { index < high_size transform level }
+    requires next { next ≡ min (index + 1) (low_size transform level - 1) }
+    requires source_len { length source.now ≡ width * width }
+    requires known_len { length known.old ≡ width }
+    requires low_len { length low.old ≡ width }
+    requires high_len { length high.old ≡ width }
+    requires source { AllWithin (2 ^ 26) source.now }
+    requires known { (c : ℕ) → c < width → at known.old c ≡ high_half transform level (column width source.now c) (index - 1) }
+    ensures known { (c : ℕ) → c < width → at known.new c ≡ high_half transform level (column width source.now c) index }
+    ensures lows { (c : ℕ) → c < width → at low.new c ≡ low_half transform level (column width source.now c) index }
+    ensures highs { (c : ℕ) → c < width → at high.new c ≡ high_half transform level (column width source.now c) index }
+{
+    divide(
+        transform,
+        row(source, width, 2 * index),
+        row(source, width, 2 * index + 1),
+        row(source, width, 2 * next),
+        known,
+        high,
+        low,
+    );
+}
+
+/// Writes all rows of the high half of a plane, and the rows of the low half beside them.
+fn split_pairs(
+    transform: Transform,
+    level: Level,
+    source: &[i32],
+    low: &mut [i32],
+    high: &mut [i32],
+    width: usize,
+)
+    requires width { width ≡ line_size transform level }
+    requires source_len { length source.now ≡ width * width }
+    requires low_len { length low.old ≡ low_size transform level * width }
+    requires high_len { length high.old ≡ high_size transform level * width }
+    requires source { AllWithin (2 ^ 26) source.now }
+    ensures lows { (r x : ℕ) → r < high_size transform level → x < width → cell width low.new r x ≡ low_half transform level (column width source.now x) r }
+    ensures highs { (r x : ℕ) → r < high_size transform level → x < width → cell width high.new r x ≡ high_half transform level (column width source.now x) r }
+{
+    let mut room = [0; 64];
+    let known = &mut room[..width];
+    high_row(transform, level, source, 0, known, width);
+    let last = level.high_size(transform) - 1;
+    // The last pair stands alone, since behind it the next even row is not always two rows on.
+    'pairs: for r in 0..last {
+        let start = r * width;
+        split_pair(
+            transform,
+            level,
+            source,
+            r,
+            r + 1,
+            known,
+            &mut low[start..start + width],
+            &mut high[start..start + width],
+            width,
+        );
+    }
+    let next = (last + 1).min(level.low_size(transform) - 1);
+    let start = last * width;
+    split_pair(
+        transform,
+        level,
+        source,
+        last,
+        next,
+        known,
+        &mut low[start..start + width],
+        &mut high[start..start + width],
+        width,
+    );
+}
+
+/// Splits each column of a plane into its halves, row by row over whole rows.
 pub fn split_columns(
     transform: Transform,
     level: Level,
@@ -116,8 +204,8 @@ pub fn split_columns(
     ensures low_within { (bound : ℕ) → AllWithin bound source.now → AllWithin (grows transform level * bound) low.new }
     ensures high_within { (bound : ℕ) → AllWithin bound source.now → AllWithin bound high.new }
 {
-    high_rows(transform, level, source, high, width);
-    'lows: for r in 0..level.low_size(transform) {
+    split_pairs(transform, level, source, low, high, width);
+    'lows: for r in level.high_size(transform)..level.low_size(transform) {
         let start = r * width;
         low_row(
             transform,
@@ -126,28 +214,6 @@ pub fn split_columns(
             high,
             r,
             &mut low[start..start + width],
-            width,
-        );
-    }
-}
-
-/// Writes all rows of the high half of a plane.
-fn high_rows(transform: Transform, level: Level, source: &[i32], high: &mut [i32], width: usize)
-    requires width { width ≡ line_size transform level }
-    requires source_len { length source.now ≡ width * width }
-    requires high_len { length high.old ≡ high_size transform level * width }
-    requires source { AllWithin (2 ^ 26) source.now }
-    ensures each { (r x : ℕ) → r < high_size transform level → x < width → cell width high.new r x ≡ high_half transform level (column width source.now x) r }
-    ensures within { (bound : ℕ) → AllWithin bound source.now → AllWithin bound high.new }
-{
-    'highs: for r in 0..level.high_size(transform) {
-        let start = r * width;
-        high_row(
-            transform,
-            level,
-            source,
-            r,
-            &mut high[start..start + width],
             width,
         );
     }

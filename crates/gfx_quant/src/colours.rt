@@ -139,33 +139,6 @@ pub fn to_colours(y: &[i32; 4096], cb: &[i32; 4096], cr: &[i32; 4096], out: &mut
     }
 }
 
-fn lumas(pixels: &[Pixel; 4096], y: &mut [i32; 4096])
-    ensures value { EachIs luma pixels.now y.new }
-    ensures small { AllSamples y.new }
-{
-    for place in 0..4096 {
-        y[place] = luma_of(pixels[place]);
-    }
-}
-
-fn blue_chromas(pixels: &[Pixel; 4096], cb: &mut [i32; 4096])
-    ensures value { EachIs chroma_blue pixels.now cb.new }
-    ensures small { AllSamples cb.new }
-{
-    for place in 0..4096 {
-        cb[place] = chroma_blue_of(pixels[place]);
-    }
-}
-
-fn red_chromas(pixels: &[Pixel; 4096], cr: &mut [i32; 4096])
-    ensures value { EachIs chroma_red pixels.now cr.new }
-    ensures small { AllSamples cr.new }
-{
-    for place in 0..4096 {
-        cr[place] = chroma_red_of(pixels[place]);
-    }
-}
-
 /// The samples of a tile's pixels, each as `from_colour` gives it.
 pub fn from_colours(
     pixels: &[Pixel; 4096],
@@ -180,7 +153,10 @@ pub fn from_colours(
     ensures cb { AllSamples cb.new }
     ensures cr { AllSamples cr.new }
 {
-    lumas(pixels, y);
-    blue_chromas(pixels, cb);
-    red_chromas(pixels, cr);
+    for place in 0..4096 {
+        let pixel = pixels[place];
+        y[place] = luma_of(pixel);
+        cb[place] = chroma_blue_of(pixel);
+        cr[place] = chroma_red_of(pixel);
+    }
 }

@@ -7,6 +7,7 @@ use Rattle.gfx_dwt.proofs.halves.reduced_halves.Given as goal
 
 abbrev pub invariant-loop-k : goal.invariant-loop-k
 invariant-loop-k l = record {
+  even : l.even ≡ at l.line (2 * l.k);
   last : l.before ≡ differed Reduced (at l.line) (l.k - 1);
   small : Within (2 ^ 28) l.before;
   lows : (j : ℕ) → j < l.k → at l.low j ≡ low_of Reduced (at l.line (2 * j)) (differed Reduced (at l.line) (j - 1)) (differed Reduced (at l.line) j);

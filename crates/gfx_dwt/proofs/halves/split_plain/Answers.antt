@@ -1,5 +1,6 @@
-use Rattle.std.proofs.Common.{◌≡◌, ◌^◌, ◌+◌, ◌-◌, ◌*◌, ◌∙◌, sym, length, to_z, of_z, w32, lit<, arith}
+use Rattle.std.proofs.Common.{◌≡◌, ◌^◌, ◌+◌, ◌-◌, ◌*◌, ◌∙◌, sym, to_z, of_z, w32, lit<, arith}
 use Rattle.gfx_dwt.specs.declared.layout.Transform.TheVariants.{Plain}
+use Rattle.gfx_dwt.specs.Place.{high_size}
 use Rattle.gfx_dwt.specs.Lifting.{high_of, low_of}
 use Rattle.gfx_dwt.specs.Ranges.{at}
 use Rattle.gfx_dwt.specs.Splitting.{differed, high_half, low_half}
@@ -13,14 +14,13 @@ pub returns-clause-highs : goal.returns-clause-highs
 returns-clause-highs c = λ l e k h.
     let same = plain_same l in
     let line = at c.args.line.now in
-    let m = length c.args.high.now in
-    let end = m - 1 in
-    let one : end + 1 ≡ m = omega arith in
+    let end = c.args.end in
+    let size : end ≡ high_size Plain l - 1 = omega (arith, e, c.requires.end) in
     let halves = c.plain_halves-before in
     let e0 = bits_of_within (2 ^ 28) _ (lit< tt) (c.requires.line (2 * end) (omega arith)) in
     let e1 = bits_of_within (2 ^ 28) _ (lit< tt) (c.requires.line (2 * end + 1) (omega arith)) in
     let value : c.plain_high-here.result ≡ high_of Plain (line (2 * end + 1)) (line (2 * end)) (line (2 * end)) = cc (c.plain_high-here.ensures.value, e0, e1) in
-    let last : c.plain_high-here.result ≡ high_half Plain l line end = value ∙ rw e (sym (high_last_plain l line)) in
+    let last : c.plain_high-here.result ≡ high_half Plain l line end = value ∙ rw size (sym (high_last_plain l line)) in
     put_next halves.new.high (high_half Plain l line) end _ (omega arith) (bits_of_small _ c.plain_high-here.type_inv ∙ last)
     (λ j p. halves.ensures.highs j p ∙ sym (high_inside Plain l line j (omega arith))) k (omega arith)
 
@@ -28,16 +28,16 @@ pub returns-clause-lows : goal.returns-clause-lows
 returns-clause-lows c = λ l e k h.
     let same = plain_same l in
     let line = at c.args.line.now in
-    let m = length c.args.high.now in
-    let end = m - 1 in
+    let end = c.args.end in
+    let size : end ≡ high_size Plain l - 1 = omega (arith, e, c.requires.end) in
     let halves = c.plain_halves-before in
     let e0 = bits_of_within (2 ^ 28) _ (lit< tt) (c.requires.line (2 * end) (omega arith)) in
     let e1 = bits_of_within (2 ^ 28) _ (lit< tt) (c.requires.line (2 * end + 1) (omega arith)) in
     let here : to_z w32 (of_z w32 c.plain_high-here.result) ≡ c.plain_high-here.result = bits_of_small _ c.plain_high-here.type_inv in
     let before : to_z w32 (of_z w32 halves.result) ≡ halves.result = bits_of_small _ halves.type_inv in
     let value : c.plain_high-here.result ≡ high_of Plain (line (2 * end + 1)) (line (2 * end)) (line (2 * end)) = cc (c.plain_high-here.ensures.value, e0, e1) in
-    let last : c.plain_high-here.result ≡ high_half Plain l line end = value ∙ rw e (sym (high_last_plain l line)) in
+    let last : c.plain_high-here.result ≡ high_half Plain l line end = value ∙ rw size (sym (high_last_plain l line)) in
     let low : c.plain_low.result ≡ low_of Plain (line (2 * end)) (differed Plain line (end - 1)) (high_half Plain l line end) = cc (c.plain_low.ensures, e0, here, before, last, halves.ensures.last) in
-    let is_low : c.plain_low.result ≡ low_half Plain l line end = low ∙ rw e (sym (low_last_plain l line)) in
+    let is_low : c.plain_low.result ≡ low_half Plain l line end = low ∙ rw size (sym (low_last_plain l line)) in
     put_next halves.new.low (low_half Plain l line) end _ (omega arith) (bits_of_small _ c.plain_low.type_inv ∙ is_low)
     (λ j p. halves.ensures.lows j p ∙ sym (low_between Plain l line j (omega arith))) k (omega arith)

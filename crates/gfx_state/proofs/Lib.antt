@@ -3,3 +3,4 @@ pub mod Payloads
 pub mod Moves
 pub mod NextMoves
 pub mod Weights
+pub mod Sent

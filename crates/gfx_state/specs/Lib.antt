@@ -4,3 +4,4 @@ pub mod Payload
 pub mod Run
 pub mod Cursor
 pub mod Codes
+pub mod Sending

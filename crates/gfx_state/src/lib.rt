@@ -7,4 +7,6 @@
 
 mod laws;
 
-pub use laws::{pieces_are_the_whole, refusals_stay, steps_keep_the_run};
+pub use laws::{
+    pieces_are_the_whole, refusals_stay, sent_messages_are_their_steps, steps_keep_the_run,
+};

@@ -21,8 +21,8 @@ use Rattle.gfx_client.specs.declared.fault.ClientFault.{ClientFault}
 use Rattle.gfx_client.specs.declared.fault.ClientFault.TheVariants as faults
 use Rattle.gfx_state.proofs.Moves.{next_short, needs_nothing, after_next_none, after_next_fewer, Reaches-opens, Reaches-takes, Reaches-none}
 use Rattle.gfx_client.specs.declared.client.Client.{Client}
-use Rattle.gfx_client.specs.declared.screen.Stepped.{Stepped}
-use Rattle.gfx_client.specs.declared.screen.Stepped.TheVariants as stepped
+use Rattle.gfx_client.specs.declared.stepped.Stepped.{Stepped}
+use Rattle.gfx_client.specs.declared.stepped.Stepped.TheVariants as stepped
 use Rattle.gfx_client.specs.Stepped.{stepped_by}
 use Rattle.gfx_client.specs.Client.{cursor_of, closed_by, TakesMessage, TakesOne, OpensMessage, OpensOne, Stays, IsAtPayloadEnd, Moves, MovesBy, Ends, Waits, Advances, Steps, end_of}
 

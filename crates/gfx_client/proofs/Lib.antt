@@ -1,2 +1,1 @@
-pub mod ScreenLemmas
 pub mod ClientLemmas

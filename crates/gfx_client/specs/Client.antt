@@ -12,8 +12,8 @@ use Rattle.gfx_state.specs.Cursor as cursor
 use Rattle.gfx_client.specs.declared.client.Client.{Client}
 use Rattle.gfx_client.specs.declared.fault.ClientFault.{ClientFault}
 use Rattle.gfx_client.specs.declared.fault.ClientFault.TheVariants.{Refused, Memory, ClosedRefused, ClosedMemory}
-use Rattle.gfx_client.specs.declared.screen.Stepped.{Stepped}
-use Rattle.gfx_client.specs.declared.screen.Stepped.TheVariants.{Applied, Ended, Need}
+use Rattle.gfx_client.specs.declared.stepped.Stepped.{Stepped}
+use Rattle.gfx_client.specs.declared.stepped.Stepped.TheVariants.{Applied, Ended, Need}
 use Rattle.gfx_client.specs.Stepped.{stepped_by}
 
 -- where a client is in its stream

@@ -4,9 +4,10 @@ ghost use Rattle.gfx_client.specs.Stepped.{stepped_by};
 
 use crate::fault::ClientFault;
 use crate::offer::{MOST_OFFERS, Offers};
-use crate::screen::{Screen, Stepped};
+use crate::stepped::Stepped;
 use gfx_base::{Bytes, Fault, NoMemory, Refusal};
 use gfx_pdu::{Pdu, read_pdu};
+use gfx_screen::Screen;
 use gfx_segment::Splitter;
 use gfx_surface_map::SurfaceMap;
 use std::alloc::Global;

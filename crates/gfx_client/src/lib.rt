@@ -8,12 +8,12 @@
 mod client;
 mod fault;
 mod offer;
-mod screen;
+mod stepped;
 
 pub use client::Client;
 pub use fault::ClientFault;
 pub use offer::{MOST_OFFERS, Offer, Offers};
-pub use screen::Stepped;
+pub use stepped::Stepped;
 
 #[cfg(test)]
 mod tests;

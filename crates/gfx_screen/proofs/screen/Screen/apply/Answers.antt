@@ -1,6 +1,6 @@
 use Rattle.std.proofs.Common.{refl}
-use Rattle.gfx_client.proofs.ScreenLemmas.{step_unknown, no_effect}
-use Rattle.gfx_client.proofs.screen.Screen.apply.Goals as goal
+use Rattle.gfx_screen.proofs.ScreenLemmas.{step_unknown, no_effect}
+use Rattle.gfx_screen.proofs.screen.Screen.apply.Goals as goal
 
 pub returns-in_default : goal.returns-in_default
 returns-in_default c =

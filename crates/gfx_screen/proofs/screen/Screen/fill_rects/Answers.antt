@@ -2,8 +2,8 @@ use Rattle.std.proofs.Common.{◌≡◌, true, Some, sym, rules}
 use Rattle.std.specs.List.{list_all}
 use Rattle.std.specs.FinMap.{get}
 use Rattle.gfx_base.specs.Geometry.{lies_in}
-use Rattle.gfx_client.proofs.ScreenLemmas.{rects_filled_all}
-use Rattle.gfx_client.proofs.screen.Screen.fill_rects.Goals as goal
+use Rattle.gfx_screen.proofs.ScreenLemmas.{rects_filled_all}
+use Rattle.gfx_screen.proofs.screen.Screen.fill_rects.Goals as goal
 
 pub returns : goal.returns
 returns c =

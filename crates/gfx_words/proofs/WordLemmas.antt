@@ -13,10 +13,10 @@ use Rattle.clap.specs.declared.error.kind.ErrorKind.{ErrorKind}
 use Rattle.clap.specs.declared.error.kind.ErrorKind.TheVariants as kind
 use Rattle.gfx_words.specs.CommandLine.{accepted, command_line, command_matched, output_rule}
 use Rattle.clap.proofs.OnLiterals.{clap_on_literals}
-use Rattle.gfx_words.specs.Laws.{IsNameAlone, OnlyRenderIsRender}
-use Rattle.gfx_words.specs.Table.{plain_command}
+use Rattle.gfx_words.specs.Laws.{IsNameAlone, OnlyNameIsCommand, OnlyNamesAreCommands}
+use Rattle.gfx_words.specs.Table.{command_named, plain_command}
 use Rattle.gfx_words.specs.declared.table.Command.{Command}
-use Rattle.gfx_words.specs.declared.table.Command.TheVariants.{Render}
+use Rattle.gfx_words.specs.declared.table.Command.TheVariants.{Encode, Render}
 
 -- ---- the walk as an answer
 
@@ -166,54 +166,55 @@ read_behind h p word = (refl, refl)
 
 -- ---- what a list of words is
 
-abbrev Never : Walk → Type 0
-Never w = (words : List Text) → answer w words ≡ Some Render → ⊥
+abbrev Never : Command → Walk → Type 0
+Never c w = (words : List Text) → answer w words ≡ Some c → ⊥
 
-abbrev EndsWithout : Walk → Type 0
-EndsWithout w = answer w [] ≡ Some Render → ⊥
+abbrev EndsWithout : Command → Walk → Type 0
+EndsWithout c w = answer w [] ≡ Some c → ⊥
 
 -- what follows of the next word, by what it is
-next_word : (rows : List Row) (pending : Option (Text × List Text)) (p : ℕ) (word : Text) (rest : List Text) (G : Type 0)
-    → (word ≡ codes "--" → answer (marked (standing rows pending p)) rest ≡ Some Render → G)
-    → (flag_fault (standing rows pending p) ≡ [] → answer (flagged (standing rows pending p)) rest ≡ Some Render → G)
-    → (given_fault (standing rows pending p) ≡ [] → answer (given word (standing rows pending p)) rest ≡ Some Render → G)
-    → answer (standing rows pending p) (word ∷ rest) ≡ Some Render → G
-next_word rows pending p word rest G by_mark by_flag by_value is = go (read rows pending p word)
+next_word : (c : Command) (rows : List Row) (pending : Option (Text × List Text)) (p : ℕ) (word : Text) (rest : List Text) (G : Type 0)
+    → (word ≡ codes "--" → answer (marked (standing rows pending p)) rest ≡ Some c → G)
+    → (flag_fault (standing rows pending p) ≡ [] → answer (flagged (standing rows pending p)) rest ≡ Some c → G)
+    → (given_fault (standing rows pending p) ≡ [] → answer (given word (standing rows pending p)) rest ≡ Some c → G)
+    → answer (standing rows pending p) (word ∷ rest) ≡ Some c → G
+next_word c rows pending p word rest G by_mark by_flag by_value is = go (read rows pending p word)
   where
     go : Read (standing rows pending p) word → G
-    go (a_mark same none next) = by_mark same (step _ _ word rest _ Render none next is).1
-    go (a_flag fault next) = let s = step _ _ word rest _ Render fault next is in by_flag s.0 s.1
-    go (a_value fault next) = let s = step _ _ word rest _ Render fault next is in by_value s.0 s.1
-    go (refused some) = absurd (some (step _ _ word rest _ Render refl refl is).0)
+    go (a_mark same none next) = by_mark same (step _ _ word rest _ c none next is).1
+    go (a_flag fault next) = let s = step _ _ word rest _ c fault next is in by_flag s.0 s.1
+    go (a_value fault next) = let s = step _ _ word rest _ c fault next is in by_value s.0 s.1
+    go (refused some) = absurd (some (step _ _ word rest _ c refl refl is).0)
 
-none_is_render : None ≡ Some Render → ⊥
-none_is_render e = cc
+no_answer : (c : Command) → None ≡ Some c → ⊥
+no_answer c e = cc
 
 faultless : (k : ErrorKind) → k ∷ [] ≡ [] → ⊥
 faultless k e = cc
 
-next_behind : (h : Held) (p : ℕ) (word : Text) (rest : List Text) → answer (marked (at h p)) (word ∷ rest) ≡ Some Render
-    → (given_fault (marked (at h p)) ≡ []) × (answer (given word (marked (at h p))) rest ≡ Some Render)
-next_behind h p word rest is = step _ _ word rest _ Render (read_behind h p word).0 (read_behind h p word).1 is
+next_behind : (c : Command) (h : Held) (p : ℕ) (word : Text) (rest : List Text) → answer (marked (at h p)) (word ∷ rest) ≡ Some c
+    → (given_fault (marked (at h p)) ≡ []) × (answer (given word (marked (at h p))) rest ≡ Some c)
+next_behind c h p word rest is = step _ _ word rest _ c (read_behind h p word).0 (read_behind h p word).1 is
 
 -- behind the mark, with both places taken
-full_behind : (h : Held) → EndsWithout (marked (at h 3)) → Never (marked (at h 3))
-full_behind h end [] is = end is
-full_behind h end (word ∷ rest) is = faultless kind.UnknownArgument (next_behind h 3 word rest is).0
+full_behind : (c : Command) (h : Held) → EndsWithout c (marked (at h 3)) → Never c (marked (at h 3))
+full_behind c h end [] is = end is
+full_behind c h end (word ∷ rest) is = faultless kind.UnknownArgument (next_behind c h 3 word rest is).0
 
 -- and with one place left
-number_behind : (h : Held) → EndsWithout (marked (at h 2)) → ((word : Text) → EndsWithout (given word (marked (at h 2))))
-    → Never (marked (at h 2))
-number_behind h end more [] is = end is
-number_behind h end more (word ∷ rest) is =
-    full_behind (given word (marked (at h 2))).held (more word) rest (next_behind h 2 word rest is).1
+number_behind : (c : Command) (h : Held) → EndsWithout c (marked (at h 2))
+    → ((word : Text) → EndsWithout c (given word (marked (at h 2)))) → Never c (marked (at h 2))
+number_behind c h end more [] is = end is
+number_behind c h end more (word ∷ rest) is =
+    full_behind c (given word (marked (at h 2))).held (more word) rest (next_behind c h 2 word rest is).1
 
 -- and with both places left
-name_behind : (h : Held) → EndsWithout (marked (at h 1)) → ((a : Text) → EndsWithout (given a (marked (at h 1))))
-    → ((a b : Text) → EndsWithout (given b (given a (marked (at h 1))))) → Never (marked (at h 1))
-name_behind h end one two [] is = end is
-name_behind h end one two (a ∷ rest) is =
-    number_behind (given a (marked (at h 1))).held (one a) (two a) rest (next_behind h 1 a rest is).1
+name_behind : (c : Command) (h : Held) → EndsWithout c (marked (at h 1))
+    → ((a : Text) → EndsWithout c (given a (marked (at h 1))))
+    → ((a b : Text) → EndsWithout c (given b (given a (marked (at h 1))))) → Never c (marked (at h 1))
+name_behind c h end one two [] is = end is
+name_behind c h end one two (a ∷ rest) is =
+    number_behind c (given a (marked (at h 1))).held (one a) (two a) rest (next_behind c h 1 a rest is).1
 
 -- where the walk stands after the flag and some values, in the order that the names say
 abbrev start : Walk
@@ -229,109 +230,153 @@ abbrev name_number : Text → Text → Walk
 name_number a b = given b (given a start)
 
 -- where the flag stands and both places are taken, no word can follow but the mark
-full : (rows : List Row) (pending : Option (Text × List Text)) → EndsWithout (standing rows pending 3)
-    → EndsWithout (marked (standing rows pending 3)) → (flag_fault (standing rows pending 3) ≡ [] → ⊥)
-    → Never (standing rows pending 3)
-full rows pending end marked_end again [] is = end is
-full rows pending end marked_end again (word ∷ rest) is =
-    next_word rows pending 3 word rest ⊥ (λ _. full_behind (standing rows pending 3).held marked_end rest)
+full : (c : Command) (rows : List Row) (pending : Option (Text × List Text)) → EndsWithout c (standing rows pending 3)
+    → EndsWithout c (marked (standing rows pending 3)) → (flag_fault (standing rows pending 3) ≡ [] → ⊥)
+    → Never c (standing rows pending 3)
+full c rows pending end marked_end again [] is = end is
+full c rows pending end marked_end again (word ∷ rest) is =
+    next_word c rows pending 3 word rest ⊥ (λ _. full_behind c (standing rows pending 3).held marked_end rest)
     (λ fault _. again fault) (λ fault _. faultless kind.UnknownArgument fault) is
 
-never_name_flag_number : (a b : Text) → Never (given b (name_flag a))
-unfolding clap_on_literals
-never_name_flag_number a b = full (given b (name_flag a)).held.rows (given b (name_flag a)).held.pending
-    none_is_render none_is_render (faultless kind.ArgumentConflict)
+-- ---- a command that comes of its name alone
 
-never_flag_name_number : (a b : Text) → Never (given b (flag_name a))
-unfolding clap_on_literals
-never_flag_name_number a b = full (given b (flag_name a)).held.rows (given b (flag_name a)).held.pending
-    none_is_render none_is_render (faultless kind.ArgumentConflict)
+-- no row of the table with the flag is the command
+abbrev HasNoFlag : Command → Type 0
+HasNoFlag c = (a : Text) (number : Option Text) → command_named (Some a) true number ≡ Some c → ⊥
 
-never_name_number_flag : (a b : Text) → Never (flagged (name_number a b))
-unfolding clap_on_literals
-never_name_number_flag a b = full (flagged (name_number a b)).held.rows (flagged (name_number a b)).held.pending
-    none_is_render none_is_render (faultless kind.ArgumentConflict)
+-- no row with a number and no flag is the command
+abbrev HasNoNumber : Command → Type 0
+HasNoNumber c = (a b : Text) → command_named (Some a) false (Some b) ≡ Some c → ⊥
 
-never_name_flag : (a : Text) → Never (name_flag a)
-unfolding clap_on_literals
-never_name_flag a [] is = none_is_render is
-never_name_flag a (word ∷ rest) is =
-    next_word (name_flag a).held.rows (name_flag a).held.pending 2 word rest ⊥
-    (λ _. number_behind (name_flag a).held none_is_render (λ b. none_is_render) rest)
-    (λ fault _. faultless kind.ArgumentConflict fault) (λ _. never_name_flag_number a word rest) is
+-- the one name that is the command by itself
+abbrev IsOnlyName : Text → Command → Type 0
+IsOnlyName name c = (a : Text) → plain_command a ≡ Some c → a ≡ name
 
-never_flag_name : (a : Text) → Never (flag_name a)
+never_name_flag_number : (c : Command) → HasNoFlag c → (a b : Text) → Never c (given b (name_flag a))
 unfolding clap_on_literals
-never_flag_name a [] is = none_is_render is
-never_flag_name a (word ∷ rest) is =
-    next_word (flag_name a).held.rows (flag_name a).held.pending 2 word rest ⊥
-    (λ _. number_behind (flag_name a).held none_is_render (λ b. none_is_render) rest)
-    (λ fault _. faultless kind.ArgumentConflict fault) (λ _. never_flag_name_number a word rest) is
+never_name_flag_number c no_flag a b = full c (given b (name_flag a)).held.rows (given b (name_flag a)).held.pending
+    (no_flag a (Some b)) (no_flag a (Some b)) (faultless kind.ArgumentConflict)
 
-never_flag : Never (flagged start)
+never_flag_name_number : (c : Command) → HasNoFlag c → (a b : Text) → Never c (given b (flag_name a))
 unfolding clap_on_literals
-never_flag [] is = none_is_render is
-never_flag (word ∷ rest) is =
-    next_word (flagged start).held.rows (flagged start).held.pending 1 word rest ⊥
-    (λ _. name_behind (flagged start).held none_is_render (λ a. none_is_render) (λ a b. none_is_render) rest)
-    (λ fault _. faultless kind.ArgumentConflict fault) (λ _. never_flag_name word rest) is
+never_flag_name_number c no_flag a b = full c (given b (flag_name a)).held.rows (given b (flag_name a)).held.pending
+    (no_flag a (Some b)) (no_flag a (Some b)) (faultless kind.ArgumentConflict)
 
-never_name_number : (a b : Text) → Never (name_number a b)
+never_name_number_flag : (c : Command) → HasNoFlag c → (a b : Text) → Never c (flagged (name_number a b))
 unfolding clap_on_literals
-never_name_number a b [] is = none_is_render is
-never_name_number a b (word ∷ rest) is =
-    next_word (name_number a b).held.rows (name_number a b).held.pending 3 word rest ⊥
-    (λ _. full_behind (name_number a b).held none_is_render rest)
-    (λ _. never_name_number_flag a b rest) (λ fault _. faultless kind.UnknownArgument fault) is
+never_name_number_flag c no_flag a b = full c (flagged (name_number a b)).held.rows (flagged (name_number a b)).held.pending
+    (no_flag a (Some b)) (no_flag a (Some b)) (faultless kind.ArgumentConflict)
 
--- the one name that is this command
-render_named : (name : Text) → plain_command name ≡ Some Render → name ≡ codes "render"
-unfolding plain_command
-render_named name is = go (bytes_eq name (codes "render")) refl is
-  where
-    go : (b : Bool) → bytes_eq name (codes "render") ≡ b → (if b then Some Render else None) ≡ Some Render → name ≡ codes "render"
-    go true same e = (bytes_eq-Decides name (codes "render")).0 same
-    go false same e = absurd (none_is_render e)
+never_name_flag : (c : Command) → HasNoFlag c → (a : Text) → Never c (name_flag a)
+unfolding clap_on_literals
+never_name_flag c no_flag a [] is = no_flag a None is
+never_name_flag c no_flag a (word ∷ rest) is =
+    next_word c (name_flag a).held.rows (name_flag a).held.pending 2 word rest ⊥
+    (λ _. number_behind c (name_flag a).held (no_flag a None) (λ b. no_flag a (Some b)) rest)
+    (λ fault _. faultless kind.ArgumentConflict fault) (λ _. never_name_flag_number c no_flag a word rest) is
+
+never_flag_name : (c : Command) → HasNoFlag c → (a : Text) → Never c (flag_name a)
+unfolding clap_on_literals
+never_flag_name c no_flag a [] is = no_flag a None is
+never_flag_name c no_flag a (word ∷ rest) is =
+    next_word c (flag_name a).held.rows (flag_name a).held.pending 2 word rest ⊥
+    (λ _. number_behind c (flag_name a).held (no_flag a None) (λ b. no_flag a (Some b)) rest)
+    (λ fault _. faultless kind.ArgumentConflict fault) (λ _. never_flag_name_number c no_flag a word rest) is
+
+never_flag : (c : Command) → HasNoFlag c → Never c (flagged start)
+unfolding clap_on_literals
+never_flag c no_flag [] is = no_answer c is
+never_flag c no_flag (word ∷ rest) is =
+    next_word c (flagged start).held.rows (flagged start).held.pending 1 word rest ⊥
+    (λ _. name_behind c (flagged start).held (no_answer c) (λ a. no_flag a None) (λ a b. no_flag a (Some b)) rest)
+    (λ fault _. faultless kind.ArgumentConflict fault) (λ _. never_flag_name c no_flag word rest) is
+
+never_name_number : (c : Command) → HasNoFlag c → HasNoNumber c → (a b : Text) → Never c (name_number a b)
+unfolding clap_on_literals
+never_name_number c no_flag no_number a b [] is = no_number a b is
+never_name_number c no_flag no_number a b (word ∷ rest) is =
+    next_word c (name_number a b).held.rows (name_number a b).held.pending 3 word rest ⊥
+    (λ _. full_behind c (name_number a b).held (no_number a b) rest)
+    (λ _. never_name_number_flag c no_flag a b rest) (λ fault _. faultless kind.UnknownArgument fault) is
 
 -- behind a name and the mark no word can stand
-marked_name : (a : Text) (rest : List Text) → answer (marked (given a start)) rest ≡ Some Render
-    → (a ≡ codes "render") × (rest ≡ [])
+marked_name : (name : Text) (c : Command) → IsOnlyName name c → HasNoNumber c → (a : Text) (rest : List Text)
+    → answer (marked (given a start)) rest ≡ Some c → (a ≡ name) × (rest ≡ [])
 unfolding clap_on_literals
-marked_name a [] is = (render_named a is, refl)
-marked_name a (b ∷ rest) is = absurd (full_behind (given b (marked (given a start))).held none_is_render rest
-    (next_behind (given a start).held 2 b rest is).1)
+marked_name name c only no_number a [] is = (only a is, refl)
+marked_name name c only no_number a (b ∷ rest) is =
+    absurd (full_behind c (given b (marked (given a start))).held (no_number a b) rest
+    (next_behind c (given a start).held 2 b rest is).1)
 
-named_mark : (rest : List Text) → answer (marked start) rest ≡ Some Render → rest ≡ codes "render" ∷ []
+named_mark : (name : Text) (c : Command) → IsOnlyName name c → HasNoNumber c → (rest : List Text)
+    → answer (marked start) rest ≡ Some c → rest ≡ name ∷ []
 unfolding clap_on_literals
-named_mark [] is = absurd (none_is_render is)
-named_mark (a ∷ []) is = ap (λ (name : Text). name ∷ []) (render_named a (next_behind start.held 1 a [] is).1)
-named_mark (a ∷ b ∷ rest) is = absurd (full_behind (given b (given a (marked start))).held none_is_render rest
-    (next_behind (given a start).held 2 b rest (next_behind start.held 1 a (b ∷ rest) is).1).1)
+named_mark name c only no_number [] is = absurd (no_answer c is)
+named_mark name c only no_number (a ∷ []) is =
+    ap (λ (word : Text). word ∷ []) (only a (next_behind c start.held 1 a [] is).1)
+named_mark name c only no_number (a ∷ b ∷ rest) is =
+    absurd (full_behind c (given b (given a (marked start))).held (no_number a b) rest
+    (next_behind c (given a start).held 2 b rest (next_behind c start.held 1 a (b ∷ rest) is).1).1)
 
-named : (a : Text) (words : List Text) → answer (given a start) words ≡ Some Render
-    → IsNameAlone (codes "render") (a ∷ words)
+named : (name : Text) (c : Command) → IsOnlyName name c → HasNoFlag c → HasNoNumber c → (a : Text) (words : List Text)
+    → answer (given a start) words ≡ Some c → IsNameAlone name (a ∷ words)
 unfolding clap_on_literals
-named a [] is = inl (ap (λ (name : Text). name ∷ []) (render_named a is))
-named a (word ∷ rest) is =
-    next_word (given a start).held.rows (given a start).held.pending 2 word rest (IsNameAlone (codes "render") (a ∷ word ∷ rest))
-    (λ mark e. let m = marked_name a rest e in inr (inl (rw (m.0, mark, m.1) refl)))
-    (λ _ e. absurd (never_name_flag a rest e)) (λ _ e. absurd (never_name_number a word rest e)) is
+named name c only no_flag no_number a [] is = inl (ap (λ (word : Text). word ∷ []) (only a is))
+named name c only no_flag no_number a (word ∷ rest) is =
+    next_word c (given a start).held.rows (given a start).held.pending 2 word rest (IsNameAlone name (a ∷ word ∷ rest))
+    (λ mark e. let m = marked_name name c only no_number a rest e in inr (inl (rw (m.0, mark, m.1) refl)))
+    (λ _ e. absurd (never_name_flag c no_flag a rest e)) (λ _ e. absurd (never_name_number c no_flag no_number a word rest e)) is
 
-only_render : (words : List Text) → answer start words ≡ Some Render → IsNameAlone (codes "render") words
+only_name : (name : Text) (c : Command) → IsOnlyName name c → HasNoFlag c → HasNoNumber c → (words : List Text)
+    → answer start words ≡ Some c → IsNameAlone name words
 unfolding clap_on_literals
-only_render [] is = absurd (none_is_render is)
-only_render (word ∷ rest) is =
-    next_word [] None 1 word rest (IsNameAlone (codes "render") (word ∷ rest))
-    (λ mark e. inr (inr (rw (mark, named_mark rest e) refl)))
-    (λ _ e. absurd (never_flag rest e)) (λ _ e. named word rest e) is
+only_name name c only no_flag no_number [] is = absurd (no_answer c is)
+only_name name c only no_flag no_number (word ∷ rest) is =
+    next_word c [] None 1 word rest (IsNameAlone name (word ∷ rest))
+    (λ mark e. inr (inr (rw (mark, named_mark name c only no_number rest e) refl)))
+    (λ _ e. absurd (never_flag c no_flag rest e)) (λ _ e. named name c only no_flag no_number word rest e) is
 
-render_alone : (words : List Text) → IsNameAlone (codes "render") words → accepted words ≡ Some Render
+-- the name is the command, however the mark stands beside it
+abbrev IsTaken : Text → Command → Type 0
+IsTaken name c = (accepted (name ∷ []) ≡ Some c)
+    × ((accepted (name ∷ codes "--" ∷ []) ≡ Some c) × (accepted (codes "--" ∷ name ∷ []) ≡ Some c))
+
+name_alone : (name : Text) (c : Command) → IsTaken name c → (words : List Text) → IsNameAlone name words → accepted words ≡ Some c
+name_alone name c taken words (inl alone) = rw alone taken.0
+name_alone name c taken words (inr (inl before)) = rw before taken.1.0
+name_alone name c taken words (inr (inr behind)) = rw behind taken.1.1
+
+only_name_is_command : (name : Text) (c : Command) → IsOnlyName name c → HasNoFlag c → HasNoNumber c → IsTaken name c
+    → OnlyNameIsCommand name c
+only_name_is_command name c only no_flag no_number taken words =
+    ((λ is. only_name name c only no_flag no_number words (sym (accepted-answer words) ∙ is)), name_alone name c taken words)
+
+-- ---- the table
+
+-- the name of each command
+abbrev name_of : Command → Text
+name_of Encode = codes "encode"
+name_of Render = codes "render"
+
+only_in_table : (c : Command) → IsOnlyName (name_of c) c
+unfolding plain_command
+only_in_table c a is = by_encode c (bytes_eq a (codes "encode")) refl is
+  where
+    by_render : (c : Command) (b : Bool) → bytes_eq a (codes "render") ≡ b → (if b then Some Render else None) ≡ Some c → a ≡ name_of c
+    by_render Render true same e = (bytes_eq-Decides a (codes "render")).0 same
+    by_render Encode true same e = let bad : Some Render ≡ Some Encode = e in cc
+    by_render c false same e = absurd (no_answer c e)
+
+    by_encode : (c : Command) (b : Bool) → bytes_eq a (codes "encode") ≡ b
+        → (if b then Some Encode else if bytes_eq a (codes "render") then Some Render else None) ≡ Some c → a ≡ name_of c
+    by_encode Encode true same e = (bytes_eq-Decides a (codes "encode")).0 same
+    by_encode Render true same e = let bad : Some Encode ≡ Some Render = e in cc
+    by_encode c false same e = by_render c (bytes_eq a (codes "render")) refl e
+
+by_name : (c : Command) → IsTaken (name_of c) c → OnlyNameIsCommand (name_of c) c
+by_name c = only_name_is_command (name_of c) c (only_in_table c) (λ a number. no_answer c) (λ a b. no_answer c)
+
+-- the words that are a command of a name alone
+pub only_names_are_commands : OnlyNamesAreCommands
 unfolding clap_on_literals accepted plain_command
-render_alone words (inl alone) = rw alone refl
-render_alone words (inr (inl before)) = rw before refl
-render_alone words (inr (inr behind)) = rw behind refl
-
--- the words that are `render`
-pub only_render_is_render : OnlyRenderIsRender
-only_render_is_render words =
-    ((λ is. only_render words (sym (accepted-answer words) ∙ is)), render_alone words)
+only_names_are_commands = (by_name Encode (refl, (refl, refl)), by_name Render (refl, (refl, refl)))

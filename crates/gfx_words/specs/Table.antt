@@ -2,11 +2,12 @@
 use Rattle.std.specs.Prelude.{ℕ, Bool, false, List, Option, Some, None, codes, if◌then◌else◌}
 use Rattle.std.specs.Str.{bytes_eq}
 use Rattle.gfx_words.specs.declared.table.Command.{Command}
-use Rattle.gfx_words.specs.declared.table.Command.TheVariants.{Render}
+use Rattle.gfx_words.specs.declared.table.Command.TheVariants.{Encode, Render}
 
 -- the command, of those that are built, that a name alone is
 unfoldable pub plain_command : List ℕ → Option Command
-plain_command name = if bytes_eq name (codes "render") then Some Render else None
+plain_command name = if bytes_eq name (codes "encode") then Some Encode
+    else if bytes_eq name (codes "render") then Some Render else None
 
 -- the command that a name, the flag `--output` and a number make
 abbrev pub command_named : Option (List ℕ) → Bool → Option (List ℕ) → Option Command

@@ -6,7 +6,7 @@ mod laws;
 mod line;
 mod table;
 
-pub use laws::only_render_is_render;
+pub use laws::only_their_names_are_commands;
 pub use line::command_of;
 pub use table::{Command, USAGE};
 

@@ -9,6 +9,8 @@ pub const USAGE: &str =
 /// A command of `gfxpipe`, of those that are built.
 #[derive(Clone, Copy, Debug, PartialEq, Eq)]
 pub enum Command {
+    /// Reads a script and writes its stream of channel messages.
+    Encode,
     /// Reads a stream of channel messages and writes the pixels of all its surfaces.
     Render,
 }
@@ -33,6 +35,7 @@ fn plain_command(name: &str) -> Option<Command>
     ensures { result ≡ plain_command name.now }
 {
     match name {
+        "encode" => Some(Command::Encode),
         "render" => Some(Command::Render),
         _ => None,
     }

@@ -2,11 +2,15 @@ use crate::{Command, USAGE, command_of};
 use std::test::Fail;
 
 // Which of these word lists are a command at all is what a reference implementation of the whole
-// table answers. Of those, only `render` is built here.
+// table answers. Of those, `encode` and `render` are built here.
 #[test]
 fn the_words_of_each_command(rt: HostRuntime) -> Result<(), Fail> {
+    let encode = Some(Command::Encode);
     let render = Some(Command::Render);
-    let table: [(&[&str], Option<Command>); 31] = [
+    let table: [(&[&str], Option<Command>); 41] = [
+        (&["encode"], encode),
+        (&["encode", "--"], encode),
+        (&["--", "encode"], encode),
         (&["render"], render),
         (&["render", "--"], render),
         (&["--", "render"], render),
@@ -38,6 +42,13 @@ fn the_words_of_each_command(rt: HostRuntime) -> Result<(), Fail> {
         (&["ren"], None),
         (&["--output"], None),
         (&["render", "extra", "more"], None),
+        (&["encode", "1"], None),
+        (&["encode", "--output"], None),
+        (&["--output", "encode"], None),
+        (&["encode", "encode"], None),
+        (&["encode", "render"], None),
+        (&["--", "encode", "--"], None),
+        (&["Encode"], None),
     ];
     for (words, command) in table {
         assert!(rt; command_of(rt.alloc(), words)? == command, "{words:?}");
@@ -48,10 +59,9 @@ fn the_words_of_each_command(rt: HostRuntime) -> Result<(), Fail> {
 // Words of the whole table whose commands are not built yet.
 #[test]
 fn commands_that_are_not_built(rt: HostRuntime) -> Result<(), Fail> {
-    let table: [&[&str]; 7] = [
+    let table: [&[&str]; 6] = [
         &["render", "--output"],
         &["--output", "render"],
-        &["encode"],
         &["audit"],
         &["session"],
         &["make", "1"],

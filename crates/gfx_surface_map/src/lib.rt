@@ -9,7 +9,7 @@ mod scan;
 mod size;
 
 pub use map::SurfaceMap;
-pub use size::fits_size;
+pub use size::{count_cells, fits_size};
 
 /// The side of a cell, in pixels ([MS-RDPRFX] cuts a surface into tiles of this side).
 pub const CELL_SIDE: u16 = 64;

@@ -25,6 +25,13 @@ fn sides_have_a_range(rt: HostRuntime) {
 }
 
 #[test]
+fn cells_of_sides(rt: HostRuntime) {
+    for (width, height, cells) in [(1, 1, 1), (64, 64, 1), (65, 64, 2), (8192, 8192, 16384)] {
+        assert_eq!(rt; count_cells(width, height), cells);
+    }
+}
+
+#[test]
 fn refusals_come_in_their_order(rt: HostRuntime) -> Result<(), Fail> {
     let mut surfaces = SurfaceMap::new(rt.alloc());
     surfaces.create(rt.alloc(), 1, 1, 1, Format::Xrgb)?;

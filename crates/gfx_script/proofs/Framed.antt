@@ -1,0 +1,35 @@
+-- A script's last step, from the front and from the end.
+use Rattle.std.proofs.Common.{◌≡◌, suc, ◌-◌, Bool, true, false, List, [], ◌∷◌, length, Option, Some, None, refl, sym, ap, ◌∙◌, arith}
+use Rattle.std.specs.List.{slice_get}
+use Rattle.gfx_script.specs.declared.step.Step.{Step}
+use Rattle.gfx_script.specs.declared.step.Step.TheVariants.{Surface, Fill, Frame}
+use Rattle.gfx_script.specs.Script.{is_framed}
+
+-- a last step, where there is one, is a frame
+abbrev pub ends_framed : Option Step → Bool
+ends_framed None = true
+ends_framed (Some Frame) = true
+ends_framed (Some (Surface id width height format)) = false
+ends_framed (Some (Fill id colour rects)) = false
+
+more_steps : (step next : Step) (steps : List Step) → is_framed (step ∷ next ∷ steps) ≡ is_framed (next ∷ steps)
+more_steps (Surface id width height format) next steps = refl
+more_steps (Fill id colour rects) next steps = refl
+more_steps Frame next steps = refl
+
+pub framed_by_last : (steps : List Step) → is_framed steps ≡ ends_framed (slice_get steps (length steps - 1))
+framed_by_last [] = refl
+framed_by_last (Surface id width height format ∷ []) = refl
+framed_by_last (Fill id colour rects ∷ []) = refl
+framed_by_last (Frame ∷ []) = refl
+framed_by_last (step ∷ next ∷ steps) =
+    let place : length (step ∷ next ∷ steps) - 1 ≡ suc (length (next ∷ steps) - 1) = omega arith in
+    rw place (more_steps step next steps ∙ framed_by_last (next ∷ steps))
+
+pub framed_last : (steps : List Step) (step : Step) → Some step ≡ slice_get steps (length steps - 1) → is_framed steps ≡ ends_framed (Some step)
+framed_last steps step is = framed_by_last steps ∙ ap ends_framed (sym is)
+
+pub not_frame : (step : Step) → (step ≡ Frame → ⊥) → ends_framed (Some step) ≡ false
+not_frame (Surface id width height format) other = refl
+not_frame (Fill id colour rects) other = refl
+not_frame Frame other = absurd (other refl)

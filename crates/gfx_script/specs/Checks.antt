@@ -1,0 +1,68 @@
+-- What each step needs of the steps before it: this project's own rule. The limits are those of the
+-- surfaces that the steps make.
+use Rattle.std.specs.Prelude.{ℕ, ◌+◌, Bool, ◌&&◌, not, nat_le, nat_lt, List, [], ◌∷◌, Result, Ok}
+use Rattle.std.specs.List.{list_all}
+use Rattle.std.specs.Option.{ok_or}
+use Rattle.std.specs.Ordering.{nat_cmp}
+use Rattle.std.specs.FinMap as finmap
+use Rattle.std.specs.FinMap.{FinMap}
+use Rattle.gfx_base.specs.declared.geometry.Rect.{Rect}
+use Rattle.gfx_base.specs.Geometry.{lies_in}
+use Rattle.gfx_base.specs.Results.{◌>>=◌, check}
+use Rattle.gfx_surface_map.specs.declared.TheConstants.{MOST_SURFACES, MOST_CELLS}
+use Rattle.gfx_surface_map.specs.Surfaces.{cells}
+pub use Rattle.gfx_script.specs.declared.held.Sides.{Sides}
+use Rattle.gfx_script.specs.declared.error.ScriptKind.{ScriptKind}
+use Rattle.gfx_script.specs.declared.error.ScriptKind.TheVariants.{SurfacePresent, CellBudget, SurfaceAbsent, Outside}
+use Rattle.gfx_script.specs.declared.step.Step.{Step}
+use Rattle.gfx_script.specs.declared.step.Step.TheVariants.{Surface, Fill, Frame}
+
+-- what the steps so far have left, as far as later ones are checked against it
+pub record Held : Type 0 where
+  -- the sides of the surfaces, by their ids
+  pub sides : FinMap nat_cmp Sides
+  -- how many cells the surfaces have together
+  pub cells : ℕ
+
+-- before the first step
+abbrev pub nothing_held : Held
+nothing_held = record { sides = finmap.empty; cells = 0 }
+
+-- one more surface of these sides is within both limits
+abbrev pub has_room : Held → ℕ → ℕ → Bool
+has_room held width height =
+    nat_lt (finmap.len held.sides) MOST_SURFACES && nat_le (held.cells + cells width height) MOST_CELLS
+
+-- one more surface
+abbrev pub with_surface : Held → ℕ → ℕ → ℕ → Held
+with_surface held id width height = record {
+  sides = finmap.insert held.sides id record { width = width; height = height };
+  cells = held.cells + cells width height;
+}
+
+-- `surface`
+unfoldable pub surface_made : Held → ℕ → ℕ → ℕ → Result Held ScriptKind
+surface_made held id width height = do
+  fresh ← check SurfacePresent (not (finmap.contains_key held.sides id))
+  room ← check CellBudget (has_room held width height)
+  Ok (with_surface held id width height)
+
+-- `fill`
+unfoldable pub rects_filled : Held → ℕ → List Rect → Result Held ScriptKind
+rects_filled held id rects = do
+  sides ← ok_or (finmap.get held.sides id) SurfaceAbsent
+  inside ← check Outside (list_all (lies_in sides.width sides.height) rects)
+  Ok held
+
+-- what is held after a step, or what is wrong with it
+unfoldable pub held_after : Held → Step → Result Held ScriptKind
+held_after held (Surface id width height format) = surface_made held id width height
+held_after held (Fill id colour rects) = rects_filled held id rects
+held_after held Frame = Ok held
+
+-- what is held after these steps, one after another
+unfoldable pub held_through : Held → List Step → Result Held ScriptKind
+held_through held [] = Ok held
+held_through held (step ∷ steps) = do
+  after ← held_after held step
+  held_through after steps

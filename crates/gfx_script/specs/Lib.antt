@@ -1,0 +1,12 @@
+pub mod Scripted
+pub mod Kind
+pub mod Checks
+pub mod Codes
+pub mod Members
+pub mod Places
+pub mod Words
+pub mod Found
+pub mod Script
+pub mod Told
+pub mod Inside
+pub mod Laws

@@ -1,0 +1,40 @@
+-- What stands under the keys of a table of a script: this project's own rule, over the data of a TOML
+-- text.
+use Rattle.std.specs.Prelude.{ℕ, ℤ, pos, negsuc, Bool, true, ◌&&◌, nat_le, if◌then◌else◌, List, [], ◌∷◌, Option, Result, Ok, Err}
+use Rattle.std.specs.List.{list_any}
+use Rattle.std.specs.Option.{ok_or, option_map, option_and_then}
+use Rattle.std.specs.Str.{bytes_eq}
+use Rattle.toml.specs.Data.{Data, Items, no_items, item, Members, no_members, member, get_member, as_str, as_integer, as_array}
+use Rattle.gfx_script.specs.declared.error.ScriptKind.{ScriptKind}
+use Rattle.gfx_script.specs.declared.error.ScriptKind.TheVariants.{Key, Range}
+
+-- the items of an array
+abbrev pub listed : Items → List Data
+listed no_items = []
+listed (item one more) = one ∷ listed more
+
+-- the items of a value that is an array
+unfoldable pub items_in : Data → Option (List Data)
+items_in value = option_map listed (as_array value)
+
+-- each key of the table is one of these
+abbrev pub has_only : List (List ℕ) → Members → Bool
+has_only keys no_members = true
+has_only keys (member key value more) = list_any (λ one. bytes_eq one key) keys && has_only keys more
+
+-- the whole number at a key
+unfoldable pub whole : List ℕ → Members → Result ℤ ScriptKind
+whole key table = ok_or (option_and_then as_integer (get_member key table)) Key
+
+-- the text at a key
+unfoldable pub text : List ℕ → Members → Result (List ℕ) ScriptKind
+text key table = ok_or (option_and_then as_str (get_member key table)) Key
+
+-- the items of the array at a key
+unfoldable pub list : List ℕ → Members → Result (List Data) ScriptKind
+list key table = ok_or (option_and_then items_in (get_member key table)) Key
+
+-- a whole number from the least to the most
+unfoldable pub within : ℕ → ℕ → ℤ → Result ℕ ScriptKind
+within least most (pos n) = if nat_le least n && nat_le n most then Ok n else Err Range
+within least most (negsuc n) = Err Range

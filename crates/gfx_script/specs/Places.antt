@@ -1,0 +1,47 @@
+-- Rectangles and coordinates as scripts write them: this project's own rule. A value's type, Key, is
+-- checked before any Range.
+use Rattle.std.specs.Prelude.{ℕ, Bool, false, ◌==◌, List, length, Option, Some, None, Result, Ok}
+use Rattle.std.specs.List.{list_all, slice_get}
+use Rattle.std.specs.Option.{ok_or, option_and_then, is_some}
+use Rattle.toml.specs.Data.{Data, as_integer}
+use Rattle.gfx_base.specs.declared.geometry.Rect.{Rect}
+use Rattle.gfx_base.specs.Results.{◌>>=◌, check}
+use Rattle.gfx_script.specs.declared.TheConstants.{MOST_NUMBER}
+use Rattle.gfx_script.specs.declared.error.ScriptKind.{ScriptKind}
+use Rattle.gfx_script.specs.declared.error.ScriptKind.TheVariants.{Key, Range}
+use Rattle.gfx_script.specs.Members.{items_in, within}
+
+-- the value is a whole number
+abbrev pub is_whole : Data → Bool
+is_whole value = is_some (as_integer value)
+
+-- the values are there, and all of them are whole numbers
+abbrev pub all_whole : Option (List Data) → Bool
+all_whole None = false
+all_whole (Some values) = list_all is_whole values
+
+-- the value is an array of whole numbers
+abbrev pub are_whole : Data → Bool
+are_whole value = all_whole (items_in value)
+
+-- the coordinate at a place of an array
+unfoldable pub coordinate_at : ℕ → List Data → Result ℕ ScriptKind
+coordinate_at at items = do
+  number ← ok_or (option_and_then as_integer (slice_get items at)) Key
+  within 0 MOST_NUMBER number
+
+-- a rectangle as [left, top, right, bottom]
+unfoldable pub rect_of : List Data → Result Rect ScriptKind
+rect_of items = do
+  four ← check Range (length items == 4)
+  left ← coordinate_at 0 items
+  top ← coordinate_at 1 items
+  right ← coordinate_at 2 items
+  bottom ← coordinate_at 3 items
+  Ok record { left = left; top = top; right = right; bottom = bottom }
+
+-- the rectangle that a value is
+unfoldable pub rect_in : Data → Result Rect ScriptKind
+rect_in value = do
+  items ← ok_or (items_in value) Key
+  rect_of items

@@ -1,0 +1,89 @@
+-- The tables of the steps of a script: this project's own rule. All faults of kind Key come before
+-- those of kind Range, and both before Pixels.
+use Rattle.std.specs.Prelude.{ℕ, ◌&&◌, nat_le, if◌then◌else◌, List, [], ◌∷◌, length, slice_index, Option, Some, None, Result, Ok, Err, codes}
+use Rattle.std.specs.List.{list_all}
+use Rattle.std.specs.Option.{ok_or}
+use Rattle.std.specs.Result.{result_ok}
+use Rattle.std.specs.Str.{bytes_eq}
+use Rattle.hex.specs.Hex.{decode_sized}
+use Rattle.toml.specs.Data.{Data, Members, get_member, as_str, as_table}
+use Rattle.gfx_base.specs.declared.format.Format.{Format}
+use Rattle.gfx_base.specs.declared.format.Format.TheVariants.{Xrgb, Argb}
+use Rattle.gfx_base.specs.declared.pixel.Pixel.{Pixel}
+use Rattle.gfx_base.specs.Results.{◌>>=◌, check, each}
+use Rattle.gfx_surface.specs.declared.TheConstants.{MOST_SIDE}
+use Rattle.gfx_script.specs.declared.TheConstants.{MOST_RECTS, MOST_NUMBER}
+use Rattle.gfx_script.specs.declared.error.ScriptKind.{ScriptKind}
+use Rattle.gfx_script.specs.declared.error.ScriptKind.TheVariants.{Key, Range, Pixels}
+use Rattle.gfx_script.specs.declared.step.Step.{Step}
+use Rattle.gfx_script.specs.declared.step.Step.TheVariants.{Surface, Fill, Frame}
+use Rattle.gfx_script.specs.Members.{has_only, whole, text, list, within}
+use Rattle.gfx_script.specs.Places.{are_whole, rect_in}
+
+-- the format that a word names
+abbrev pub format_named : List ℕ → Result Format ScriptKind
+format_named word =
+    if bytes_eq word (codes "xrgb") then Ok Xrgb
+    else if bytes_eq word (codes "argb") then Ok Argb
+    else Err Key
+
+-- the format, which may be missing
+abbrev pub format_or_default : Option Data → Result Format ScriptKind
+format_or_default None = Ok Xrgb
+format_or_default (Some value) = do
+  word ← ok_or (as_str value) Key
+  format_named word
+
+-- `surface`
+unfoldable pub surface_of : Members → Result Step ScriptKind
+surface_of table = do
+  known ← check Key (has_only (codes "do" ∷ codes "id" ∷ codes "width" ∷ codes "height" ∷ codes "format" ∷ []) table)
+  id ← whole (codes "id") table
+  width ← whole (codes "width") table
+  height ← whole (codes "height") table
+  format ← format_or_default (get_member (codes "format") table)
+  id ← within 0 MOST_NUMBER id
+  width ← within 1 MOST_SIDE width
+  height ← within 1 MOST_SIDE height
+  Ok (Surface id width height format)
+
+-- a colour as eight hexadecimal digits B, G, R, A
+unfoldable pub colour_of : List ℕ → Result Pixel ScriptKind
+colour_of digits = do
+  bytes ← ok_or (result_ok (decode_sized digits 4)) Pixels
+  Ok record { b = slice_index bytes 0; g = slice_index bytes 1; r = slice_index bytes 2; a = slice_index bytes 3 }
+
+-- `fill`
+unfoldable pub fill_of : Members → Result Step ScriptKind
+fill_of table = do
+  known ← check Key (has_only (codes "do" ∷ codes "id" ∷ codes "colour" ∷ codes "rects" ∷ []) table)
+  id ← whole (codes "id") table
+  digits ← text (codes "colour") table
+  rects ← list (codes "rects") table
+  numbers ← check Key (list_all are_whole rects)
+  id ← within 0 MOST_NUMBER id
+  few ← check Range (nat_le 1 (length rects) && nat_le (length rects) MOST_RECTS)
+  rects ← each rect_in rects
+  colour ← colour_of digits
+  Ok (Fill id colour rects)
+
+-- `frame`
+unfoldable pub frame_of : Members → Result Step ScriptKind
+frame_of table = do
+  known ← check Key (has_only (codes "do" ∷ []) table)
+  Ok Frame
+
+-- the step of a table with this word
+unfoldable pub worded : List ℕ → Members → Result Step ScriptKind
+worded word table =
+    if bytes_eq word (codes "surface") then surface_of table
+    else if bytes_eq word (codes "fill") then fill_of table
+    else if bytes_eq word (codes "frame") then frame_of table
+    else Err Key
+
+-- the step that a value is
+unfoldable pub step_of : Data → Result Step ScriptKind
+step_of value = do
+  table ← ok_or (as_table value) Key
+  word ← text (codes "do") table
+  worded word table

@@ -1,0 +1,68 @@
+ghost use Rattle.std.specs.Prelude.{◌≡◌};
+ghost use Rattle.gfx_script.specs.Kind.{name_of};
+
+use std::alloc::AllocFailed;
+use thiserror::Error;
+
+/// What is wrong with a script. A report prints the variant's name.
+#[derive(Clone, Copy, Debug, PartialEq, Eq)]
+pub enum ScriptKind {
+    /// The text is no TOML.
+    Toml,
+    /// A key or a word is unknown, missing or of another type.
+    Key,
+    /// A number or a length is out of its range.
+    Range,
+    /// Hexadecimal text has other digits or another length.
+    Pixels,
+    /// The surface is there already.
+    SurfacePresent,
+    /// One more surface is beyond the limits on all of them.
+    CellBudget,
+    /// No surface has this id.
+    SurfaceAbsent,
+    /// A rectangle doesn't lie on its surface.
+    Outside,
+    /// The last step is no frame.
+    Unframed,
+}
+
+impl ScriptKind {
+    /// The name that reports print, as it stands in this enum.
+    pub fn name(self) -> &'static str
+        ensures { result.now ≡ name_of self }
+    {
+        match self {
+            ScriptKind::Toml => "Toml",
+            ScriptKind::Key => "Key",
+            ScriptKind::Range => "Range",
+            ScriptKind::Pixels => "Pixels",
+            ScriptKind::SurfacePresent => "SurfacePresent",
+            ScriptKind::CellBudget => "CellBudget",
+            ScriptKind::SurfaceAbsent => "SurfaceAbsent",
+            ScriptKind::Outside => "Outside",
+            ScriptKind::Unframed => "Unframed",
+        }
+    }
+}
+
+/// Why a script isn't read.
+#[derive(Clone, Copy, Debug, PartialEq, Eq, Error)]
+pub enum ScriptError {
+    /// The step of this number, counted from 1, is wrong; 0 stands for a fault outside the steps.
+    #[error("the script is wrong")]
+    Fault { step: u32, kind: ScriptKind },
+    /// No memory is left.
+    #[error("no memory is left")]
+    Memory,
+}
+
+impl<T: Drop> From<AllocFailed<T>> for ScriptError {
+    ghost use Rattle.gfx_script.specs.declared.error.ScriptError.TheVariants.{Memory};
+
+    ghost from_gives = { λ _ e. e ≡ Memory };
+
+    fn from(_e: AllocFailed<T>) -> ScriptError {
+        ScriptError::Memory
+    }
+}

@@ -1,0 +1,54 @@
+//! The steps that fill rectangles.
+
+ghost use Rattle.std.specs.Prelude.{◌≡◌};
+ghost use Rattle.toml.specs.View.{table_view};
+ghost use Rattle.gfx_script.specs.Found.{Finds};
+ghost use Rattle.gfx_script.specs.Words.{fill_of, colour_of};
+
+use crate::error::ScriptKind;
+use crate::flaw::Flaw;
+use crate::members::{check_keys, list, text, whole, within};
+use crate::places::{all_are_whole, read_rects};
+use crate::step::Step;
+use crate::{MOST_NUMBER, MOST_RECTS};
+use gfx_base::Pixel;
+use hex::FromHex;
+use std::alloc::Global;
+use toml::Table;
+
+/// Reads `fill`.
+#[tactic(auto, unfolding(crate::specs::Words::fill_of, gfx_base::specs::Results::and_then))]
+pub fn read_fill(alloc: Global, table: &Table) -> Result<Step, Flaw>
+    ensures { Finds (λ x. x) result (fill_of (table_view table.now)) }
+{
+    check_keys(table, &["do", "id", "colour", "rects"])?;
+    let id = whole(table, "id")?;
+    let digits = text(table, "colour")?;
+    let rects = list(table, "rects")?;
+    if !all_are_whole(rects) {
+        return Err(Flaw::Wrong(ScriptKind::Key));
+    }
+    let id = within(id, 0, MOST_NUMBER)?;
+    if !(1..=MOST_RECTS).contains(&rects.len()) {
+        return Err(Flaw::Wrong(ScriptKind::Range));
+    }
+    let rects = read_rects(alloc, rects)?;
+    let colour = read_colour(digits)?;
+    Ok(Step::Fill { id, colour, rects })
+}
+
+/// Reads a colour as eight hexadecimal digits B, G, R, A.
+#[tactic(auto, unfolding(crate::specs::Words::colour_of, gfx_base::specs::Results::and_then))]
+fn read_colour(digits: &str) -> Result<Pixel, ScriptKind>
+    ensures { result ≡ colour_of digits.now }
+{
+    match <[u8; 4] as FromHex>::from_hex(digits) {
+        Ok(bytes) => Ok(Pixel {
+            b: bytes[0],
+            g: bytes[1],
+            r: bytes[2],
+            a: bytes[3],
+        }),
+        Err(_) => Err(ScriptKind::Pixels),
+    }
+}

@@ -1,0 +1,49 @@
+//! The words of steps.
+
+ghost use Rattle.std.specs.Prelude.{◌≡◌};
+ghost use Rattle.toml.specs.View.{table_view, view};
+ghost use Rattle.gfx_script.specs.Found.{Finds};
+ghost use Rattle.gfx_script.specs.Words.{frame_of, worded, step_of};
+
+use crate::error::ScriptKind;
+use crate::fill::read_fill;
+use crate::flaw::Flaw;
+use crate::members::{check_keys, text};
+use crate::step::Step;
+use crate::surface::read_surface;
+use std::alloc::Global;
+use toml::{Table, Value};
+
+/// Reads a step.
+#[tactic(auto, unfolding(crate::specs::Words::step_of, gfx_base::specs::Results::and_then))]
+pub fn read_step(alloc: Global, value: &Value) -> Result<Step, Flaw>
+    ensures { Finds (λ x. x) result (step_of (view value.now)) }
+{
+    let Value::Table(table) = value else {
+        return Err(Flaw::Wrong(ScriptKind::Key));
+    };
+    let word = text(table, "do")?;
+    read_worded(alloc, word, table)
+}
+
+/// Reads the step of a table with this word.
+#[tactic(auto, unfolding(crate::specs::Words::worded))]
+fn read_worded(alloc: Global, word: &str, table: &Table) -> Result<Step, Flaw>
+    ensures { Finds (λ x. x) result (worded word.now (table_view table.now)) }
+{
+    match word {
+        "surface" => Ok(read_surface(table)?),
+        "fill" => read_fill(alloc, table),
+        "frame" => Ok(read_frame(table)?),
+        _ => Err(Flaw::Wrong(ScriptKind::Key)),
+    }
+}
+
+/// Reads `frame`.
+#[tactic(auto, unfolding(crate::specs::Words::frame_of, gfx_base::specs::Results::and_then))]
+fn read_frame(table: &Table) -> Result<Step, ScriptKind>
+    ensures { result ≡ frame_of (table_view table.now) }
+{
+    check_keys(table, &["do"])?;
+    Ok(Step::Frame)
+}

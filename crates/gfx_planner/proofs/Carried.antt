@@ -1,0 +1,46 @@
+-- The messages of steps and frames fit their channel messages.
+use Rattle.std.proofs.Common.{ℕ, ◌≤◌, ◌<◌, ◌^◌, List, length, arith}
+use Rattle.std.specs.List.{AllByRecursion}
+use Rattle.gfx_base.specs.Geometry.{IsRect}
+use Rattle.gfx_base.specs.declared.geometry.Rect.{Rect}
+use Rattle.gfx_base.specs.declared.pixel.Pixel.{Pixel}
+use Rattle.gfx_pdu.specs.declared.pdu.Pdu.{Pdu}
+use Rattle.gfx_pdu.specs.declared.pdu.Pdu.TheVariants.{SolidFill, CreateSurface, StartFrame, EndFrame}
+use Rattle.gfx_pdu.specs.Spelling.{size, CountsFit, NumbersFit}
+use Rattle.gfx_pdu.proofs.Sizes.{size_of_solid_fill}
+use Rattle.gfx_pdu.proofs.Laws.{length-spelling}
+use Rattle.gfx_segment.specs.declared.profile.TheConstants.{MOST_PAYLOAD}
+use Rattle.gfx_script.specs.declared.TheConstants.{MOST_RECTS}
+use Rattle.gfx_state.specs.Sending.{IsCarried}
+
+-- a message whose counts and numbers fit, and that is short
+carried : (pdu : Pdu) → NumbersFit pdu → CountsFit pdu → size pdu ≤ MOST_PAYLOAD → IsCarried pdu
+carried pdu numbers counts short = record {
+  fits = record { numbers = numbers; spellable = record { counts = counts; short = omega arith } };
+  short = omega (arith, length-spelling pdu);
+}
+
+create_size : (id width height format : ℕ) → size (CreateSurface id width height format) ≤ MOST_PAYLOAD
+unfolding size
+create_size id width height format = omega arith
+
+start_size : (frame : ℕ) → size (StartFrame 0 frame) ≤ MOST_PAYLOAD
+unfolding size
+start_size frame = omega arith
+
+end_size : (frame : ℕ) → size (EndFrame frame) ≤ MOST_PAYLOAD
+unfolding size
+end_size frame = omega arith
+
+pub carried-create : (id width height format : ℕ) → id < 2 ^ 16 → width < 2 ^ 16 → height < 2 ^ 16 → IsCarried (CreateSurface id width height format)
+carried-create id width height format i w h = carried (CreateSurface id width height format) (i, w, h) tt (create_size id width height format)
+
+pub carried-fill : (surface : ℕ) (colour : Pixel) (rects : List Rect) → surface < 2 ^ 16 → AllByRecursion IsRect rects → length rects ≤ MOST_RECTS → IsCarried (SolidFill surface colour rects)
+carried-fill surface colour rects s all few =
+    carried (SolidFill surface colour rects) (s, all) (omega arith) (omega (arith, size_of_solid_fill surface colour rects))
+
+pub carried-start : (frame : ℕ) → frame < 2 ^ 32 → IsCarried (StartFrame 0 frame)
+carried-start frame f = carried (StartFrame 0 frame) (omega arith, f) tt (start_size frame)
+
+pub carried-end : (frame : ℕ) → frame < 2 ^ 32 → IsCarried (EndFrame frame)
+carried-end frame f = carried (EndFrame frame) f tt (end_size frame)

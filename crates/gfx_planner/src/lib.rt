@@ -1,0 +1,17 @@
+//! The server's end of the graphics channel: each step of a script is made into messages, which are
+//! put out as the bytes of channel messages. The planner keeps the state that they give, as the
+//! client will once it has taken them.
+//!
+//! In the pipe it stands between the script and the bytes of the stream.
+#![tactic(auto)]
+
+mod laws;
+mod planner;
+mod streaming;
+
+pub use laws::streams_show_their_scripts;
+pub use planner::{MOST_FRAMES, Planner};
+pub use streaming::put_in_frame;
+
+#[cfg(test)]
+mod tests;

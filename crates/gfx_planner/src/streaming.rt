@@ -1,0 +1,56 @@
+//! Steps one after another, each frame of the script as one frame on the wire.
+ghost use Rattle.std.specs.Prelude.{◌≡◌, ◌<◌, false};
+ghost use Rattle.gfx_script.specs.Script.{step_at};
+ghost use Rattle.gfx_planner.specs.Agree.{IsAllowedStep, IsInFrame, KeepsFrame};
+ghost use Rattle.gfx_planner.specs.Planned.{SendsOn};
+ghost use Rattle.gfx_planner.specs.Stream.{PutsInFrame, opening, opened, closing, closed};
+
+use crate::planner::{MOST_FRAMES, Planner};
+use gfx_base::{Bytes, NoMemory};
+use gfx_script::{Script, Step};
+
+/// Puts out a step of this number, counted from 1. Its frame is opened where none is open, and is
+/// ended behind a frame step. Without memory the planner is spent.
+pub fn put_in_frame(
+    planner: &mut Planner,
+    script: &Script,
+    step: u32,
+    out: &mut Bytes,
+) -> Result<(), NoMemory>
+    requires fresh { planner.old.spent ≡ false }
+    requires keeps { KeepsFrame planner.old.server }
+    requires few { planner.old.server.frames < MOST_FRAMES }
+    requires allowed { IsAllowedStep planner.old.server (step_at script.now.steps step) }
+    ensures { PutsInFrame result planner.old.server planner.new out.old out.new (step_at script.now.steps step) }
+{
+    open_where_none(planner, out)?;
+    planner.put(script, step, out)?;
+    match script.step(step) {
+        Some(step) => close_behind(planner, step, out),
+        None => Ok(()),
+    }
+}
+
+fn open_where_none(planner: &mut Planner, out: &mut Bytes) -> Result<(), NoMemory>
+    requires fresh { planner.old.spent ≡ false }
+    requires keeps { KeepsFrame planner.old.server }
+    requires few { planner.old.server.frames < MOST_FRAMES }
+    ensures { SendsOn result planner.new out.old out.new (opening planner.old.server) (opened planner.old.server) }
+{
+    if planner.is_in_frame() {
+        return Ok(());
+    }
+    planner.open_frame(out)?;
+    Ok(())
+}
+
+fn close_behind(planner: &mut Planner, step: &Step, out: &mut Bytes) -> Result<(), NoMemory>
+    requires fresh { planner.old.spent ≡ false }
+    requires inside { IsInFrame planner.old.server }
+    ensures { SendsOn result planner.new out.old out.new (closing planner.old.server step.now) (closed planner.old.server step.now) }
+{
+    match step {
+        Step::Frame => planner.close_frame(out),
+        _ => Ok(()),
+    }
+}

@@ -1,7 +1,7 @@
 -- What the parts of a command come to.
 use Rattle.std.proofs.Common.{◌≡◌, ℕ, List, [], Option, Some, None, Result, Ok, Err, refl, sym, ap, ◌∙◌, subst, arith}
-use Rattle.gfx_base.specs.Stream.{Change, change, Gains, FailsAfter}
-use Rattle.gfx_base.proofs.Streams.{Gains_none}
+use Rattle.gfx_base.specs.Stream.{Change, change, Gains, GainsPart, FailsAfter}
+use Rattle.gfx_base.proofs.Streams.{Gained_none, Gains_none}
 use Rattle.gfx_client.specs.declared.client.Client.{Client}
 use Rattle.gfx_client.specs.Client.{cursor_of}
 use Rattle.gfx_report.specs.Texts.{dump_text}
@@ -10,7 +10,7 @@ use Rattle.gfx_state.specs.State.{State}
 use Rattle.gfx_state.proofs.Runs.{eats-nil}
 use Rattle.gfx_surface_map.specs.Surfaces.{Surfaces}
 use Rattle.gfx_words.specs.declared.table.Command.{Command}
-use Rattle.gfx_words.specs.declared.table.Command.TheVariants.{Render}
+use Rattle.gfx_words.specs.declared.table.Command.TheVariants.{Render, Encode}
 use Rattle.gfxpipe.specs.declared.ending.Ending.{Ending}
 use Rattle.gfxpipe.specs.declared.ending.Ending.TheVariants.{Usage, Played}
 use Rattle.gfxpipe.specs.declared.player.Stop.{Stop}
@@ -19,7 +19,9 @@ use Rattle.gfxpipe.specs.declared.trouble.Trouble.{Trouble}
 use Rattle.gfxpipe.specs.declared.trouble.Trouble.TheVariants as trouble
 use Rattle.gfxpipe.specs.Played.{played}
 use Rattle.gfxpipe.specs.Play.{Reads, input_of, Plays}
-use Rattle.gfxpipe.specs.Run.{answer_of, Executes}
+use Rattle.gfxpipe.specs.Run.{Limits, Renders, Executes}
+use Rattle.gfxpipe.specs.Encode.{encoded}
+use Rattle.gfxpipe.specs.Text.{ReadsText}
 use Rattle.gfxpipe.proofs.Pieces.{Tells_rest}
 
 -- nothing was read
@@ -31,45 +33,54 @@ reads_none limit n left = record {
   early = ap (λ (z : Run). z.refusal) (eats-nil begun);
 }
 
--- what a command comes to, with what it read
-abbrev pub Executed : Result Ending Trouble → Option Command → ℕ → Change → Change → Type 0
-Executed ended command limit i o = (reads : Reads limit i) × Executes ended (answer_of command limit (input_of reads)) i o
+pub reads_text_none : (limit n : ℕ) (left : Option (List ℕ)) → ReadsText limit (change n n left left)
+reads_text_none limit n left = record { taken = []; few = omega arith; told = Tells_rest left }
+
+part_none : (m : ℕ) (held : Option (List ℕ)) (due : List ℕ) → GainsPart (change m m held held) due
+part_none m held due = record { sent = []; rest = due; cut = refl; gained = Gained_none held }
 
 -- no memory is left before anything is read
-pub memory_first : (command : Option Command) (limit n m : ℕ) (left held : Option (List ℕ)) → Executed (Err trouble.Memory) command limit (change n n left left) (change m m held held)
-memory_first command limit n m left held = (reads_none limit n left, (refl, Gains_none m held))
+pub memory_first : (command : Option Command) (bounds : Limits) (n m : ℕ) (left held : Option (List ℕ)) → Executes (Err trouble.Memory) command bounds (change n n left left) (change m m held held)
+unfolding encoded
+memory_first None bounds n m left held = (refl, refl, Gains_none m held)
+memory_first (Some Render) bounds n m left held = (reads_none bounds.stream n left, (refl, Gains_none m held))
+memory_first (Some Encode) bounds n m left held = (reads_text_none bounds.script n left, (refl, refl, part_none m held _))
 
 -- the words are no command
-pub usage : (limit n m : ℕ) (left held : Option (List ℕ)) → Executed (Ok Usage) None limit (change n n left left) (change m m held held)
-usage limit n m left held = (reads_none limit n left, (refl, refl, refl, Gains_none m held))
+pub usage : (bounds : Limits) (n m : ℕ) (left held : Option (List ℕ)) → Executes (Ok Usage) None bounds (change n n left left) (change m m held held)
+usage bounds n m left held = (refl, refl, Gains_none m held)
+
+-- what `render` comes to, with what it read
+abbrev pub Rendered : Result Ending Trouble → ℕ → Change → Change → Type 0
+Rendered ended limit i o = (reads : Reads limit i) × Renders ended limit (input_of reads) i o
+
+pub no_client : (limit n m : ℕ) (left held : Option (List ℕ)) → Rendered (Err trouble.Memory) limit (change n n left left) (change m m held held)
+no_client limit n m left held = (reads_none limit n left, (refl, Gains_none m held))
 
 -- a recording could not be played
-pub not_played : (t : Trouble) (limit m : ℕ) (i : Change) (held : Option (List ℕ)) (client : Client) → Plays (Err t) limit i client → Executed (Err t) (Some Render) limit i (change m m held held)
+pub not_played : (t : Trouble) (limit m : ℕ) (i : Change) (held : Option (List ℕ)) (client : Client) → Plays (Err t) limit i client → Rendered (Err t) limit i (change m m held held)
 not_played trouble.Read limit m i held client (reads, falls, rose) = (reads, (falls, rose, Gains_none m held))
 not_played trouble.Memory limit m i held client (reads, count) = (reads, (count, Gains_none m held))
 not_played trouble.Write limit m i held client never = absurd never
 
 -- the text of a client is that of what was played
-text_of : (limit : ℕ) (bytes : List ℕ) (client : Client) (surfaces : Surfaces) → surfaces ≡ (cursor_of client).state.surfaces → (cursor_of client).state ≡ (played limit bytes).state → dump_text surfaces ≡ dump_text (played limit bytes).state.surfaces
-text_of limit bytes client surfaces same shows = ap dump_text (same ∙ ap (λ (z : State). z.surfaces) shows)
+text_of_client : (limit : ℕ) (bytes : List ℕ) (client : Client) (surfaces : Surfaces) → surfaces ≡ (cursor_of client).state.surfaces → (cursor_of client).state ≡ (played limit bytes).state → dump_text surfaces ≡ dump_text (played limit bytes).state.surfaces
+text_of_client limit bytes client surfaces same shows = ap dump_text (same ∙ ap (λ (z : State). z.surfaces) shows)
 
 -- a recording was played, and what the client shows was printed
-pub printed : (last : Stop) (limit : ℕ) (i o : Change) (client : Client) (surfaces : Surfaces) → Plays (Ok last) limit i client → surfaces ≡ (cursor_of client).state.surfaces → Gains o (dump_text surfaces) → Executed (Ok (Played last)) (Some Render) limit i o
+pub printed : (last : Stop) (limit : ℕ) (i o : Change) (client : Client) (surfaces : Surfaces) → Plays (Ok last) limit i client → surfaces ≡ (cursor_of client).state.surfaces → Gains o (dump_text surfaces) → Rendered (Ok (Played last)) limit i o
 printed stop.End limit i o client surfaces (reads, count, ends, all) same gains =
-    (reads, (ap (λ z. Played z) (sym ends.stop_is), count, all refl, subst (Gains o) (text_of limit (input_of reads) client surfaces same ends.shows) gains))
+    (reads, (sym ends.stop_is, count, all refl, subst (Gains o) (text_of_client limit (input_of reads) client surfaces same ends.shows) gains))
 printed (stop.Refused number r) limit i o client surfaces (reads, count, ends, all) same gains =
-    (reads, (ap (λ z. Played z) (sym ends.stop_is), count, subst (Gains o) (text_of limit (input_of reads) client surfaces same ends.shows) gains))
+    (reads, (sym ends.stop_is, count, subst (Gains o) (text_of_client limit (input_of reads) client surfaces same ends.shows) gains))
 printed stop.TooLong limit i o client surfaces (reads, count, ends, all) same gains =
-    (reads, (ap (λ z. Played z) (sym ends.stop_is), count, subst (Gains o) (text_of limit (input_of reads) client surfaces same ends.shows) gains))
+    (reads, (sym ends.stop_is, count, subst (Gains o) (text_of_client limit (input_of reads) client surfaces same ends.shows) gains))
 
 -- a recording was played, and what the client shows could not be printed whole
-pub not_printed : (last : Stop) (limit : ℕ) (i o : Change) (client : Client) (surfaces : Surfaces) → Plays (Ok last) limit i client → surfaces ≡ (cursor_of client).state.surfaces → FailsAfter o (dump_text surfaces) → Executed (Err trouble.Write) (Some Render) limit i o
+pub not_printed : (last : Stop) (limit : ℕ) (i o : Change) (client : Client) (surfaces : Surfaces) → Plays (Ok last) limit i client → surfaces ≡ (cursor_of client).state.surfaces → FailsAfter o (dump_text surfaces) → Rendered (Err trouble.Write) limit i o
 not_printed last limit i o client surfaces (reads, count, ends, all) same fails =
-    (reads, (count, subst (FailsAfter o) (text_of limit (input_of reads) client surfaces same ends.shows) fails))
+    (reads, (count, subst (FailsAfter o) (text_of_client limit (input_of reads) client surfaces same ends.shows) fails))
 
 -- the words are another spelling of the same command
-pub by_words : (ended : Result Ending Trouble) (a b : Option Command) (limit : ℕ) (i o : Change) → a ≡ b → Executed ended a limit i o → Executed ended b limit i o
-by_words ended a b limit i o same done = subst (λ (z : Option Command). Executed ended z limit i o) same done
-
-pub only_render : (command : Command) → command ≡ Render
-only_render Render = refl
+pub by_words : (ended : Result Ending Trouble) (a b : Option Command) (bounds : Limits) (i o : Change) → a ≡ b → Executes ended a bounds i o → Executes ended b bounds i o
+by_words ended a b bounds i o same done = subst (λ (z : Option Command). Executes ended z bounds i o) same done

@@ -5,8 +5,8 @@ use Rattle.gfx_base.specs.declared.refusal.Refusal.{Refusal}
 use Rattle.gfx_client.specs.declared.client.Client.{Client}
 use Rattle.gfx_client.specs.declared.fault.ClientFault.{ClientFault}
 use Rattle.gfx_client.specs.declared.fault.ClientFault.TheVariants as fault
-use Rattle.gfx_client.specs.declared.screen.Stepped.{Stepped}
-use Rattle.gfx_client.specs.declared.screen.Stepped.TheVariants as stepped
+use Rattle.gfx_client.specs.declared.stepped.Stepped.{Stepped}
+use Rattle.gfx_client.specs.declared.stepped.Stepped.TheVariants as stepped
 use Rattle.gfx_client.specs.Client.{cursor_of, closed_by, Steps, StepsOpen, Takes, MovesBy, Ends}
 use Rattle.gfx_state.specs.Cursor.{settled, run_at}
 use Rattle.gfx_state.specs.Run.{refuse, eats}

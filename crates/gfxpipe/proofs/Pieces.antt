@@ -39,7 +39,7 @@ front_not_refused front more none =
     ] refl
 
 -- a recording within the limit, and one over it
-played_short : (limit : ℕ) (bytes : List ℕ) → length bytes ≤ limit → played limit bytes ≡ end (run_of bytes)
+pub played_short : (limit : ℕ) (bytes : List ℕ) → length bytes ≤ limit → played limit bytes ≡ end (run_of bytes)
 unfolding played
 played_short limit bytes h = cond_of (nat_le (length bytes) limit) (le-leb (length bytes) limit h)
   where
@@ -55,7 +55,7 @@ played_long limit bytes h = cond_of (nat_le (length bytes) limit) (lt-leb (lengt
     cond_of true e = absurd cc
     cond_of false e = refl
 
-last_short : (limit : ℕ) (bytes : List ℕ) → length bytes ≤ limit → last_stop limit bytes ≡ stop.End
+pub last_short : (limit : ℕ) (bytes : List ℕ) → length bytes ≤ limit → last_stop limit bytes ≡ stop.End
 last_short limit bytes h = ap (λ b. cond b stop.End stop.TooLong) (le-leb (length bytes) limit h)
 
 last_long : (limit : ℕ) (bytes : List ℕ) → limit < length bytes → last_stop limit bytes ≡ stop.TooLong
@@ -231,7 +231,7 @@ Tells_rest None = tt
 Tells_rest (Some rest) = refl
 
 -- one more piece
-took_more : (a b c : Option (List ℕ)) (bytes piece : List ℕ) → Took a bytes b → Gave b piece c → Took a (bytes ++ piece) c
+pub took_more : (a b c : Option (List ℕ)) (bytes piece : List ℕ) → Took a bytes b → Gave b piece c → Took a (bytes ++ piece) c
 took_more a b c bytes piece took gave = λ rest t.
     subst (λ z. Tells a z) (sym (append_assoc bytes piece rest)) (took (piece ++ rest) (Tells-Gave b c piece rest gave t))
 

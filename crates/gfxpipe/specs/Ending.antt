@@ -1,11 +1,14 @@
 -- How a run ends: its status, and the line that says so. This project's own rule.
-use Rattle.std.specs.Prelude.{ℕ, ◌≡◌, List, [], ◌++◌, codes, decimal, Result, Ok, Err, ◌⊎◌}
+use Rattle.std.specs.Prelude.{ℕ, ◌≡◌, List, [], ◌++◌, codes, decimal, ◌==◌, if◌then◌else◌, Result, Ok, Err, ◌⊎◌}
 use Rattle.gfx_base.specs.Refusal.{number_of, name_of}
 use Rattle.gfx_base.specs.Stream.{Change, Gains, FailsAfter}
 use Rattle.gfx_base.specs.declared.refusal.Refusal.{Refusal}
 use Rattle.gfx_words.specs.declared.table.TheConstants.{USAGE}
 use Rattle.gfxpipe.specs.declared.ending.Ending.{Ending}
-use Rattle.gfxpipe.specs.declared.ending.Ending.TheVariants.{Usage, Played}
+use Rattle.gfx_script.specs.Kind as kind
+use Rattle.gfx_script.specs.declared.error.ScriptKind.{ScriptKind}
+use Rattle.gfxpipe.specs.declared.encode.Verdict.TheVariants as verdict
+use Rattle.gfxpipe.specs.declared.ending.Ending.TheVariants.{Usage, Played, Judged}
 use Rattle.gfxpipe.specs.declared.player.Stop.TheVariants as stop
 use Rattle.gfxpipe.specs.declared.status.Status.{Status}
 use Rattle.gfxpipe.specs.declared.status.Status.TheVariants as status
@@ -27,6 +30,9 @@ status_of (Ok Usage) = status.Usage
 status_of (Ok (Played stop.End)) = status.Done
 status_of (Ok (Played (stop.Refused number r))) = status.Refused
 status_of (Ok (Played stop.TooLong)) = status.Refused
+status_of (Ok (Judged verdict.Accepted)) = status.Done
+status_of (Ok (Judged (verdict.Faulty step k))) = status.Refused
+status_of (Ok (Judged verdict.TooLong)) = status.Refused
 status_of (Err trouble.Read) = status.ReadFault
 status_of (Err trouble.Write) = status.WriteFault
 status_of (Err trouble.Memory) = status.NoMemory
@@ -36,12 +42,23 @@ unfoldable pub message_line : ℕ → Refusal → List ℕ
 message_line number r =
     codes "message " ++ (decimal number ++ (codes ": " ++ (decimal (number_of r) ++ (codes " " ++ (name_of r ++ codes "\n")))))
 
+-- the step that is wrong, as in `step 2: `; nothing for a fault outside the steps
+abbrev pub at_step : ℕ → List ℕ
+at_step step = if step == 0 then [] else codes "step " ++ (decimal step ++ codes ": ")
+
+-- the line of a script that isn't accepted, as in `script: step 2: Outside`
+unfoldable pub script_line : ℕ → ScriptKind → List ℕ
+script_line step k = codes "script: " ++ (at_step step ++ (kind.name_of k ++ codes "\n"))
+
 -- the line that says how a run ends; none where all is done
 abbrev pub line_of : Result Ending Trouble → List ℕ
 line_of (Ok Usage) = USAGE.now ++ codes "\n"
 line_of (Ok (Played stop.End)) = []
 line_of (Ok (Played (stop.Refused number r))) = message_line number r
 line_of (Ok (Played stop.TooLong)) = codes "input: TooLong\n"
+line_of (Ok (Judged verdict.Accepted)) = []
+line_of (Ok (Judged (verdict.Faulty step k))) = script_line step k
+line_of (Ok (Judged verdict.TooLong)) = codes "input: TooLong\n"
 line_of (Err trouble.Read) = codes "input: read failed\n"
 line_of (Err trouble.Write) = codes "output: write failed\n"
 line_of (Err trouble.Memory) = codes "memory: none left\n"

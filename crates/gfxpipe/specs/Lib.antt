@@ -1,4 +1,7 @@
 pub mod Played
 pub mod Play
+pub mod Text
+pub mod Encode
 pub mod Ending
 pub mod Run
+pub mod Laws

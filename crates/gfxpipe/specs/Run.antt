@@ -1,47 +1,70 @@
 -- What a run of the program does: this project's own rule.
-use Rattle.std.specs.Prelude.{ℕ, ◌≡◌, ◌≤◌, List, [], Option, Some, None, Result, Ok, Err}
-use Rattle.gfx_base.specs.Stream.{Change, Gains, FailsAfter, Rose}
+use Rattle.std.specs.Prelude.{◌≡◌, ℕ, ◌≤◌, List, [], Option, Some, None, Result, Ok, Err}
+use Rattle.gfx_base.specs.Stream.{Change, Gains, GainsPart, FailsAfter, Rose}
 use Rattle.gfx_report.specs.Texts.{dump_text}
 use Rattle.gfx_words.specs.declared.table.Command.{Command}
-use Rattle.gfx_words.specs.declared.table.Command.TheVariants.{Render}
+use Rattle.gfx_words.specs.declared.table.Command.TheVariants.{Render, Encode}
 use Rattle.gfxpipe.specs.declared.ending.Ending.{Ending}
-use Rattle.gfxpipe.specs.declared.ending.Ending.TheVariants.{Usage, Played}
+use Rattle.gfxpipe.specs.declared.ending.Ending.TheVariants.{Usage, Played, Judged}
+use Rattle.gfxpipe.specs.declared.encode.Verdict.TheVariants as verdict
 use Rattle.gfxpipe.specs.declared.player.Stop.TheVariants as stop
 use Rattle.gfxpipe.specs.declared.status.Status.{Status}
 use Rattle.gfxpipe.specs.declared.trouble.Trouble.{Trouble}
 use Rattle.gfxpipe.specs.declared.trouble.Trouble.TheVariants as trouble
-use Rattle.gfxpipe.specs.Played.{played, stop_of}
-use Rattle.gfxpipe.specs.Play.{rest_of, Reads, input_of}
+use Rattle.gfxpipe.specs.Encode.{verdict_of, encoded}
 use Rattle.gfxpipe.specs.Ending.{Closes}
+use Rattle.gfxpipe.specs.Play.{rest_of, Reads, input_of}
+use Rattle.gfxpipe.specs.Played.{played, stop_of}
+use Rattle.gfxpipe.specs.Text.{ReadsText, text_of}
 
--- what a run comes to: how it ends, and the text that it prints
-pub record Answer : Type 0 where
-  pub ending : Ending
-  pub text : List ℕ
+-- no input is read further than one byte past its limit: that of a recording, that of a script
+pub record Limits : Type 0 where
+  pub stream : ℕ
+  pub script : ℕ
 
--- what is due for these words and this input
-abbrev pub answer_of : Option Command → ℕ → List ℕ → Answer
-answer_of None limit bytes = record { ending = Usage; text = [] }
-answer_of (Some Render) limit bytes =
-    record { ending = Played (stop_of limit bytes); text = dump_text (played limit bytes).state.surfaces }
+abbrev pub limits : ℕ → ℕ → Limits
+limits stream script = record { stream = stream; script = script }
 
 -- the input as it was, but for what was read; no read failed
 abbrev pub NoFault : Change → Type 0
 NoFault i = i.now ≡ i.before
 
--- how a command ended, against what is due: all of it was done, or a call failed
-abbrev pub Executes : Result Ending Trouble → Answer → Change → Change → Type 0
-Executes (Ok Usage) due i o = (due.ending ≡ Usage) × NoFault i × (i.new ≡ i.old) × Gains o []
-Executes (Ok (Played stop.End)) due i o =
-    (due.ending ≡ Played stop.End) × NoFault i × (rest_of i.new ≡ []) × Gains o due.text
-Executes (Ok (Played other)) due i o = (due.ending ≡ Played other) × NoFault i × Gains o due.text
-Executes (Err trouble.Read) due i o = (i.before ≤ i.now) × Rose i.before i.now × Gains o []
-Executes (Err trouble.Write) due i o = NoFault i × FailsAfter o due.text
-Executes (Err trouble.Memory) due i o = NoFault i × Gains o []
+-- the words are no command: nothing is read, nothing is written
+abbrev pub Refuses : Result Ending Trouble → Change → Change → Type 0
+Refuses (Ok Usage) i o = NoFault i × (i.new ≡ i.old) × Gains o []
+Refuses (Err trouble.Memory) i o = NoFault i × (i.new ≡ i.old) × Gains o []
+Refuses ended i o = ⊥
 
--- what a run did: what it read, how its command ended, and what it said of that
-pub record Runs (answer : Status) (command : Option Command) (limit : ℕ) (i o e : Change) : Type 0 where
-  pub reads : Reads limit i
+-- `render`: the text that is due is printed once the recording is played, or a call failed
+abbrev pub Renders : Result Ending Trouble → ℕ → List ℕ → Change → Change → Type 0
+Renders (Ok (Played stop.End)) limit input i o =
+    (stop_of limit input ≡ stop.End) × NoFault i × (rest_of i.new ≡ []) × Gains o (dump_text (played limit input).state.surfaces)
+Renders (Ok (Played other)) limit input i o =
+    (stop_of limit input ≡ other) × NoFault i × Gains o (dump_text (played limit input).state.surfaces)
+Renders (Ok other) limit input i o = ⊥
+Renders (Err trouble.Read) limit input i o = (i.before ≤ i.now) × Rose i.before i.now × Gains o []
+Renders (Err trouble.Write) limit input i o = NoFault i × FailsAfter o (dump_text (played limit input).state.surfaces)
+Renders (Err trouble.Memory) limit input i o = NoFault i × Gains o []
+
+-- `encode`: the stream that is due is written once the script is read whole, or a call failed
+abbrev pub Encodes : Result Ending Trouble → ℕ → List ℕ → Change → Change → Type 0
+Encodes (Ok (Judged verdict.TooLong)) limit input i o = (verdict_of limit input ≡ verdict.TooLong) × NoFault i × Gains o []
+Encodes (Ok (Judged other)) limit input i o =
+    (verdict_of limit input ≡ other) × NoFault i × (rest_of i.new ≡ []) × Gains o (encoded limit input)
+Encodes (Ok other) limit input i o = ⊥
+Encodes (Err trouble.Read) limit input i o = (i.before ≤ i.now) × Rose i.before i.now × Gains o []
+Encodes (Err trouble.Write) limit input i o = NoFault i × FailsAfter o (encoded limit input)
+Encodes (Err trouble.Memory) limit input i o = NoFault i × (o.now ≡ o.before) × GainsPart o (encoded limit input)
+
+-- how the command of the words ended: there is an input, the one that is told where it is told, of which
+-- this is the right end
+abbrev pub Executes : Result Ending Trouble → Option Command → Limits → Change → Change → Type 0
+Executes ended None limits i o = Refuses ended i o
+Executes ended (Some Render) limits i o = (reads : Reads limits.stream i) × Renders ended limits.stream (input_of reads) i o
+Executes ended (Some Encode) limits i o = (reads : ReadsText limits.script i) × Encodes ended limits.script (text_of reads) i o
+
+-- what a run did: how its command ended, and what it said of that
+pub record Runs (answer : Status) (command : Option Command) (limits : Limits) (i o e : Change) : Type 0 where
   pub ended : Result Ending Trouble
-  pub executes : Executes ended (answer_of command limit (input_of reads)) i o
+  pub executes : Executes ended command limits i o
   pub closes : Closes answer ended e

@@ -2,13 +2,15 @@
 ghost use Rattle.std.specs.Prelude.{◌≡◌, ◌+◌, ◌≤◌, ◌++◌, length, decimal, codes};
 ghost use Rattle.arrayvec.specs.ArrayVec.{array_vec_len};
 ghost use Rattle.gfx_base.specs.Stream.{Writes, change};
-ghost use Rattle.gfxpipe.specs.Ending.{status_of, line_of, message_line, Closes};
+ghost use Rattle.gfxpipe.specs.Ending.{status_of, line_of, message_line, script_line, at_step, Closes};
 
+use crate::encode::Verdict;
 use crate::player::Stop;
 use crate::status::Status;
 use crate::trouble::Trouble;
 use arrayvec::ArrayVec;
 use gfx_base::{Failed, Refusal, Sink, write_all};
+use gfx_script::ScriptKind;
 use gfx_words::USAGE;
 use itoa::Buffer;
 
@@ -19,6 +21,8 @@ pub enum Ending {
     Usage,
     /// A recording was played, and was read no further because of this.
     Played(Stop),
+    /// A script was read, and this is what it was found to be.
+    Judged(Verdict),
 }
 
 /// The status of a run that ends so.
@@ -29,6 +33,8 @@ fn status_of(ended: &Result<Ending, Trouble>) -> Status
         Ok(Ending::Usage) => Status::Usage,
         Ok(Ending::Played(Stop::End)) => Status::Done,
         Ok(Ending::Played(Stop::Refused { .. } | Stop::TooLong)) => Status::Refused,
+        Ok(Ending::Judged(Verdict::Accepted)) => Status::Done,
+        Ok(Ending::Judged(Verdict::Faulty { .. } | Verdict::TooLong)) => Status::Refused,
         Err(Trouble::Read) => Status::ReadFault,
         Err(Trouble::Write) => Status::WriteFault,
         Err(Trouble::Memory) => Status::NoMemory,
@@ -46,20 +52,32 @@ pub fn close<E: Sink>(ended: &Result<Ending, Trouble>, err: &mut E) -> Status
     ensures { Closes result ended.now
         (change (E.faults err.old) (E.faults err.new) (E.held err.old) (E.held err.new)) }
 {
-    let written = match ended {
+    match write_line(ended, err) {
+        Ok(()) => status_of(ended),
+        Err(_) => Status::WriteFault,
+    }
+}
+
+/// Writes the line that says how a run ended.
+fn write_line<E: Sink>(ended: &Result<Ending, Trouble>, err: &mut E) -> Result<(), Failed>
+    ensures { Writes result
+        (change (E.faults err.old) (E.faults err.new) (E.held err.old) (E.held err.new)) (line_of ended.now) }
+{
+    match ended {
         Ok(Ending::Usage) => write_usage(err),
         Ok(Ending::Played(Stop::End)) => Ok(()),
         Ok(Ending::Played(Stop::Refused { number, refusal })) => {
             write_all(err, message_line(*number, *refusal).as_slice())
         }
         Ok(Ending::Played(Stop::TooLong)) => write_all(err, b"input: TooLong\n"),
+        Ok(Ending::Judged(Verdict::Accepted)) => Ok(()),
+        Ok(Ending::Judged(Verdict::Faulty { step, kind })) => {
+            write_all(err, script_line(*step, *kind).as_slice())
+        }
+        Ok(Ending::Judged(Verdict::TooLong)) => write_all(err, b"input: TooLong\n"),
         Err(Trouble::Read) => write_all(err, b"input: read failed\n"),
         Err(Trouble::Write) => write_all(err, b"output: write failed\n"),
         Err(Trouble::Memory) => write_all(err, b"memory: none left\n"),
-    };
-    match written {
-        Ok(()) => status_of(ended),
-        Err(_) => Status::WriteFault,
     }
 }
 
@@ -86,6 +104,33 @@ fn message_line(number: u64, refusal: Refusal) -> Line
     put(&mut line, refusal.name().as_bytes());
     put(&mut line, b"\n");
     line
+}
+
+/// The line of a script that isn't accepted.
+#[tactic(auto, unfolding(crate::specs::Ending::script_line))]
+fn script_line(step: u32, kind: ScriptKind) -> Line
+    ensures { result.items ≡ script_line step kind }
+{
+    let mut line = Line::new();
+    put(&mut line, b"script: ");
+    put_step(&mut line, step);
+    put(&mut line, kind.name().as_bytes());
+    put(&mut line, b"\n");
+    line
+}
+
+/// Appends the number of a step, where there is one.
+fn put_step(line: &mut Line, step: u32)
+    requires { array_vec_len line.old + 32 ≤ ROOM }
+    ensures items { line.new.items ≡ line.old.items ++ at_step step }
+    ensures len { array_vec_len line.new ≤ array_vec_len line.old + 32 }
+{
+    if step == 0 {
+        return;
+    }
+    put(line, b"step ");
+    put_number(line, u64::from(step));
+    put(line, b": ");
 }
 
 /// Appends a number in decimal.

@@ -1,19 +1,26 @@
 //! The program: its words, a source and two sinks go into one public call, `run`.
 //!
-//! It stands on the command line, the client and the reports, which it joins: the bytes of a
-//! recording are given to a client piece by piece, and what the client then holds is printed.
+//! It stands on the command line and on both ends of the channel, which it joins to the outside. For
+//! `render` the bytes of a recording are given to a client piece by piece, and what the client then
+//! holds is printed. For `encode` a script is read whole, and its stream is written frame by frame.
 #![tactic(auto)]
 
+mod encode;
 mod ending;
+mod laws;
 mod player;
 mod program;
 mod render;
 mod status;
+mod stream;
+mod text;
 mod trouble;
 
+pub use encode::Verdict;
 pub use ending::Ending;
+pub use laws::render_shows_what_encode_wrote;
 pub use player::{PIECE, Stop, Turn};
-pub use program::{STREAM_LIMIT, run};
+pub use program::{SCRIPT_LIMIT, STREAM_LIMIT, run};
 pub use status::Status;
 pub use trouble::Trouble;
 

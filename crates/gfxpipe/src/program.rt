@@ -2,9 +2,9 @@
 ghost use Rattle.std.specs.Prelude.{◌<◌, ◌^◌, map};
 ghost use Rattle.gfx_base.specs.Stream.{change};
 ghost use Rattle.gfx_words.specs.CommandLine.{accepted};
-ghost use Rattle.gfxpipe.specs.Play.{Reads, input_of};
-ghost use Rattle.gfxpipe.specs.Run.{Executes, Runs, answer_of};
+ghost use Rattle.gfxpipe.specs.Run.{Executes, Runs, limits};
 
+use crate::encode::encode;
 use crate::ending::{Ending, close};
 use crate::render::render;
 use crate::status::Status;
@@ -16,6 +16,9 @@ use std::alloc::Global;
 /// No recording is read further than one byte past this. This project's own rule.
 pub const STREAM_LIMIT: usize = 1_073_741_824;
 
+/// No script is read further than one byte past this. This project's own rule.
+pub const SCRIPT_LIMIT: usize = 67_108_864;
+
 /// Runs the program: the words are those behind its name, `out` gains what the command prints, and
 /// `err` a line of how it ended where it is not done.
 pub fn run<I: Source, O: Sink, E: Sink>(
@@ -25,31 +28,33 @@ pub fn run<I: Source, O: Sink, E: Sink>(
     out: &mut O,
     err: &mut E,
 ) -> Status
-    ensures { Runs result (accepted (map (λ word. word.now) words.now)) STREAM_LIMIT
+    ensures { Runs result (accepted (map (λ word. word.now) words.now)) (limits STREAM_LIMIT SCRIPT_LIMIT)
         (change (I.faults input.old) (I.faults input.new) (I.left input.old) (I.left input.new))
         (change (O.faults out.old) (O.faults out.new) (O.held out.old) (O.held out.new))
         (change (E.faults err.old) (E.faults err.new) (E.held err.old) (E.held err.new)) }
 {
-    let ended = execute(alloc, words, STREAM_LIMIT, input, out);
+    let ended = execute(alloc, words, STREAM_LIMIT, SCRIPT_LIMIT, input, out);
     close(&ended, err)
 }
 
-/// Finds the command of the words and carries it out.
+/// Finds the command of the words and carries it out, within the limits on a recording and on a script.
 fn execute<I: Source, O: Sink>(
     alloc: Global,
     words: &[&str],
-    limit: usize,
+    stream: usize,
+    script: usize,
     input: &mut I,
     out: &mut O,
 ) -> Result<Ending, Trouble>
-    requires { limit < 2 ^ 63 }
-    ensures { (reads : Reads limit (change (I.faults input.old) (I.faults input.new) (I.left input.old) (I.left input.new)))
-        × Executes result (answer_of (accepted (map (λ word. word.now) words.now)) limit (input_of reads))
+    requires stream { stream < 2 ^ 63 }
+    requires script { script < 2 ^ 63 }
+    ensures { Executes result (accepted (map (λ word. word.now) words.now)) (limits stream script)
         (change (I.faults input.old) (I.faults input.new) (I.left input.old) (I.left input.new))
         (change (O.faults out.old) (O.faults out.new) (O.held out.old) (O.held out.new)) }
 {
     match command_of(alloc, words) {
-        Ok(Some(Command::Render)) => render(alloc, limit, input, out),
+        Ok(Some(Command::Render)) => render(alloc, stream, input, out),
+        Ok(Some(Command::Encode)) => encode(alloc, script, input, out),
         Ok(None) => Ok(Ending::Usage),
         Err(_) => Err(Trouble::Memory),
     }

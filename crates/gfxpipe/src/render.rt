@@ -1,9 +1,8 @@
 //! The command `render`: a recording is played, and what the client then shows is printed.
-ghost use Rattle.std.specs.Prelude.{◌<◌, ◌^◌, Some};
+ghost use Rattle.std.specs.Prelude.{◌<◌, ◌^◌};
 ghost use Rattle.gfx_base.specs.Stream.{change};
-ghost use Rattle.gfx_words.specs.declared.table.Command.TheVariants.{Render};
 ghost use Rattle.gfxpipe.specs.Play.{Reads, input_of};
-ghost use Rattle.gfxpipe.specs.Run.{Executes, answer_of};
+ghost use Rattle.gfxpipe.specs.Run.{Renders};
 
 use crate::ending::Ending;
 use crate::player::play;
@@ -22,7 +21,7 @@ pub fn render<I: Source, O: Sink>(
 ) -> Result<Ending, Trouble>
     requires { limit < 2 ^ 63 }
     ensures { (reads : Reads limit (change (I.faults input.old) (I.faults input.new) (I.left input.old) (I.left input.new)))
-        × Executes result (answer_of (Some Render) limit (input_of reads))
+        × Renders result limit (input_of reads)
         (change (I.faults input.old) (I.faults input.new) (I.left input.old) (I.left input.new))
         (change (O.faults out.old) (O.faults out.new) (O.held out.old) (O.held out.new)) }
 {

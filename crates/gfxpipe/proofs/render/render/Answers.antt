@@ -1,13 +1,11 @@
-use Rattle.std.proofs.Common.{Some}
 use Rattle.std.proofs.lemmas.Result.{err_from_is_err_and}
-use Rattle.gfx_words.specs.declared.table.Command.TheVariants.{Render}
-use Rattle.gfxpipe.proofs.Commands.{memory_first, not_played, printed, not_printed}
+use Rattle.gfxpipe.proofs.Commands.{no_client, not_played, printed, not_printed}
 use Rattle.gfxpipe.proofs.render.render.Goals as goal
 
 pub returns-in_err-client : goal.returns-in_err-client
 returns-in_err-client g c =
     let p = err_from_is_err_and c.from_residual.result c.from_residual.ensures.1 in
-    rw (p.1, p.2) (memory_first (Some Render) c.args.limit _ _ _ _)
+    rw (p.1, p.2) (no_client c.args.limit _ _ _ _)
 
 pub returns-in_err-stop : goal.returns-in_err-stop
 returns-in_err-stop g c =

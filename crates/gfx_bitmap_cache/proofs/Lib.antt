@@ -1,0 +1,4 @@
+pub mod Maps
+pub mod Totals
+pub mod Ordered
+pub mod Sound

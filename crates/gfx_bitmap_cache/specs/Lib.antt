@@ -1,0 +1,4 @@
+pub mod Slots
+pub mod Codes
+pub mod Inside
+pub mod Order

@@ -1,0 +1,55 @@
+//! What one slot holds.
+ghost use Rattle.std.specs.Prelude.{◌≡◌, ◌≤◌, ◌*◌};
+ghost use Rattle.gfx_bitmap_cache.specs.Slots.{entry, image_of, bytes_of};
+
+use crate::BYTES_PER_PIXEL;
+use gfx_base::Bitmap;
+use std::marker::Model;
+
+/// A bitmap with its key.
+#[derive(Drop)]
+pub struct Held {
+    key: u64,
+    bitmap: Bitmap,
+}
+
+impl Model for Held {
+    ghost use Rattle.gfx_bitmap_cache.specs.Slots.{Entry};
+    ghost use Rattle.gfx_bitmap_cache.specs.Codes.{entry_code};
+
+    ghost Value = { Entry };
+
+    ghost coded = { entry_code };
+
+    ghost use Rattle.gfx_bitmap_cache.specs.Inside.{entry_of};
+
+    ghost view = { entry_of };
+}
+
+impl Held {
+    pub fn new(key: u64, bitmap: Bitmap) -> Held
+        ensures { result ≡ entry key (image_of bitmap) }
+    {
+        Held { key, bitmap }
+    }
+
+    pub fn key(&self) -> u64
+        ensures { result ≡ self.now.key }
+    {
+        self.key
+    }
+
+    pub fn bitmap(&self) -> &Bitmap
+        ensures { image_of result.now ≡ self.now.image }
+    {
+        &self.bitmap
+    }
+
+    /// What it takes of the budget.
+    pub fn bytes(&self) -> u64
+        ensures bytes { result ≡ bytes_of self.now }
+        ensures small { result ≤ 4 * 65535 * 65535 }
+    {
+        BYTES_PER_PIXEL * (u64::from(self.bitmap.width) * u64::from(self.bitmap.height))
+    }
+}

@@ -1,0 +1,6 @@
+pub mod Plan
+pub mod Codes
+pub mod Pool
+pub mod PoolInside
+pub mod Tied
+pub mod Inside

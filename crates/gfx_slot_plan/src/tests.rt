@@ -1,0 +1,46 @@
+//! What no clause says: each public call once with ample memory, and the limits as numbers.
+use super::*;
+use gfx_base::{Fault, Refusal};
+use std::test::Fail;
+
+#[test]
+fn slot_budget(rt: HostRuntime) -> Result<(), Fail> {
+    let mut plan = SlotPlan::new(rt.alloc(), true)?;
+    let first = plan.keep(rt.alloc(), 1, 2048, 2048)?;
+    assert_eq!(rt; first.slot, 1);
+    assert!(rt; first.dropped.is_empty());
+    let second = plan.keep(rt.alloc(), 2, 1, 1)?;
+    assert_eq!(rt; second.slot, 1);
+    assert_eq!(rt; second.dropped.as_slice(), [1].as_slice());
+    let third = plan.keep(rt.alloc(), 3, 2049, 2048);
+    assert!(rt; matches!(&third, Err(Fault::Refused(Refusal::CacheBudget))));
+    assert_eq!(rt; plan.touch(2), Some(1));
+    Ok(())
+}
+
+#[test]
+fn slots_are_reused_by_use(rt: HostRuntime) -> Result<(), Fail> {
+    let mut plan = SlotPlan::new(rt.alloc(), true)?;
+    for key in 0..4096u16 {
+        let kept = plan.keep(rt.alloc(), u64::from(key), 1, 1)?;
+        assert_eq!(rt; kept.slot, key + 1);
+        assert_eq!(rt; kept.dropped.len(), 0);
+    }
+    assert_eq!(rt; plan.touch(0), Some(1));
+    assert_eq!(rt; plan.touch(4096), None);
+    // Key 1 is now the least recently used.
+    let kept = plan.keep(rt.alloc(), 4096, 1, 1)?;
+    assert_eq!(rt; kept.slot, 2);
+    assert_eq!(rt; kept.dropped.as_slice(), [2].as_slice());
+    for (key, slot) in [(7, Some(8)), (5, Some(6)), (5, None)] {
+        assert_eq!(rt; plan.forget(key), slot);
+    }
+    // A held key gives its slot back first, and the least free slot may be another.
+    let kept = plan.keep(rt.alloc(), 4096, 1, 1)?;
+    assert_eq!(rt; kept.slot, 2);
+    assert_eq!(rt; kept.dropped.as_slice(), [2].as_slice());
+    let kept = plan.keep(rt.alloc(), 9, 1, 1)?;
+    assert_eq!(rt; kept.slot, 6);
+    assert_eq!(rt; kept.dropped.as_slice(), [10].as_slice());
+    Ok(())
+}

@@ -6,6 +6,7 @@ use crate::fault::ClientFault;
 use crate::offer::{MOST_OFFERS, Offers};
 use crate::stepped::Stepped;
 use gfx_base::{Bytes, Fault, NoMemory, Refusal};
+use gfx_bitmap_cache::Cache;
 use gfx_pdu::{Pdu, read_pdu};
 use gfx_screen::Screen;
 use gfx_segment::Splitter;
@@ -102,9 +103,16 @@ impl Client {
 
     /// The surfaces as the messages so far have drawn them.
     pub fn surfaces(&self) -> &SurfaceMap
-        ensures { result.now ≡ (cursor_of self.now).state.surfaces }
+        ensures { result.now.shown ≡ (cursor_of self.now).state.shown }
     {
         self.screen.surfaces()
+    }
+
+    /// The bitmaps as the messages so far have stored them.
+    pub fn cache(&self) -> &Cache
+        ensures { result.now ≡ (cursor_of self.now).state.cache }
+    {
+        self.screen.cache()
     }
 
     /// How many messages were applied, up to the last value of a count.

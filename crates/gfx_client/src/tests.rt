@@ -132,3 +132,118 @@ fn surface_budget(rt: HostRuntime) -> Result<(), Fail> {
     );
     Ok(())
 }
+
+/// Messages of 4 by 1 pixels on XRGB surface 1, each in a channel message of its own.
+fn drawing() -> [u8; 162] {
+    [
+        // CreateSurface 1 of 4 by 1, XRGB.
+        0x11, 0, 0, 0, 0xe0, 4, 9, 0, 0, 0, 0xf, 0, 0, 0, 1, 0, 4, 0, 1, 0, 0x20,
+        // WireToSurface1 of uncompressed data, ARGB: blue, green, red and white.
+        0x2b, 0, 0, 0, 0xe0, 4, 1, 0, 0, 0, 0x29, 0, 0, 0, 1, 0, 0, 0, 0x21, 0, 0, 0, 0, 4, 0, 1,
+        0, 0x10, 0, 0, 0, 0xff, 0, 0, 0, 0, 0xff, 0, 0, 0, 0, 0xff, 0, 0xff, 0xff, 0xff, 0,
+        // SurfaceToSurface of the first two pixels to columns 1 and 2.
+        0x20, 0, 0, 0, 0xe0, 4, 5, 0, 0, 0, 0x1e, 0, 0, 0, 1, 0, 1, 0, 0, 0, 0, 0, 2, 0, 1, 0, 2,
+        0, 1, 0, 0, 0, 2, 0, 0, 0,
+        // MapSurfaceToOutput at (1, 0).
+        0x16, 0, 0, 0, 0xe0, 4, 0xf, 0, 0, 0, 0x14, 0, 0, 0, 1, 0, 9, 9, 1, 0, 0, 0, 0, 0, 0, 0,
+        // DeleteSurface 1, twice.
+        0xc, 0, 0, 0, 0xe0, 4, 0xa, 0, 0, 0, 0xa, 0, 0, 0, 1, 0, 0xc, 0, 0, 0, 0xe0, 4, 0xa, 0, 0,
+        0, 0xa, 0, 0, 0, 1, 0,
+    ]
+}
+
+/// How many bytes of `drawing` stand before its deletions.
+const DRAWN: usize = 130;
+
+/// Gives a client a part of `drawing`, and applies its messages.
+fn draw(client: &mut Client, from: usize, to: usize) -> Result<(), ClientFault> {
+    let bytes = drawing();
+    if from <= to && to <= bytes.len() {
+        client.take(&bytes[from..to])?;
+    }
+    step_on(client)
+}
+
+const BLUE: Pixel = Pixel {
+    b: 0xff,
+    g: 0,
+    r: 0,
+    a: 0xff,
+};
+
+const GREEN: Pixel = Pixel {
+    b: 0,
+    g: 0xff,
+    r: 0,
+    a: 0xff,
+};
+
+#[test]
+fn messages_draw_and_delete(rt: HostRuntime) -> Result<(), Fail> {
+    let mut client = new_client(rt.alloc())?;
+    draw(&mut client, 0, DRAWN)?;
+    let surface = client.surfaces().get(1).ok_or("a surface")?;
+    assert_eq!(rt; surface.size(), (4, 1));
+    assert_eq!(rt; surface.row(0), [BLUE, BLUE, BLUE, GREEN].as_slice());
+    let (number, refusal) = (6, Refusal::NoSurface);
+    assert_eq!(rt;
+        draw(&mut client, DRAWN, drawing().len()),
+        Err(ClientFault::Refused { number, refusal })
+    );
+    Ok(())
+}
+
+/// Messages of 4 by 1 pixels, of which two go through slot 258.
+fn caching() -> [u8; 135] {
+    [
+        // CreateSurface 1 of 4 by 1, XRGB.
+        0x11, 0, 0, 0, 0xe0, 4, 9, 0, 0, 0, 0xf, 0, 0, 0, 1, 0, 4, 0, 1, 0, 0x20,
+        // SolidFill of the first pixel in red.
+        0x1a, 0, 0, 0, 0xe0, 4, 4, 0, 0, 0, 0x18, 0, 0, 0, 1, 0, 0, 0, 0xff, 0, 1, 0, 0, 0, 0, 0,
+        1, 0, 1, 0,
+        // SurfaceToCache of the first two pixels, with the key 7.
+        0x1e, 0, 0, 0, 0xe0, 4, 6, 0, 0, 0, 0x1c, 0, 0, 0, 1, 0, 7, 0, 0, 0, 0, 0, 0, 0, 2, 1, 0,
+        0, 0, 0, 2, 0, 1, 0,
+        // CacheToSurface to column 2.
+        0x14, 0, 0, 0, 0xe0, 4, 7, 0, 0, 0, 0x12, 0, 0, 0, 2, 1, 1, 0, 1, 0, 2, 0, 0, 0,
+        // CapsConfirm of version 8 with the small cache.
+        0x16, 0, 0, 0, 0xe0, 4, 0x13, 0, 0, 0, 0x14, 0, 0, 0, 4, 0, 8, 0, 4, 0, 0, 0, 2, 0, 0, 0,
+    ]
+}
+
+/// EvictCacheEntry of a slot.
+fn evict(slot: u16) -> [u8; 16] {
+    let mut message = [0xc, 0, 0, 0, 0xe0, 4, 8, 0, 0, 0, 0xa, 0, 0, 0, 0, 0];
+    message[14..16].copy_from_slice(&slot.to_le_bytes());
+    message
+}
+
+const BLACK: Pixel = Pixel {
+    b: 0,
+    g: 0,
+    r: 0,
+    a: 0xff,
+};
+
+#[test]
+fn bitmaps_are_cached(rt: HostRuntime) -> Result<(), Fail> {
+    let mut client = new_client(rt.alloc())?;
+    client.take(&caching())?;
+    step_on(&mut client)?;
+    assert_eq!(rt; client.applied(), 5);
+    assert_eq!(rt; client.cache().key(258), Some(7));
+    assert!(rt; !client.cache().takes_slot(4097));
+    let surface = client.surfaces().get(1).ok_or("a surface")?;
+    assert_eq!(rt; surface.size(), (4, 1));
+    assert_eq!(rt; surface.row(0), [RED, BLACK, RED, BLACK].as_slice());
+    client.take(&evict(258))?;
+    assert_eq!(rt; client.step(), Ok(Stepped::Applied));
+    assert_eq!(rt; client.cache().key(258), None);
+    client.take(&evict(0))?;
+    let (number, refusal) = (7, Refusal::SlotRange);
+    assert_eq!(rt;
+        client.step(),
+        Err(ClientFault::Refused { number, refusal })
+    );
+    Ok(())
+}

@@ -1,13 +1,15 @@
 -- The messages of steps and frames fit their channel messages.
-use Rattle.std.proofs.Common.{ℕ, ◌≤◌, ◌<◌, ◌^◌, List, length, arith}
+use Rattle.std.proofs.Common.{ℕ, ◌≤◌, ◌<◌, ◌^◌, List, [], ◌∷◌, length, arith}
 use Rattle.std.specs.List.{AllByRecursion}
-use Rattle.gfx_base.specs.Geometry.{IsRect}
+use Rattle.gfx_base.specs.Geometry.{IsRect, IsPoint}
+use Rattle.gfx_base.specs.declared.geometry.Point.{Point}
 use Rattle.gfx_base.specs.declared.geometry.Rect.{Rect}
 use Rattle.gfx_base.specs.declared.pixel.Pixel.{Pixel}
 use Rattle.gfx_pdu.specs.declared.pdu.Pdu.{Pdu}
-use Rattle.gfx_pdu.specs.declared.pdu.Pdu.TheVariants.{SolidFill, CreateSurface, StartFrame, EndFrame}
-use Rattle.gfx_pdu.specs.Spelling.{size, CountsFit, NumbersFit}
-use Rattle.gfx_pdu.proofs.Sizes.{size_of_solid_fill}
+use Rattle.gfx_pdu.specs.declared.pdu.Pdu.TheVariants.{SolidFill, SurfaceToSurface, CreateSurface, DeleteSurface, StartFrame, EndFrame, ResetGraphics, MapSurfaceToOutput}
+use Rattle.gfx_pdu.specs.declared.pdu.Monitor.{Monitor}
+use Rattle.gfx_pdu.specs.Spelling.{size, CountsFit, NumbersFit, IsMonitor}
+use Rattle.gfx_pdu.proofs.Sizes.{size_of_solid_fill, size_of_surface_to_surface, size_of_reset_graphics}
 use Rattle.gfx_pdu.proofs.Laws.{length-spelling}
 use Rattle.gfx_segment.specs.declared.profile.TheConstants.{MOST_PAYLOAD}
 use Rattle.gfx_script.specs.declared.TheConstants.{MOST_RECTS}
@@ -38,6 +40,29 @@ carried-create id width height format i w h = carried (CreateSurface id width he
 pub carried-fill : (surface : ℕ) (colour : Pixel) (rects : List Rect) → surface < 2 ^ 16 → AllByRecursion IsRect rects → length rects ≤ MOST_RECTS → IsCarried (SolidFill surface colour rects)
 carried-fill surface colour rects s all few =
     carried (SolidFill surface colour rects) (s, all) (omega arith) (omega (arith, size_of_solid_fill surface colour rects))
+
+delete_size : (id : ℕ) → size (DeleteSurface id) ≤ MOST_PAYLOAD
+unfolding size
+delete_size id = omega arith
+
+pub carried-delete : (id : ℕ) → id < 2 ^ 16 → IsCarried (DeleteSurface id)
+carried-delete id i = carried (DeleteSurface id) i tt (delete_size id)
+
+map_size : (id x y : ℕ) → size (MapSurfaceToOutput id 0 x y) ≤ MOST_PAYLOAD
+unfolding size
+map_size id x y = omega arith
+
+pub carried-map : (id x y : ℕ) → id < 2 ^ 16 → x < 2 ^ 32 → y < 2 ^ 32 → IsCarried (MapSurfaceToOutput id 0 x y)
+carried-map id x y i h v = carried (MapSurfaceToOutput id 0 x y) (i, omega arith, h, v) tt (map_size id x y)
+
+pub carried-reset : (width height : ℕ) (monitor : Monitor) → width < 2 ^ 32 → height < 2 ^ 32 → IsMonitor monitor → IsCarried (ResetGraphics width height (monitor ∷ []))
+carried-reset width height monitor w h m =
+    let few : length (monitor ∷ []) ≤ 16 = omega arith in
+    carried (ResetGraphics width height (monitor ∷ [])) (w, h, (m, tt)) few (omega (arith, size_of_reset_graphics width height (monitor ∷ []) few))
+
+pub carried-copy : (from to : ℕ) (rect : Rect) (points : List Point) → from < 2 ^ 16 → to < 2 ^ 16 → IsRect rect → AllByRecursion IsPoint points → length points ≤ MOST_RECTS → IsCarried (SurfaceToSurface from to rect points)
+carried-copy from to rect points f t r all few =
+    carried (SurfaceToSurface from to rect points) (f, t, r, all) (omega arith) (omega (arith, size_of_surface_to_surface from to rect points))
 
 pub carried-start : (frame : ℕ) → frame < 2 ^ 32 → IsCarried (StartFrame 0 frame)
 carried-start frame f = carried (StartFrame 0 frame) (omega arith, f) tt (start_size frame)

@@ -1,11 +1,11 @@
 -- What a script's checks hold stays in step with the surfaces.
-use Rattle.std.proofs.Common.{◌≡◌, ◌≢◌, ◌⊎◌, ℕ, ◌+◌, ◌<◌, ◌&&◌, Bool, true, false, cond, List, [], ◌∷◌, Option, Some, None, option_map, is_some, inl, inr, refl, sym, ap, ◌∙◌, arith}
+use Rattle.std.proofs.Common.{◌≡◌, ◌≢◌, ◌⊎◌, ℕ, ◌+◌, ◌-◌, ◌<◌, ◌&&◌, Bool, true, false, cond, List, [], ◌∷◌, Option, Some, None, option_map, is_some, inl, inr, refl, sym, ap, ◌∙◌, arith}
 use Rattle.std.specs.Prelude.{T}
 use Rattle.std.specs.Cmp.{nat_cmp_total}
 use Rattle.std.specs.declared.cmp.Ordering.{Ordering}
 use Rattle.std.specs.declared.cmp.Ordering.TheVariants.{Less, Equal, Greater}
 use Rattle.std.specs.FinMap.Entries.{by_order, below_all}
-use Rattle.std.specs.FinMap.{FinMap, find, get, insert, contains_key, len, empty, values, entries, entries_sorted, entries-insert, put, is_sorted, get-insert, get-entries, len-insert, get-empty, len-empty, len-entries}
+use Rattle.std.specs.FinMap.{FinMap, find, get, insert, remove, same_map, nat_cmp-IsAntisymmetric, get-remove, len-remove, contains_key, len, empty, values, entries, entries_sorted, entries-insert, put, is_sorted, get-insert, get-entries, len-insert, get-empty, len-empty, len-entries}
 use Rattle.std.specs.List.{sum_by}
 use Rattle.std.specs.Map.{values_of}
 use Rattle.std.specs.Ordering.{nat_cmp, eq_by_cmp, is_eq, is_lt}
@@ -150,3 +150,49 @@ holds-drawn held surfaces id old new holds some same =
         let differ : eq_by_cmp nat_cmp q id ≡ false = grind (arith, nat_tests) in
         holds.sides q ∙ ap (λ b. option_map sides_of (cond b (Some new) (get surfaces q))) (sym differ)
         ∙ ap (option_map sides_of) (sym (get-insert nat_cmp_total surfaces id new q))
+
+-- a surface that is deleted
+removed_again : {X : Type 0} (m : FinMap nat_cmp X) (k : ℕ) (v : X) → get m k ≡ Some v → insert (remove m k) k v ≡ m
+removed_again m k v there = same_map nat_cmp_total nat_cmp-IsAntisymmetric _ _ (λ q. get-insert nat_cmp_total (remove m k) k v q
+    ∙ ap (cond (eq_by_cmp nat_cmp q k) (Some v)) (get-remove nat_cmp_total m k q) ∙ by q (cases_eq q k))
+  where
+    by : (q : ℕ) → ((q ≡ k) ⊎ (q ≢ k)) → cond (eq_by_cmp nat_cmp q k) (Some v) (cond (eq_by_cmp nat_cmp q k) None (get m q)) ≡ get m q
+    by q (inl at) =
+        let same : eq_by_cmp nat_cmp q k ≡ true = grind (arith, nat_tests) in
+        ap (λ b. cond b (Some v) (cond b None (get m q))) same ∙ sym there ∙ ap (get m) (sym at)
+    by q (inr apart) =
+        let differ : eq_by_cmp nat_cmp q k ≡ false = grind (arith, nat_tests) in
+        ap (λ b. cond b (Some v) (cond b None (get m q))) differ
+
+get-removed : {X : Type 0} (m : FinMap nat_cmp X) (k : ℕ) → get (remove m k) k ≡ None
+get-removed m k =
+    let same : eq_by_cmp nat_cmp k k ≡ true = grind (arith, nat_tests) in
+    get-remove nat_cmp_total m k k ∙ ap (λ b. cond b None (get m k)) same
+
+sum_by-values-remove : {X : Type 0} (f : X → ℕ) (m : FinMap nat_cmp X) (k : ℕ) (v : X) → get m k ≡ Some v → sum_by f (values m) ≡ f v + sum_by f (values (remove m k))
+sum_by-values-remove f m k v there =
+    let whole = ap (λ z. sum_by f (values z)) (removed_again m k v there) in
+    let put = sum_by-values-insert f (remove m k) k v in
+    let none : share f (get (remove m k) k) ≡ 0 = ap (share f) (get-removed m k) in
+    omega (arith, whole, put, none)
+
+option_map-none : {X Y : Type 0} (f : X → Y) (b : Bool) (o : Option X) → cond b None (option_map f o) ≡ option_map f (cond b None o)
+option_map-none f true o = refl
+option_map-none f false o = refl
+
+pub holds-deleted : (held : Held) (surfaces : Surfaces) (id : ℕ) (picture : Picture) → Holds held surfaces → get surfaces id ≡ Some picture
+    → Holds (record { sides = remove held.sides id; cells = held.cells - cells picture.width picture.height }) (remove surfaces id)
+holds-deleted held surfaces id picture holds there =
+    let present : contains_key surfaces id ≡ true = ap is_some there in
+    let held_present : contains_key held.sides id ≡ true = ap is_some (holds.sides id) ∙ ap (λ z. is_some (option_map sides_of z)) there in
+    let sum = sum_by-values-remove cells_of_picture surfaces id picture there in
+    record {
+      sides = λ q. get-remove nat_cmp_total held.sides id q
+          ∙ ap (cond (eq_by_cmp nat_cmp q id) None) (holds.sides q)
+          ∙ option_map-none sides_of (eq_by_cmp nat_cmp q id) (get surfaces q)
+          ∙ ap (option_map sides_of) (sym (get-remove nat_cmp_total surfaces id q));
+      count = len-remove nat_cmp_total held.sides id ∙ ap (λ b. cond b (len held.sides - 1) (len held.sides)) held_present
+          ∙ ap (λ n. n - 1) holds.count
+          ∙ sym (len-remove nat_cmp_total surfaces id ∙ ap (λ b. cond b (len surfaces - 1) (len surfaces)) present);
+      cells = omega (arith, sum, holds.cells);
+    }

@@ -44,7 +44,7 @@ all_steps-none state = refl
 pub record Passed (server after : Server) (pdus : List Pdu) : Type 0 where
   pub accepted : all_steps server.state pdus ≡ Ok after.state
   pub carried : AllByRecursion IsCarried pdus
-  pub surfaces : after.state.surfaces ≡ server.state.surfaces
+  pub shown : after.state.shown ≡ server.state.shown
 
 pub opens_frame : (server : Server) → server.frames + 1 < 2 ^ 32 → server.state.frame ≡ None
     → after_open server ≡ record { state = record server.state { frame = Some (server.frames + 1) }; frames = server.frames + 1 }
@@ -65,7 +65,7 @@ opened_fine server few (inl none) =
       record {
         accepted = ap (all_steps server.state) pdus ∙ all_steps-one server.state _ (frame_start server) accepts.stepped ∙ ap (λ z. Ok z.state) (sym is);
         carried = subst (AllByRecursion IsCarried) (sym pdus) (accepts.carried, tt);
-        surfaces = ap (λ z. z.state.surfaces) is;
+        shown = ap (λ z. z.state.shown) is;
       },
       ap (λ z. z.state.frame) is ∙ ap (λ z. Some z.frames) (sym is),
       omega (arith, ap (λ z. z.frames) is),
@@ -76,7 +76,7 @@ opened_fine server few (inr within) =
       record {
         accepted = ap (all_steps server.state) pdus ∙ all_steps-none server.state ∙ ap (λ z. Ok z.state) (sym now);
         carried = subst (AllByRecursion IsCarried) (sym pdus) tt;
-        surfaces = ap (λ z. z.state.surfaces) now;
+        shown = ap (λ z. z.state.shown) now;
       },
       ap (λ z. z.state.frame) now ∙ within ∙ ap (λ z. Some z.frames) (sym now),
       omega (arith, ap (λ z. z.frames) now),
@@ -97,19 +97,19 @@ closed_fine server Frame few within =
       record {
         accepted = all_steps-one server.state _ (frame_end server) accepts.stepped ∙ ap (λ z. Ok z.state) (sym is);
         carried = (accepts.carried, tt);
-        surfaces = ap (λ z. z.state.surfaces) is;
+        shown = ap (λ z. z.state.shown) is;
       },
       inl (ap (λ z. z.state.frame) is),
       ap (λ z. z.frames) is,
     )
 closed_fine server step few within =
-    (record { accepted = all_steps-none server.state; carried = tt; surfaces = refl }, inr within, refl)
+    (record { accepted = all_steps-none server.state; carried = tt; shown = refl }, inr within, refl)
 
 -- a step of a script --------------------------------------------------------------------------------
 
 -- the server's end, in step with the script
 pub record Stands (server : Server) (held : Held) (wanted : Wanted) : Type 0 where
-  pub holds : Holds held server.state.surfaces
+  pub holds : Holds held server.state.shown.surfaces
   pub agrees : Agree server.state wanted
   pub frame : KeepsFrame server
 
@@ -120,8 +120,8 @@ pub record Goes (server : Server) (step : Step) (after : Held) (wanted : Wanted)
   pub stands : Stands (served server step) after wanted
   pub frames : (served server step).frames ≤ server.frames + 1
 
-agree_surfaces : (state next : State) (wanted : Wanted) → next.surfaces ≡ state.surfaces → Agree state wanted → Agree next wanted
-agree_surfaces state next wanted same agree = record { surfaces = same ∙ agree.surfaces }
+agree_shown : (state next : State) (wanted : Wanted) → next.shown ≡ state.shown → Agree state wanted → Agree next wanted
+agree_shown state next wanted same agree = record { shown = same ∙ agree.shown }
 
 pub goes : (server : Server) (held after : Held) (wanted : Wanted) (step : Step) → server.frames + 1 < 2 ^ 32 → Stands server held wanted → IsStep step
     → held_after held step ≡ Ok after → Goes server step after (wanted_after wanted step)
@@ -129,22 +129,22 @@ unfolding sends served
 goes server held after wanted step few stands numbers checked =
     let o = opened_fine server few stands.frame in
     let ready : Server = opened server in
-    let there = subst (Holds held) (sym o.0.surfaces) stands.holds in
+    let there = subst (λ z. Holds held z.surfaces) (sym o.0.shown) stands.holds in
     let fine = step_fine ready held after step there numbers checked in
     let put : Server = after_put ready step in
     let put_is : put ≡ record ready { state = fine.next } = after_messages-is ready (messages ready step) fine.next fine.accepted in
     let within : IsInFrame put = ap (λ z. z.state.frame) put_is ∙ fine.frame ∙ o.1 ∙ ap (λ z. Some z.frames) (sym put_is) in
     let frames : put.frames ≡ ready.frames = ap (λ z. z.frames) put_is in
     let c = closed_fine put step (omega (arith, frames, o.2)) within in
-    let agreed : Agree fine.next (wanted_after wanted step) = fine.agrees wanted (agree_surfaces server.state ready.state wanted o.0.surfaces stands.agrees) in
-    let surfaces = c.0.surfaces ∙ ap (λ z. z.state.surfaces) put_is in
+    let agreed : Agree fine.next (wanted_after wanted step) = fine.agrees wanted (agree_shown server.state ready.state wanted o.0.shown stands.agrees) in
+    let shown = c.0.shown ∙ ap (λ z. z.state.shown) put_is in
     record {
       accepted = both server.state ready.state _ (opening server) _ o.0.accepted
           (both ready.state put.state _ (messages ready step) (closing put step) (fine.accepted ∙ ap (λ z. Ok z.state) (sym put_is)) c.0.accepted);
       carried = carried_both (opening server) _ o.0.carried (carried_both (messages ready step) (closing put step) fine.carried c.0.carried);
       stands = record {
-        holds = subst (Holds after) (sym surfaces) fine.holds;
-        agrees = agree_surfaces fine.next _ _ surfaces agreed;
+        holds = subst (λ z. Holds after z.surfaces) (sym shown) fine.holds;
+        agrees = agree_shown fine.next _ _ shown agreed;
         frame = c.1;
       };
       frames = omega (arith, c.2, frames, o.2);
@@ -222,7 +222,7 @@ all_behind [] ys all = all
 all_behind (x ∷ xs) ys all = all_behind xs ys all.1
 
 stands_at_start : Stands at_start nothing_held nothing_wanted
-stands_at_start = record { holds = holds-nothing; agrees = record { surfaces = refl }; frame = inl refl }
+stands_at_start = record { holds = holds-nothing; agrees = record { shown = refl }; frame = inl refl }
 
 -- what holds after a front of an accepted script
 pub record Along (front rest : List Step) : Type 0 where
@@ -263,7 +263,7 @@ shown script front rest good cut =
 pub allowed_opened : (server : Server) (step : Step) → server.frames + 1 < 2 ^ 32 → KeepsFrame server → IsAllowed server step → IsAllowed (opened server) step
 allowed_opened server step few keeps allowed =
     let o = opened_fine server few keeps in
-    record { numbers = allowed.numbers; held = allowed.held; holds = subst (Holds allowed.held) (sym o.0.surfaces) allowed.holds; after = allowed.after; checked = allowed.checked }
+    record { numbers = allowed.numbers; held = allowed.held; holds = subst (λ z. Holds allowed.held z.surfaces) (sym o.0.shown) allowed.holds; after = allowed.after; checked = allowed.checked }
 
 -- and leaves the frame open
 pub put_in_frame : (server : Server) (step : Step) → IsInFrame server → IsAllowed server step → IsInFrame (after_put server step)

@@ -13,7 +13,7 @@ use Rattle.gfx_planner.specs.Wire.{Server}
 
 -- the state shows what is wanted
 pub record Agree (state : State) (wanted : Wanted) : Type 0 where
-  pub surfaces : state.surfaces ≡ wanted.surfaces
+  pub shown : state.shown ≡ wanted.shown
 
 -- a picture's sides
 abbrev pub sides_of : Picture → Sides
@@ -37,7 +37,7 @@ KeepsFrame server = (server.state.frame ≡ None) ⊎ IsInFrame server
 pub record IsAllowed (server : Server) (step : Step) : Type 0 where
   pub numbers : IsStep step
   pub held : Held
-  pub holds : Holds held server.state.surfaces
+  pub holds : Holds held server.state.shown.surfaces
   pub after : Held
   pub checked : held_after held step ≡ Ok after
 

@@ -1,12 +1,14 @@
 -- Which messages the server's end sends, and what it then keeps ([MS-RDPEGFX] 3.2.5; which message a
 -- step is made into is this project's own rule).
-use Rattle.std.specs.Prelude.{ℕ, ◌+◌, List, [], ◌∷◌, Result, Ok, Err}
+use Rattle.std.specs.Prelude.{ℕ, ◌+◌, ◌-◌, List, [], ◌∷◌, Result, Ok, Err}
 use Rattle.gfx_base.specs.Format.{byte_of}
 use Rattle.gfx_base.specs.declared.refusal.Refusal.{Refusal}
 use Rattle.gfx_pdu.specs.declared.pdu.Pdu.{Pdu}
-use Rattle.gfx_pdu.specs.declared.pdu.Pdu.TheVariants.{SolidFill, CreateSurface, StartFrame, EndFrame}
+use Rattle.gfx_pdu.specs.declared.pdu.Pdu.TheVariants.{SolidFill, SurfaceToSurface, CreateSurface, DeleteSurface, StartFrame, EndFrame, ResetGraphics, MapSurfaceToOutput}
+use Rattle.gfx_pdu.specs.declared.pdu.Monitor.{Monitor}
+use Rattle.gfx_planner.specs.declared.planner.TheConstants.{PRIMARY}
 use Rattle.gfx_script.specs.declared.step.Step.{Step}
-use Rattle.gfx_script.specs.declared.step.Step.TheVariants.{Surface, Fill, Frame}
+use Rattle.gfx_script.specs.declared.step.Step.TheVariants.{Surface, Delete, Reset, Map, Fill, Copy, Frame}
 use Rattle.gfx_state.specs.State.{State, fresh}
 use Rattle.gfx_state.specs.Sending.{all_steps}
 
@@ -19,10 +21,18 @@ pub record Server : Type 0 where
 abbrev pub at_start : Server
 at_start = record { state = fresh; frames = 0 }
 
+-- the one monitor of an output of these sides, which is the primary one
+abbrev pub one_monitor : ℕ → ℕ → Monitor
+one_monitor width height = record { left = 0; top = 0; right = width - 1; bottom = height - 1; flags = PRIMARY }
+
 -- the messages of a step, inside a frame
 unfoldable pub messages : Server → Step → List Pdu
 messages server (Surface id width height format) = CreateSurface id width height (byte_of format) ∷ []
+messages server (Delete id) = DeleteSurface id ∷ []
+messages server (Reset width height) = ResetGraphics width height (one_monitor width height ∷ []) ∷ []
+messages server (Map id x y) = MapSurfaceToOutput id 0 x y ∷ []
 messages server (Fill id colour rects) = SolidFill id colour rects ∷ []
+messages server (Copy from to rect points) = SurfaceToSurface from to rect points ∷ []
 messages server Frame = []
 
 -- the message that opens the next frame: frames are counted from 1

@@ -1,23 +1,27 @@
-ghost use Rattle.std.specs.Prelude.{◌≡◌, ◌<◌, ◌+◌, [], ◌∷◌, IfOk, IsOk, None};
+ghost use Rattle.std.specs.Prelude.{◌≡◌, ◌<◌, ◌≤◌, ◌+◌, [], ◌∷◌, IfOk, IsOk, None};
 ghost use Rattle.std.specs.Option.{is_some};
 ghost use Rattle.gfx_script.specs.Script.{step_at};
 ghost use Rattle.gfx_state.specs.Sending.{IsCarried};
 ghost use Rattle.gfx_state.specs.Step.{step};
-ghost use Rattle.gfx_planner.specs.Wire.{at_start, messages, frame_start, frame_end, after_open, after_close};
+ghost use Rattle.gfx_pdu.specs.declared.pdu.Pdu.TheVariants.{ResetGraphics};
+ghost use Rattle.gfx_planner.specs.Wire.{at_start, one_monitor, messages, frame_start, frame_end, after_open, after_close};
 ghost use Rattle.gfx_planner.specs.Agree.{IsAllowed, IsAllowedStep, IsInFrame};
 ghost use Rattle.gfx_planner.specs.Planned.{ready, Sends, Puts, Passes};
 
-use gfx_base::{Bytes, Fault, NoMemory, Rects};
-use gfx_pdu::{Pdu, write_pdu};
+use gfx_base::{Bytes, Fault, NoMemory, Points, Rects};
+use gfx_pdu::{Monitor, Monitors, Pdu, write_pdu};
 use gfx_screen::Screen;
 use gfx_script::{Script, Step};
 use gfx_segment::wrap;
-use gfx_surface_map::SurfaceMap;
+use gfx_surface_map::{MOST_OUTPUT_SIDE, SurfaceMap};
 use std::alloc::Global;
 use std::marker::Model;
 
 /// No planner opens more frames.
 pub const MOST_FRAMES: u32 = 100_000;
+
+/// The flag of the primary monitor ([MS-RDPBCGR] TS_MONITOR_PRIMARY).
+pub const PRIMARY: u32 = 1;
 
 /// The server's end: it makes steps into messages, and keeps the state that they give. Its calls
 /// append whole channel messages. Without memory it is spent, and answers that from then on.
@@ -61,7 +65,7 @@ impl Planner {
 
     /// The surfaces that the messages so far give.
     pub fn surfaces(&self) -> &SurfaceMap
-        ensures { result.now ≡ self.now.server.state.surfaces }
+        ensures { result.now.shown ≡ self.now.server.state.shown }
     {
         self.screen.surfaces()
     }
@@ -158,6 +162,17 @@ impl Planner {
                 };
                 self.pass(&create, out)
             }
+            Step::Delete { id } => self.pass(&Pdu::DeleteSurface { id: *id }, out),
+            Step::Reset { width, height } => self.put_reset(*width, *height, out),
+            Step::Map { id, x, y } => {
+                let map = Pdu::MapSurfaceToOutput {
+                    id: *id,
+                    reserved: 0,
+                    x: *x,
+                    y: *y,
+                };
+                self.pass(&map, out)
+            }
             Step::Fill { id, colour, rects } => {
                 let mut copied = Rects::new(self.alloc);
                 copied.append(rects.as_slice())?;
@@ -168,8 +183,49 @@ impl Planner {
                 };
                 self.pass(&fill, out)
             }
+            Step::Copy {
+                from,
+                to,
+                rect,
+                points,
+            } => {
+                let mut copied = Points::new(self.alloc);
+                copied.append(points.as_slice())?;
+                let copy = Pdu::SurfaceToSurface {
+                    source: *from,
+                    destination: *to,
+                    rect: *rect,
+                    points: copied,
+                };
+                self.pass(&copy, out)
+            }
             Step::Frame => Ok(()),
         }
+    }
+
+    /// Gives the output these sides, with one monitor that covers it.
+    fn put_reset(&mut self, width: u32, height: u32, out: &mut Bytes) -> Result<(), NoMemory>
+        requires width { (1 ≤ width) × (width ≤ MOST_OUTPUT_SIDE) }
+        requires height { (1 ≤ height) × (height ≤ MOST_OUTPUT_SIDE) }
+        ensures passes { Passes result self.old.server.state self.new.server.state out.old out.new
+            (ResetGraphics width height (one_monitor width height ∷ []) ∷ []) }
+        ensures frames { self.new.server.frames ≡ self.old.server.frames }
+        ensures spent { self.new.spent ≡ self.old.spent }
+    {
+        let mut monitors = Monitors::new(self.alloc);
+        monitors.push(Monitor {
+            left: 0,
+            top: 0,
+            right: width - 1,
+            bottom: height - 1,
+            flags: PRIMARY,
+        })?;
+        let reset = Pdu::ResetGraphics {
+            width,
+            height,
+            monitors,
+        };
+        self.pass(&reset, out)
     }
 
     /// Puts out one message, and applies it to the server's own state.

@@ -7,6 +7,8 @@ use Rattle.gfx_base.specs.declared.format.Format.TheVariants.{Xrgb, Argb}
 use Rattle.gfx_base.specs.declared.pixel.Pixel.{Pixel}
 use Rattle.gfx_surface.specs.Picture.{Picture, row_of}
 use Rattle.gfx_surface_map.specs.Surfaces.{Surfaces}
+use Rattle.gfx_surface_map.specs.Shown.{Shown}
+use Rattle.gfx_surface_map.specs.Composed.{output_row}
 use Rattle.hex.specs.Hex.{encode_lower}
 
 -- what ends a line
@@ -46,3 +48,11 @@ surface_text id picture = surface_line id picture ++ rows_text (row_of picture) 
 -- the dump of all surfaces, by ascending id
 unfoldable pub dump_text : Surfaces → List ℕ
 dump_text surfaces = flat_map (λ entry. surface_text entry.0 entry.1) (finmap.entries surfaces)
+
+-- the line above the output's rows, as in `output 1024x768`
+unfoldable pub output_line : ℕ → ℕ → List ℕ
+output_line width height = codes "output " ++ (sides_text width height ++ newline)
+
+-- the dump of the output: its line, and its rows
+unfoldable pub output_text : Shown → List ℕ
+output_text shown = output_line shown.output.width shown.output.height ++ rows_text (output_row shown) shown.output.height

@@ -1,8 +1,8 @@
-//! The line above a surface's rows.
+//! The lines above the rows of a surface, and of the output.
 ghost use Rattle.std.specs.Prelude.{◌≡◌, ◌+◌, ◌++◌, ◌≤◌, length, decimal};
 ghost use Rattle.arrayvec.specs.ArrayVec.{array_vec_len};
 ghost use Rattle.gfx_base.specs.Stream.{Writes, change};
-ghost use Rattle.gfx_report.specs.Texts.{surface_line, sides_text, format_name};
+ghost use Rattle.gfx_report.specs.Texts.{surface_line, output_line, sides_text, format_name};
 
 use arrayvec::ArrayVec;
 use gfx_base::{Failed, Format, Sink, write_all};
@@ -21,8 +21,7 @@ pub fn write_surface_line<O: Sink>(id: u16, surface: &Surface, out: &mut O) -> R
         (change (O.faults out.old) (O.faults out.new) (O.held out.old) (O.held out.new))
         (surface_line id surface.now) }
 {
-    let line = surface_line(id, surface);
-    write_all(out, line.as_slice())
+    write_all(out, surface_line(id, surface).as_slice())
 }
 
 /// The line above a surface's rows.
@@ -44,6 +43,29 @@ fn surface_line(id: u16, surface: &Surface) -> Line
     line
 }
 
+/// Writes the line above the output's rows.
+pub fn write_output_line<O: Sink>(width: u32, height: u32, out: &mut O) -> Result<(), Failed>
+    ensures { Writes result
+        (change (O.faults out.old) (O.faults out.new) (O.held out.old) (O.held out.new))
+        (output_line width height) }
+{
+    write_all(out, output_line(width, height).as_slice())
+}
+
+/// The line above the output's rows.
+#[tactic(auto, unfolding(crate::specs::Texts::output_line))]
+fn output_line(width: u32, height: u32) -> Line
+    ensures { result.items ≡ output_line width height }
+{
+    let mut line = Line::new();
+    put(&mut line, b"output ");
+    put_long_number(&mut line, width);
+    put(&mut line, b"x");
+    put_long_number(&mut line, height);
+    put(&mut line, b"\n");
+    line
+}
+
 /// The name of a format.
 fn name_of(format: Format) -> &'static [u8]
     ensures { result.now ≡ format_name format }
@@ -59,6 +81,16 @@ fn put_number(line: &mut Line, number: u16)
     requires { array_vec_len line.old + 5 ≤ ROOM }
     ensures items { line.new.items ≡ line.old.items ++ decimal number }
     ensures len { array_vec_len line.new ≤ array_vec_len line.old + 5 }
+{
+    let mut buffer = Buffer::new();
+    put(line, buffer.format(number).as_bytes());
+}
+
+/// Appends a number of up to ten digits in decimal.
+fn put_long_number(line: &mut Line, number: u32)
+    requires { array_vec_len line.old + 10 ≤ ROOM }
+    ensures items { line.new.items ≡ line.old.items ++ decimal number }
+    ensures len { array_vec_len line.new ≤ array_vec_len line.old + 10 }
 {
     let mut buffer = Buffer::new();
     put(line, buffer.format(number).as_bytes());

@@ -11,7 +11,7 @@ use gfx_surface_map::SurfaceMap;
 /// memory. After a fault the sink has gained a front of the text. The text is this project's own rule.
 pub fn dump<O: Sink>(surfaces: &SurfaceMap, out: &mut O) -> Result<(), Failed>
     ensures { Writes result
-        (change (O.faults out.old) (O.faults out.new) (O.held out.old) (O.held out.new)) (dump_text surfaces.now) }
+        (change (O.faults out.old) (O.faults out.new) (O.held out.old) (O.held out.new)) (dump_text surfaces.now.shown.surfaces) }
 {
     let mut from = 0;
     'surfaces: while let Some(id) = surfaces.next_id(from) {

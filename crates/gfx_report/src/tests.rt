@@ -124,3 +124,50 @@ fn a_failed_write_leaves_a_front(rt: HostRuntime) -> Result<(), Fail> {
     }
     Ok(())
 }
+
+/// The output of `two_pixels_mapped`.
+const OUTPUT: &str = "output 2x2
+000000ff0000ffff
+000000ff000000ff
+";
+
+/// Two red pixels, of which the output shows one.
+fn two_pixels_mapped(alloc: Global) -> Result<SurfaceMap, Fault> {
+    let mut surfaces = SurfaceMap::new(alloc);
+    add(&mut surfaces, alloc, 1, (2, 1), Format::Xrgb, RED)?;
+    surfaces.reset(2, 2)?;
+    surfaces.map_output(1, 1, 0)?;
+    Ok(surfaces)
+}
+
+#[test]
+fn output_dump(rt: HostRuntime) -> Result<(), Fail> {
+    let surfaces = two_pixels_mapped(rt.alloc())?;
+    let mut out = VecSink::new(rt.alloc(), 100, &[])?;
+    assert_eq!(rt; dump_output(&surfaces, rt.alloc(), &mut out), Ok(()));
+    assert_eq!(rt; out.held(), OUTPUT.as_bytes());
+    Ok(())
+}
+
+#[test]
+fn no_output_has_no_rows(rt: HostRuntime) -> Result<(), Fail> {
+    let surfaces = two_surfaces(rt.alloc())?;
+    let mut out = VecSink::new(rt.alloc(), 100, &[])?;
+    assert_eq!(rt; dump_output(&surfaces, rt.alloc(), &mut out), Ok(()));
+    assert_eq!(rt; out.held(), b"output 0x0\n".as_slice());
+    Ok(())
+}
+
+#[test]
+fn a_failed_write_leaves_a_front_of_the_output(rt: HostRuntime) -> Result<(), Fail> {
+    let surfaces = two_pixels_mapped(rt.alloc())?;
+    for (write, count) in [(1, 0), (2, 11), (3, 27), (4, 28), (5, 44)] {
+        let fails = [write];
+        let mut out = VecSink::new(rt.alloc(), 100, &fails)?;
+        let result = dump_output(&surfaces, rt.alloc(), &mut out);
+        assert_eq!(rt; result, Err(ReportFault::Failed));
+        assert_eq!(rt; out.held().len(), count);
+        assert!(rt; OUTPUT.as_bytes().starts_with(out.held()));
+    }
+    Ok(())
+}

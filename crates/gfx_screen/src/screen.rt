@@ -1,21 +1,33 @@
-ghost use Rattle.std.specs.Prelude.{◌≡◌};
+ghost use Rattle.std.specs.Prelude.{◌≡◌, ◌*◌, ◌==◌, length};
 ghost use Rattle.std.specs.List.{list_all};
-ghost use Rattle.gfx_base.specs.Geometry.{lies_in};
+ghost use Rattle.gfx_base.specs.Geometry.{lies_in, width_of, height_of};
 ghost use Rattle.gfx_base.specs.Outcome.{Applies};
+ghost use Rattle.gfx_surface_map.specs.Shown.{surface_deleted, surface_copied, output_reset, output_mapped};
 ghost use Rattle.gfx_state.specs.State.{fresh};
-ghost use Rattle.gfx_state.specs.Step.{step, frame_started, frame_ended, surface_created, rects_filled};
+ghost use Rattle.gfx_bitmap_cache.specs.Slots.{evicted};
+ghost use Rattle.gfx_state.specs.Step.{step, showing, caching, frame_started, frame_ended, surface_created, rects_filled, data_painted, tiles_painted, rect_stored, slot_put, caps_confirmed};
 
-use gfx_base::{Fault, Format, Pixel, Rect, Refusal};
+use crate::bitmaps::{bitmap_of, lies_on};
+use crate::flags::{has_small_cache, is_confirmed};
+use gfx_base::{Fault, Format, Pixel, Point, Rect, Refusal};
+use gfx_bitmap_cache::Cache;
 use gfx_pdu::Pdu;
 use gfx_surface_map::{SurfaceMap, fits_size};
 use std::alloc::Global;
 use std::marker::Model;
 
-/// What the messages change: the surfaces, the open frame and the count of frames. Contracts see the
-/// state.
+/// RDPGFX_CODECID_UNCOMPRESSED.
+const UNCOMPRESSED: u16 = 0;
+
+/// How many bytes a pixel has in uncompressed data.
+const PIXEL_BYTES: usize = 4;
+
+/// What the messages change: what is shown, the cache, the open frame and the count of frames. Contracts
+/// see the state. No surface has more pixels than there is room to copy.
 #[derive(Drop)]
 pub struct Screen {
     surfaces: SurfaceMap,
+    cache: Cache,
     frame: Option<u32>,
     decoded: u32,
 }
@@ -28,7 +40,11 @@ impl Model for Screen {
 
     ghost coded = { state_code };
 
-    ghost view = { λ s. record { surfaces = s.surfaces; frame = s.frame; decoded = s.decoded } };
+    ghost view = { λ s. record { shown = s.surfaces.shown; cache = s.cache; frame = s.frame; decoded = s.decoded } };
+
+    ghost use Rattle.gfx_surface_map.specs.Shown.{AllHaveRoom};
+
+    ghost invariant = { λ s. AllHaveRoom s.surfaces };
 }
 
 impl Screen {
@@ -38,6 +54,7 @@ impl Screen {
     {
         Screen {
             surfaces: SurfaceMap::new(alloc),
+            cache: Cache::new(alloc),
             frame: None,
             decoded: 0,
         }
@@ -45,9 +62,16 @@ impl Screen {
 
     /// The surfaces as the messages so far have drawn them.
     pub fn surfaces(&self) -> &SurfaceMap
-        ensures { result.now ≡ self.now.surfaces }
+        ensures { result.now.shown ≡ self.now.shown }
     {
         &self.surfaces
+    }
+
+    /// The bitmaps as the messages so far have stored them.
+    pub fn cache(&self) -> &Cache
+        ensures { result.now ≡ self.now.cache }
+    {
+        &self.cache
     }
 
     /// The frame that has started and not ended.
@@ -63,20 +87,52 @@ impl Screen {
         ensures { Applies result self.old self.new (step self.old pdu.now) }
     {
         match pdu {
-            Pdu::StartFrame { frame, .. } => Ok(self.start_frame(*frame)?),
-            Pdu::EndFrame { frame } => Ok(self.end_frame(*frame)?),
+            Pdu::WireToSurface1 {
+                surface,
+                codec,
+                format,
+                rect,
+                payload,
+            } => self.paint_data(*surface, *codec, *format, *rect, payload.as_slice()),
+            Pdu::WireToSurface2 { surface, .. } => self.paint_tiles(*surface),
+            Pdu::SolidFill {
+                surface,
+                colour,
+                rects,
+            } => self.fill_rects(*surface, *colour, rects.as_slice()),
+            Pdu::SurfaceToSurface {
+                source,
+                destination,
+                rect,
+                points,
+            } => self.copy_rect(*source, *destination, *rect, points.as_slice()),
+            Pdu::SurfaceToCache {
+                surface,
+                key,
+                slot,
+                rect,
+            } => self.store_rect(alloc, *surface, *key, *slot, *rect),
+            Pdu::CacheToSurface {
+                slot,
+                surface,
+                points,
+            } => self.put_slot(*slot, *surface, points.as_slice()),
+            Pdu::EvictCacheEntry { slot } => self.evict_slot(*slot),
             Pdu::CreateSurface {
                 id,
                 width,
                 height,
                 format,
             } => self.create_surface(alloc, *id, *width, *height, *format),
-            Pdu::SolidFill {
-                surface,
-                colour,
-                rects,
-            } => Ok(self.fill_rects(*surface, *colour, rects.as_slice())?),
-            _ => Err(Fault::Refused(Refusal::PduUnknown)),
+            Pdu::DeleteSurface { id } => self.delete_surface(*id),
+            Pdu::StartFrame { frame, .. } => self.start_frame(*frame),
+            Pdu::EndFrame { frame } => self.end_frame(*frame),
+            Pdu::ResetGraphics { width, height, .. } => self.reset_output(*width, *height),
+            Pdu::MapSurfaceToOutput { id, x, y, .. } => self.map_output(*id, *x, *y),
+            Pdu::CapsConfirm { version, payload } => {
+                self.confirm_caps(*version, payload.as_slice())
+            }
+            Pdu::DeleteEncodingContext { .. } => Err(Fault::Refused(Refusal::PduUnknown)),
         }
     }
 
@@ -140,6 +196,153 @@ impl Screen {
         self.surfaces.fill(id, rects, colour);
         Ok(())
     }
+
+    /// Uncompressed data alone are built yet.
+    #[tactic(auto, unfolding(gfx_state::specs::Step::data_painted, gfx_base::specs::Results::and_then))]
+    fn paint_data(
+        &mut self,
+        id: u16,
+        codec: u16,
+        format: u8,
+        rect: Rect,
+        payload: &[u8],
+    ) -> Result<(), Fault>
+        ensures { Applies result self.old self.new (data_painted self.old id codec format rect payload.now) }
+    {
+        let Some(surface) = self.surfaces.get(id) else {
+            return Err(Fault::Refused(Refusal::NoSurface));
+        };
+        let (width, height) = surface.size();
+        if codec != UNCOMPRESSED {
+            return Err(Fault::Refused(Refusal::CodecRefused));
+        }
+        let Some(format) = Format::from_byte(format) else {
+            return Err(Fault::Refused(Refusal::PixelFormat));
+        };
+        if !rect.lies_in(width, height) {
+            return Err(Fault::Refused(Refusal::RectOutside));
+        }
+        if !has_length(payload, rect) {
+            return Err(Fault::Refused(Refusal::PayloadLength));
+        }
+        self.surfaces.put_bytes(id, rect, format, payload);
+        Ok(())
+    }
+
+    /// No codec of this message is built yet.
+    #[tactic(auto, unfolding(gfx_state::specs::Step::tiles_painted, gfx_base::specs::Results::and_then))]
+    fn paint_tiles(&mut self, id: u16) -> Result<(), Fault>
+        ensures { Applies result self.old self.new (tiles_painted self.old id) }
+    {
+        if !self.surfaces.contains(id) {
+            return Err(Fault::Refused(Refusal::NoSurface));
+        }
+        Err(Fault::Refused(Refusal::CodecRefused))
+    }
+
+    #[tactic(auto, unfolding(gfx_state::specs::Step::showing, gfx_base::specs::Results::and_then))]
+    fn copy_rect(&mut self, from: u16, to: u16, rect: Rect, points: &[Point]) -> Result<(), Fault>
+        ensures { Applies result self.old self.new (showing self.old (surface_copied self.old.shown from to rect points.now)) }
+    {
+        match self.surfaces.copy(from, to, rect, points) {
+            Ok(()) => Ok(()),
+            Err(refusal) => Err(Fault::Refused(refusal)),
+        }
+    }
+
+    #[tactic(auto, unfolding(gfx_state::specs::Step::rect_stored, gfx_state::specs::Step::caching, gfx_base::specs::Results::and_then))]
+    fn store_rect(
+        &mut self,
+        alloc: Global,
+        id: u16,
+        key: u64,
+        slot: u16,
+        rect: Rect,
+    ) -> Result<(), Fault>
+        ensures { Applies result self.old self.new (rect_stored self.old id key slot rect) }
+    {
+        let Some(surface) = self.surfaces.get(id) else {
+            return Err(Fault::Refused(Refusal::NoSurface));
+        };
+        if !self.cache.takes_slot(slot) {
+            return Err(Fault::Refused(Refusal::SlotRange));
+        }
+        if !lies_on(rect, surface) {
+            return Err(Fault::Refused(Refusal::RectOutside));
+        }
+        let bitmap = bitmap_of(alloc, surface, rect)?;
+        self.cache.store(slot, key, bitmap)
+    }
+
+    #[tactic(auto, unfolding(gfx_state::specs::Step::slot_put, gfx_state::specs::Step::showing, gfx_base::specs::Results::and_then))]
+    fn put_slot(&mut self, slot: u16, id: u16, points: &[Point]) -> Result<(), Fault>
+        ensures { Applies result self.old self.new (slot_put self.old slot id points.now) }
+    {
+        let bitmap = match self.cache.show(slot) {
+            Ok(bitmap) => bitmap,
+            Err(refusal) => return Err(Fault::Refused(refusal)),
+        };
+        match self.surfaces.put(id, bitmap, points) {
+            Ok(()) => Ok(()),
+            Err(refusal) => Err(Fault::Refused(refusal)),
+        }
+    }
+
+    #[tactic(auto, unfolding(gfx_state::specs::Step::caching, gfx_base::specs::Results::and_then))]
+    fn evict_slot(&mut self, slot: u16) -> Result<(), Fault>
+        ensures { Applies result self.old self.new (caching self.old (evicted self.old.cache slot)) }
+    {
+        match self.cache.evict(slot) {
+            Ok(()) => Ok(()),
+            Err(refusal) => Err(Fault::Refused(refusal)),
+        }
+    }
+
+    #[tactic(auto, unfolding(gfx_state::specs::Step::caps_confirmed, gfx_base::specs::Results::and_then))]
+    fn confirm_caps(&mut self, version: u32, flags: &[u8]) -> Result<(), Fault>
+        ensures { Applies result self.old self.new (caps_confirmed self.old version flags.now) }
+    {
+        if !is_confirmed(version, flags) {
+            return Err(Fault::Refused(Refusal::CapsVersion));
+        }
+        self.cache.set_small(has_small_cache(flags));
+        Ok(())
+    }
+
+    #[tactic(auto, unfolding(gfx_state::specs::Step::showing, gfx_base::specs::Results::and_then))]
+    fn delete_surface(&mut self, id: u16) -> Result<(), Fault>
+        ensures { Applies result self.old self.new (showing self.old (surface_deleted self.old.shown id)) }
+    {
+        match self.surfaces.delete(id) {
+            Ok(()) => Ok(()),
+            Err(refusal) => Err(Fault::Refused(refusal)),
+        }
+    }
+
+    #[tactic(auto, unfolding(gfx_state::specs::Step::showing, gfx_base::specs::Results::and_then))]
+    fn reset_output(&mut self, width: u32, height: u32) -> Result<(), Fault>
+        ensures { Applies result self.old self.new (showing self.old (output_reset self.old.shown width height)) }
+    {
+        match self.surfaces.reset(width, height) {
+            Ok(()) => Ok(()),
+            Err(refusal) => Err(Fault::Refused(refusal)),
+        }
+    }
+
+    #[tactic(auto, unfolding(gfx_state::specs::Step::showing, gfx_base::specs::Results::and_then))]
+    fn map_output(&mut self, id: u16, x: u32, y: u32) -> Result<(), Fault>
+        ensures { Applies result self.old self.new
+            (showing self.old (output_mapped self.old.shown id (record { x = x; y = y }))) }
+    {
+        self.surfaces.map_output(id, x, y)
+    }
+}
+
+/// Whether there are four bytes for each pixel of a rectangle.
+fn has_length(payload: &[u8], rect: Rect) -> bool
+    ensures { result ≡ (length payload.now == 4 * (width_of rect * height_of rect)) }
+{
+    payload.len() == PIXEL_BYTES * (usize::from(rect.width()) * usize::from(rect.height()))
 }
 
 /// Whether all of these rectangles lie in an area of these sides.

@@ -2,7 +2,7 @@
 use Rattle.std.proofs.Common.{◌≡◌, suc, ◌-◌, Bool, true, false, List, [], ◌∷◌, length, Option, Some, None, refl, sym, ap, ◌∙◌, arith}
 use Rattle.std.specs.List.{slice_get}
 use Rattle.gfx_script.specs.declared.step.Step.{Step}
-use Rattle.gfx_script.specs.declared.step.Step.TheVariants.{Surface, Fill, Frame}
+use Rattle.gfx_script.specs.declared.step.Step.TheVariants.{Surface, Delete, Reset, Map, Fill, Copy, Frame}
 use Rattle.gfx_script.specs.Script.{is_framed}
 
 -- a last step, where there is one, is a frame
@@ -10,17 +10,29 @@ abbrev pub ends_framed : Option Step → Bool
 ends_framed None = true
 ends_framed (Some Frame) = true
 ends_framed (Some (Surface id width height format)) = false
+ends_framed (Some (Delete id)) = false
+ends_framed (Some (Reset width height)) = false
+ends_framed (Some (Map id x y)) = false
 ends_framed (Some (Fill id colour rects)) = false
+ends_framed (Some (Copy from to rect points)) = false
 
 more_steps : (step next : Step) (steps : List Step) → is_framed (step ∷ next ∷ steps) ≡ is_framed (next ∷ steps)
 more_steps (Surface id width height format) next steps = refl
+more_steps (Delete id) next steps = refl
+more_steps (Reset width height) next steps = refl
+more_steps (Map id x y) next steps = refl
 more_steps (Fill id colour rects) next steps = refl
+more_steps (Copy from to rect points) next steps = refl
 more_steps Frame next steps = refl
 
 pub framed_by_last : (steps : List Step) → is_framed steps ≡ ends_framed (slice_get steps (length steps - 1))
 framed_by_last [] = refl
 framed_by_last (Surface id width height format ∷ []) = refl
+framed_by_last (Delete id ∷ []) = refl
+framed_by_last (Reset width height ∷ []) = refl
+framed_by_last (Map id x y ∷ []) = refl
 framed_by_last (Fill id colour rects ∷ []) = refl
+framed_by_last (Copy from to rect points ∷ []) = refl
 framed_by_last (Frame ∷ []) = refl
 framed_by_last (step ∷ next ∷ steps) =
     let place : length (step ∷ next ∷ steps) - 1 ≡ suc (length (next ∷ steps) - 1) = omega arith in
@@ -31,5 +43,9 @@ framed_last steps step is = framed_by_last steps ∙ ap ends_framed (sym is)
 
 pub not_frame : (step : Step) → (step ≡ Frame → ⊥) → ends_framed (Some step) ≡ false
 not_frame (Surface id width height format) other = refl
+not_frame (Delete id) other = refl
+not_frame (Reset width height) other = refl
+not_frame (Map id x y) other = refl
 not_frame (Fill id colour rects) other = refl
+not_frame (Copy from to rect points) other = refl
 not_frame Frame other = absurd (other refl)

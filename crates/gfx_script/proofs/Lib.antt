@@ -2,6 +2,8 @@ pub mod Arrays
 pub mod Runs
 pub mod Framed
 pub mod Documents
+pub mod Copies
 pub mod Faults
 pub mod Ranges
+pub mod Removed
 pub mod Accepted

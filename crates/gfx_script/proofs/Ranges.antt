@@ -7,16 +7,18 @@ use Rattle.std.specs.Result.{result_ok}
 use Rattle.hex.specs.Hex.{decode_sized, IsBytes}
 use Rattle.hex.proofs.HexLemmas.{decode_sized-ok, decode_sized-twice, decode_of-ok}
 use Rattle.toml.specs.Data.{Data, Members}
-use Rattle.gfx_base.specs.Geometry.{IsRect, IsPixel}
+use Rattle.gfx_base.specs.declared.geometry.Point.{Point}
+use Rattle.gfx_base.specs.Geometry.{IsRect, IsPoint, IsPixel}
 use Rattle.gfx_base.specs.Results.{each, Has}
 use Rattle.gfx_base.proofs.ResultLemmas.{and_then_ok, chain, gives, never, check_ok, length-each}
 use Rattle.gfx_surface.specs.declared.TheConstants.{MOST_SIDE}
+use Rattle.gfx_surface_map.specs.declared.place.TheConstants.{MOST_OUTPUT_SIDE}
 use Rattle.gfx_script.specs.declared.TheConstants.{MOST_RECTS, MOST_NUMBER}
 use Rattle.gfx_script.specs.declared.error.ScriptKind.TheVariants.{Range}
-use Rattle.gfx_script.specs.declared.step.Step.TheVariants.{Surface, Fill, Frame}
+use Rattle.gfx_script.specs.declared.step.Step.TheVariants.{Surface, Delete, Reset, Map, Fill, Copy, Frame}
 use Rattle.gfx_script.specs.Members.{within}
-use Rattle.gfx_script.specs.Places.{coordinate_at, rect_of, rect_in}
-use Rattle.gfx_script.specs.Words.{surface_of, colour_of, fill_of, frame_of, worded, step_of}
+use Rattle.gfx_script.specs.Places.{coordinate_at, rect_of, rect_in, point_of, point_in, points_of}
+use Rattle.gfx_script.specs.Words.{surface_of, delete_of, reset_of, map_of, colour_of, fill_of, copy_between, copy_of, frame_of, worded, step_of}
 use Rattle.gfx_script.specs.Script.{IsStep}
 
 -- both tests passed
@@ -76,6 +78,36 @@ rect_in-fits : (value : Data) → Has (rect_in value) IsRect
 unfolding rect_in
 rect_in-fits value = chain _ _ IsRect (λ items found. rect_of-fits items)
 
+point_of-fits : (items : List Data) → Has (point_of items) IsPoint
+unfolding point_of
+point_of-fits items =
+    chain _ _ IsPoint (λ two passed.
+    chain _ _ IsPoint (λ x found_x.
+    chain _ _ IsPoint (λ y found_y.
+    gives _ IsPoint record { x = (coordinate_at-fits 0 items).each x found_x; y = (coordinate_at-fits 1 items).each y found_y })))
+
+point_in-fits : (value : Data) → Has (point_in value) IsPoint
+unfolding point_in
+point_in-fits value = chain _ _ IsPoint (λ items found. point_of-fits items)
+
+-- there are some points, and each is one
+abbrev ArePoints : List Point → Type 0
+ArePoints points = (1 ≤ length points) × (length points ≤ MOST_RECTS) × AllByRecursion IsPoint points
+
+points_of-fit : (values : List Data) → Has (points_of values) ArePoints
+unfolding points_of
+points_of-fit values =
+    chain _ _ ArePoints (λ few are_few.
+    record {
+      each = λ points found.
+          let count = range_passed 1 MOST_RECTS (length values) (check_ok Range _ are_few) in
+          let same : length points ≡ length values = length-each point_in values points found in (
+            subst (λ n. 1 ≤ n) (sym same) count.0,
+            subst (λ n. n ≤ MOST_RECTS) (sym same) count.1,
+            each_has point_in IsPoint point_in-fits values points found,
+          );
+    })
+
 ok_of_some : {A E F : Type 0} (r : Result A E) (e : F) (x : A) → ok_or (result_ok r) e ≡ Ok x → r ≡ Ok x
 ok_of_some (Ok y) e x is = cc
 ok_of_some (Err y) e x is = absurd cc
@@ -107,6 +139,39 @@ surface_of-fits table =
     gives (Surface id_in width_in height_in format) IsStep
     ((within-fits id).each id_in id_fits, wide.0, wide.1, high.0, high.1)))))))))
 
+delete_of-fits : (table : Members) → Has (delete_of table) IsStep
+unfolding delete_of
+delete_of-fits table =
+    chain _ _ IsStep (λ known passed.
+    chain _ _ IsStep (λ id found_id.
+    chain _ _ IsStep (λ id_in id_fits. gives (Delete id_in) IsStep ((within-fits id).each id_in id_fits))))
+
+reset_of-fits : (table : Members) → Has (reset_of table) IsStep
+unfolding reset_of
+reset_of-fits table =
+    chain _ _ IsStep (λ known passed.
+    chain _ _ IsStep (λ width found_width.
+    chain _ _ IsStep (λ height found_height.
+    chain _ _ IsStep (λ width_in width_fits.
+    chain _ _ IsStep (λ height_in height_fits.
+    let wide = within_ok 1 MOST_OUTPUT_SIDE width width_in width_fits in
+    let high = within_ok 1 MOST_OUTPUT_SIDE height height_in height_fits in
+    gives (Reset width_in height_in) IsStep (wide.0, wide.1, high.0, high.1))))))
+
+map_of-fits : (table : Members) → Has (map_of table) IsStep
+unfolding map_of
+map_of-fits table =
+    chain _ _ IsStep (λ known passed.
+    chain _ _ IsStep (λ id found_id.
+    chain _ _ IsStep (λ x found_x.
+    chain _ _ IsStep (λ y found_y.
+    chain _ _ IsStep (λ id_in id_fits.
+    chain _ _ IsStep (λ x_in x_fits.
+    chain _ _ IsStep (λ y_in y_fits.
+    let across = within_ok 0 MOST_OUTPUT_SIDE x x_in x_fits in
+    let down = within_ok 0 MOST_OUTPUT_SIDE y y_in y_fits in
+    gives (Map id_in x_in y_in) IsStep ((within-fits id).each id_in id_fits, across.1, down.1))))))))
+
 fill_of-fits : (table : Members) → Has (fill_of table) IsStep
 unfolding fill_of
 fill_of-fits table =
@@ -129,6 +194,32 @@ fill_of-fits table =
       each_has rect_in IsRect rect_in-fits values rects rects_fit,
     ))))))))))
 
+copy_between-fits : (from to : ℤ) (corners values : List Data) → Has (copy_between from to corners values) IsStep
+unfolding copy_between
+copy_between-fits from to corners values =
+    chain _ _ IsStep (λ from_in from_fits.
+    chain _ _ IsStep (λ to_in to_fits.
+    chain _ _ IsStep (λ rect rect_fits.
+    chain _ _ IsStep (λ points points_fit.
+    let fit : ArePoints points = (points_of-fit values).each points points_fit in
+    gives (Copy from_in to_in rect points) IsStep (
+      (within-fits from).each from_in from_fits,
+      (within-fits to).each to_in to_fits,
+      (rect_of-fits corners).each rect rect_fits,
+      fit.0,
+      fit.1,
+      fit.2,
+    )))))
+
+copy_of-fits : (table : Members) → Has (copy_of table) IsStep
+unfolding copy_of
+copy_of-fits table =
+    chain _ _ IsStep (λ known passed.
+    chain _ _ IsStep (λ from found_from.
+    chain _ _ IsStep (λ to found_to.
+    chain _ _ IsStep (λ corners found_corners.
+    chain _ _ IsStep (λ values found_values. copy_between-fits from to corners values)))))
+
 frame_of-fits : (table : Members) → Has (frame_of table) IsStep
 unfolding frame_of
 frame_of-fits table = chain _ _ IsStep (λ known passed. gives Frame IsStep tt)
@@ -141,7 +232,11 @@ worded-fits : (word : List ℕ) (table : Members) → Has (worded word table) Is
 unfolding worded
 worded-fits word table =
     if_has _ _ _ IsStep (surface_of-fits table)
-    (if_has _ _ _ IsStep (fill_of-fits table) (if_has _ _ _ IsStep (frame_of-fits table) (never _ IsStep)))
+    (if_has _ _ _ IsStep (delete_of-fits table)
+    (if_has _ _ _ IsStep (reset_of-fits table)
+    (if_has _ _ _ IsStep (map_of-fits table)
+    (if_has _ _ _ IsStep (fill_of-fits table)
+    (if_has _ _ _ IsStep (copy_of-fits table) (if_has _ _ _ IsStep (frame_of-fits table) (never _ IsStep)))))))
 
 pub step_of-fits : (value : Data) → Has (step_of value) IsStep
 unfolding step_of

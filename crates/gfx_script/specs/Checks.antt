@@ -1,21 +1,23 @@
 -- What each step needs of the steps before it: this project's own rule. The limits are those of the
 -- surfaces that the steps make.
-use Rattle.std.specs.Prelude.{ℕ, ◌+◌, Bool, ◌&&◌, not, nat_le, nat_lt, List, [], ◌∷◌, Result, Ok}
+use Rattle.std.specs.Prelude.{ℕ, ◌+◌, ◌-◌, Bool, ◌&&◌, not, nat_le, nat_lt, List, [], ◌∷◌, Result, Ok}
 use Rattle.std.specs.List.{list_all}
 use Rattle.std.specs.Option.{ok_or}
 use Rattle.std.specs.Ordering.{nat_cmp}
 use Rattle.std.specs.FinMap as finmap
 use Rattle.std.specs.FinMap.{FinMap}
+use Rattle.gfx_base.specs.declared.geometry.Point.{Point}
 use Rattle.gfx_base.specs.declared.geometry.Rect.{Rect}
 use Rattle.gfx_base.specs.Geometry.{lies_in}
 use Rattle.gfx_base.specs.Results.{◌>>=◌, check}
 use Rattle.gfx_surface_map.specs.declared.TheConstants.{MOST_SURFACES, MOST_CELLS}
+use Rattle.gfx_surface_map.specs.Shown.{fit_all}
 use Rattle.gfx_surface_map.specs.Surfaces.{cells}
 pub use Rattle.gfx_script.specs.declared.held.Sides.{Sides}
 use Rattle.gfx_script.specs.declared.error.ScriptKind.{ScriptKind}
 use Rattle.gfx_script.specs.declared.error.ScriptKind.TheVariants.{SurfacePresent, CellBudget, SurfaceAbsent, Outside}
 use Rattle.gfx_script.specs.declared.step.Step.{Step}
-use Rattle.gfx_script.specs.declared.step.Step.TheVariants.{Surface, Fill, Frame}
+use Rattle.gfx_script.specs.declared.step.Step.TheVariants.{Surface, Delete, Reset, Map, Fill, Copy, Frame}
 
 -- what the steps so far have left, as far as later ones are checked against it
 pub record Held : Type 0 where
@@ -47,6 +49,18 @@ surface_made held id width height = do
   room ← check CellBudget (has_room held width height)
   Ok (with_surface held id width height)
 
+-- `delete`
+unfoldable pub surface_deleted : Held → ℕ → Result Held ScriptKind
+surface_deleted held id = do
+  sides ← ok_or (finmap.get held.sides id) SurfaceAbsent
+  Ok (record { sides = finmap.remove held.sides id; cells = held.cells - cells sides.width sides.height })
+
+-- `map`
+unfoldable pub surface_mapped : Held → ℕ → Result Held ScriptKind
+surface_mapped held id = do
+  there ← check SurfaceAbsent (finmap.contains_key held.sides id)
+  Ok held
+
 -- `fill`
 unfoldable pub rects_filled : Held → ℕ → List Rect → Result Held ScriptKind
 rects_filled held id rects = do
@@ -54,10 +68,23 @@ rects_filled held id rects = do
   inside ← check Outside (list_all (lies_in sides.width sides.height) rects)
   Ok held
 
+-- `copy`
+unfoldable pub rect_copied : Held → ℕ → ℕ → Rect → List Point → Result Held ScriptKind
+rect_copied held from to rect points = do
+  source ← ok_or (finmap.get held.sides from) SurfaceAbsent
+  target ← ok_or (finmap.get held.sides to) SurfaceAbsent
+  inside ← check Outside (lies_in source.width source.height rect)
+  fits ← check Outside (fit_all target.width target.height rect points)
+  Ok held
+
 -- what is held after a step, or what is wrong with it
 unfoldable pub held_after : Held → Step → Result Held ScriptKind
 held_after held (Surface id width height format) = surface_made held id width height
+held_after held (Delete id) = surface_deleted held id
+held_after held (Reset width height) = Ok held
+held_after held (Map id x y) = surface_mapped held id
 held_after held (Fill id colour rects) = rects_filled held id rects
+held_after held (Copy from to rect points) = rect_copied held from to rect points
 held_after held Frame = Ok held
 
 -- what is held after these steps, one after another

@@ -5,16 +5,17 @@ use Rattle.std.specs.Option.{ok_or}
 use Rattle.std.specs.Str.{is_utf8}
 use Rattle.toml.specs.Data.{Data, Members, get_member}
 use Rattle.toml.specs.Parse.{parse_document}
-use Rattle.gfx_base.specs.Geometry.{IsPixel, IsRect}
+use Rattle.gfx_base.specs.Geometry.{IsPixel, IsPoint, IsRect}
 use Rattle.gfx_base.specs.Results.{◌>>=◌, check}
 use Rattle.gfx_surface.specs.declared.TheConstants.{MOST_SIDE}
+use Rattle.gfx_surface_map.specs.declared.place.TheConstants.{MOST_OUTPUT_SIDE}
 use Rattle.gfx_script.specs.declared.TheConstants.{MOST_STEPS, MOST_RECTS}
 use Rattle.gfx_script.specs.declared.error.ScriptKind.{ScriptKind}
 use Rattle.gfx_script.specs.declared.error.ScriptKind.TheVariants.{Toml, Key, Range, Unframed}
 use Rattle.gfx_script.specs.declared.error.ScriptError.{ScriptError}
 use Rattle.gfx_script.specs.declared.error.ScriptError.TheVariants.{Fault, Memory}
 use Rattle.gfx_script.specs.declared.step.Step.{Step}
-use Rattle.gfx_script.specs.declared.step.Step.TheVariants.{Surface, Fill, Frame}
+use Rattle.gfx_script.specs.declared.step.Step.TheVariants.{Surface, Delete, Reset, Map, Fill, Copy, Frame}
 use Rattle.gfx_script.specs.Checks.{Held, nothing_held, held_after, held_through}
 use Rattle.gfx_script.specs.Members.{items_in, has_only}
 use Rattle.gfx_script.specs.Scripted.{Scripted}
@@ -92,8 +93,13 @@ step_at steps number = if number == 0 then None else slice_get steps (number - 1
 abbrev pub IsStep : Step → Type 0
 IsStep (Surface id width height format) =
     (id < 2 ^ 16) × (1 ≤ width) × (width ≤ MOST_SIDE) × (1 ≤ height) × (height ≤ MOST_SIDE)
+IsStep (Delete id) = id < 2 ^ 16
+IsStep (Reset width height) = (1 ≤ width) × (width ≤ MOST_OUTPUT_SIDE) × (1 ≤ height) × (height ≤ MOST_OUTPUT_SIDE)
+IsStep (Map id x y) = (id < 2 ^ 16) × (x ≤ MOST_OUTPUT_SIDE) × (y ≤ MOST_OUTPUT_SIDE)
 IsStep (Fill id colour rects) =
     (id < 2 ^ 16) × IsPixel colour × (1 ≤ length rects) × (length rects ≤ MOST_RECTS) × AllByRecursion IsRect rects
+IsStep (Copy from to rect points) =
+    (from < 2 ^ 16) × (to < 2 ^ 16) × IsRect rect × (1 ≤ length points) × (length points ≤ MOST_RECTS) × AllByRecursion IsPoint points
 IsStep Frame = Unit {0}
 
 -- what holds of every script that is read

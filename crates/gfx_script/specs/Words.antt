@@ -1,6 +1,6 @@
 -- The tables of the steps of a script: this project's own rule. All faults of kind Key come before
 -- those of kind Range, and both before Pixels.
-use Rattle.std.specs.Prelude.{ℕ, ◌&&◌, nat_le, if◌then◌else◌, List, [], ◌∷◌, length, slice_index, Option, Some, None, Result, Ok, Err, codes}
+use Rattle.std.specs.Prelude.{ℕ, ℤ, ◌&&◌, nat_le, if◌then◌else◌, List, [], ◌∷◌, length, slice_index, Option, Some, None, Result, Ok, Err, codes}
 use Rattle.std.specs.List.{list_all}
 use Rattle.std.specs.Option.{ok_or}
 use Rattle.std.specs.Result.{result_ok}
@@ -12,13 +12,14 @@ use Rattle.gfx_base.specs.declared.format.Format.TheVariants.{Xrgb, Argb}
 use Rattle.gfx_base.specs.declared.pixel.Pixel.{Pixel}
 use Rattle.gfx_base.specs.Results.{◌>>=◌, check, each}
 use Rattle.gfx_surface.specs.declared.TheConstants.{MOST_SIDE}
+use Rattle.gfx_surface_map.specs.declared.place.TheConstants.{MOST_OUTPUT_SIDE}
 use Rattle.gfx_script.specs.declared.TheConstants.{MOST_RECTS, MOST_NUMBER}
 use Rattle.gfx_script.specs.declared.error.ScriptKind.{ScriptKind}
 use Rattle.gfx_script.specs.declared.error.ScriptKind.TheVariants.{Key, Range, Pixels}
 use Rattle.gfx_script.specs.declared.step.Step.{Step}
-use Rattle.gfx_script.specs.declared.step.Step.TheVariants.{Surface, Fill, Frame}
+use Rattle.gfx_script.specs.declared.step.Step.TheVariants.{Surface, Delete, Reset, Map, Fill, Copy, Frame}
 use Rattle.gfx_script.specs.Members.{has_only, whole, text, list, within}
-use Rattle.gfx_script.specs.Places.{are_whole, rect_in}
+use Rattle.gfx_script.specs.Places.{are_whole, numbers_at, arrays_at, rect_of, rect_in, points_of}
 
 -- the format that a word names
 abbrev pub format_named : List ℕ → Result Format ScriptKind
@@ -47,6 +48,36 @@ surface_of table = do
   height ← within 1 MOST_SIDE height
   Ok (Surface id width height format)
 
+-- `delete`
+unfoldable pub delete_of : Members → Result Step ScriptKind
+delete_of table = do
+  known ← check Key (has_only (codes "do" ∷ codes "id" ∷ []) table)
+  id ← whole (codes "id") table
+  id ← within 0 MOST_NUMBER id
+  Ok (Delete id)
+
+-- `reset`
+unfoldable pub reset_of : Members → Result Step ScriptKind
+reset_of table = do
+  known ← check Key (has_only (codes "do" ∷ codes "width" ∷ codes "height" ∷ []) table)
+  width ← whole (codes "width") table
+  height ← whole (codes "height") table
+  width ← within 1 MOST_OUTPUT_SIDE width
+  height ← within 1 MOST_OUTPUT_SIDE height
+  Ok (Reset width height)
+
+-- `map`
+unfoldable pub map_of : Members → Result Step ScriptKind
+map_of table = do
+  known ← check Key (has_only (codes "do" ∷ codes "id" ∷ codes "x" ∷ codes "y" ∷ []) table)
+  id ← whole (codes "id") table
+  x ← whole (codes "x") table
+  y ← whole (codes "y") table
+  id ← within 0 MOST_NUMBER id
+  x ← within 0 MOST_OUTPUT_SIDE x
+  y ← within 0 MOST_OUTPUT_SIDE y
+  Ok (Map id x y)
+
 -- a colour as eight hexadecimal digits B, G, R, A
 unfoldable pub colour_of : List ℕ → Result Pixel ScriptKind
 colour_of digits = do
@@ -67,6 +98,25 @@ fill_of table = do
   colour ← colour_of digits
   Ok (Fill id colour rects)
 
+-- the copy of these ids, this rectangle and these points, whose types are right
+unfoldable pub copy_between : ℤ → ℤ → List Data → List Data → Result Step ScriptKind
+copy_between from to corners points = do
+  from ← within 0 MOST_NUMBER from
+  to ← within 0 MOST_NUMBER to
+  rect ← rect_of corners
+  points ← points_of points
+  Ok (Copy from to rect points)
+
+-- `copy`
+unfoldable pub copy_of : Members → Result Step ScriptKind
+copy_of table = do
+  known ← check Key (has_only (codes "do" ∷ codes "from" ∷ codes "to" ∷ codes "rect" ∷ codes "points" ∷ []) table)
+  from ← whole (codes "from") table
+  to ← whole (codes "to") table
+  corners ← numbers_at (codes "rect") table
+  points ← arrays_at (codes "points") table
+  copy_between from to corners points
+
 -- `frame`
 unfoldable pub frame_of : Members → Result Step ScriptKind
 frame_of table = do
@@ -77,7 +127,11 @@ frame_of table = do
 unfoldable pub worded : List ℕ → Members → Result Step ScriptKind
 worded word table =
     if bytes_eq word (codes "surface") then surface_of table
+    else if bytes_eq word (codes "delete") then delete_of table
+    else if bytes_eq word (codes "reset") then reset_of table
+    else if bytes_eq word (codes "map") then map_of table
     else if bytes_eq word (codes "fill") then fill_of table
+    else if bytes_eq word (codes "copy") then copy_of table
     else if bytes_eq word (codes "frame") then frame_of table
     else Err Key
 

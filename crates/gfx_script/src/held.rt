@@ -1,16 +1,19 @@
 //! What the steps so far have left, as far as later ones are checked against it.
 
-ghost use Rattle.std.specs.Prelude.{◌≡◌, IsTrue, OnOk};
+ghost use Rattle.std.specs.Prelude.{◌≡◌, ◌-◌, IsTrue, OnOk};
 ghost use Rattle.std.specs.FinMap as map;
 ghost use Rattle.std.specs.List.{list_all};
 ghost use Rattle.gfx_base.specs.Geometry.{lies_in};
-ghost use Rattle.gfx_script.specs.Checks.{nothing_held, has_room, with_surface, surface_made, rects_filled, held_after};
+ghost use Rattle.gfx_surface_map.specs.Shown.{fit_all};
+ghost use Rattle.gfx_surface_map.specs.Surfaces.{cells};
+ghost use Rattle.gfx_script.specs.Checks.{nothing_held, has_room, with_surface, surface_made, surface_deleted, surface_mapped, rects_filled, rect_copied, held_after};
 ghost use Rattle.gfx_script.specs.Found.{Finds, Shows};
 
 use crate::error::ScriptKind;
 use crate::flaw::Flaw;
 use crate::step::Step;
-use gfx_base::{NoMemory, Rect};
+use gfx_base::{NoMemory, Point, Rect};
+use gfx_surface::fits_at;
 use gfx_surface_map::{MOST_CELLS, MOST_SURFACES, count_cells};
 use indexmap::IndexMap;
 use std::alloc::Global;
@@ -68,7 +71,16 @@ impl Holding {
                 height,
                 ..
             } => self.make_surface(*id, *width, *height),
+            Step::Delete { id } => Ok(self.delete_surface(*id)?),
+            Step::Reset { .. } => Ok(()),
+            Step::Map { id, .. } => Ok(self.check_map(*id)?),
             Step::Fill { id, rects, .. } => Ok(self.check_rects(*id, rects.as_slice())?),
+            Step::Copy {
+                from,
+                to,
+                rect,
+                points,
+            } => Ok(self.check_copy(*from, *to, *rect, points.as_slice())?),
             Step::Frame => Ok(()),
         }
     }
@@ -87,6 +99,28 @@ impl Holding {
         Ok(())
     }
 
+    #[tactic(auto, unfolding(crate::specs::Checks::surface_deleted, gfx_base::specs::Results::and_then))]
+    fn delete_surface(&mut self, id: u16) -> Result<(), ScriptKind>
+        ensures { Shows (λ _. self.new) result (surface_deleted self.old id) }
+    {
+        let Some(sides) = self.sides_of(id) else {
+            return Err(ScriptKind::SurfaceAbsent);
+        };
+        self.remove(id, sides);
+        Ok(())
+    }
+
+    /// Refuses an id that no surface has.
+    #[tactic(auto, unfolding(crate::specs::Checks::surface_mapped, gfx_base::specs::Results::and_then))]
+    fn check_map(&self, id: u16) -> Result<(), ScriptKind>
+        ensures { Shows (λ _. self.now) result (surface_mapped self.now id) }
+    {
+        if !self.contains(id) {
+            return Err(ScriptKind::SurfaceAbsent);
+        }
+        Ok(())
+    }
+
     /// Refuses rectangles of which one doesn't lie on the surface of this id.
     #[tactic(auto, unfolding(crate::specs::Checks::rects_filled, gfx_base::specs::Results::and_then))]
     fn check_rects(&self, id: u16, rects: &[Rect]) -> Result<(), ScriptKind>
@@ -96,6 +130,26 @@ impl Holding {
             return Err(ScriptKind::SurfaceAbsent);
         };
         if !all_lie_in(rects, sides.width, sides.height) {
+            return Err(ScriptKind::Outside);
+        }
+        Ok(())
+    }
+
+    /// Refuses a copy of a rectangle that doesn't lie on its surface, or at a point on the other.
+    #[tactic(auto, unfolding(crate::specs::Checks::rect_copied, gfx_base::specs::Results::and_then))]
+    fn check_copy(&self, from: u16, to: u16, rect: Rect, points: &[Point]) -> Result<(), ScriptKind>
+        ensures { Shows (λ _. self.now) result (rect_copied self.now from to rect points.now) }
+    {
+        let Some(source) = self.sides_of(from) else {
+            return Err(ScriptKind::SurfaceAbsent);
+        };
+        let Some(target) = self.sides_of(to) else {
+            return Err(ScriptKind::SurfaceAbsent);
+        };
+        if !rect.lies_in(source.width, source.height) {
+            return Err(ScriptKind::Outside);
+        }
+        if !fits_at_all(rect, points, target.width, target.height) {
             return Err(ScriptKind::Outside);
         }
         Ok(())
@@ -131,6 +185,16 @@ impl Holding {
         self.cells += count_cells(width, height);
         Ok(())
     }
+
+    /// One surface less, with these sides.
+    fn remove(&mut self, id: u16, sides: Sides)
+        ensures { self.new ≡ record { sides = map.remove self.old.sides id; cells = self.old.cells - cells sides.width sides.height } }
+    {
+        self.sides.shift_remove(&id);
+        self.cells = self
+            .cells
+            .saturating_sub(count_cells(sides.width, sides.height));
+    }
 }
 
 /// Whether all of these rectangles lie in an area of these sides.
@@ -138,4 +202,13 @@ fn all_lie_in(rects: &[Rect], width: u16, height: u16) -> bool
     ensures { result ≡ list_all (lies_in width height) rects.now }
 {
     rects.iter().all(|rect| rect.lies_in(width, height))
+}
+
+/// Whether a rectangle, once it is taken to any of these points, lies in an area of these sides.
+fn fits_at_all(rect: Rect, points: &[Point], width: u16, height: u16) -> bool
+    ensures { result ≡ fit_all width height rect points.now }
+{
+    points
+        .iter()
+        .all(|point| fits_at(rect, *point, width, height))
 }

@@ -5,11 +5,13 @@
 //! scripts is this project's own (docs/SCRIPTS.md).
 #![tactic(auto)]
 
+mod copy;
 mod error;
 mod fill;
 mod flaw;
 mod held;
 mod members;
+mod output;
 mod places;
 mod promises;
 mod script;
@@ -26,7 +28,7 @@ pub use step::Step;
 /// The most steps of a script.
 pub const MOST_STEPS: u32 = 100_000;
 
-/// The most rectangles of a fill.
+/// The most rectangles of a fill, and the most points of a copy.
 pub const MOST_RECTS: usize = 1024;
 
 /// The most that an id or a coordinate is.

@@ -1,8 +1,8 @@
-//! The steps that make surfaces.
+//! The steps that make and delete surfaces.
 
 ghost use Rattle.std.specs.Prelude.{◌≡◌};
 ghost use Rattle.toml.specs.View.{table_view};
-ghost use Rattle.gfx_script.specs.Words.{surface_of, format_or_default, format_named};
+ghost use Rattle.gfx_script.specs.Words.{surface_of, format_or_default, format_named, delete_of};
 ghost use Rattle.std.specs.Prelude.{codes};
 ghost use Rattle.toml.specs.Data.{get_member};
 
@@ -33,6 +33,17 @@ pub fn read_surface(table: &Table) -> Result<Step, ScriptKind>
         height,
         format,
     })
+}
+
+/// Reads `delete`.
+#[tactic(auto, unfolding(crate::specs::Words::delete_of, gfx_base::specs::Results::and_then))]
+pub fn read_delete(table: &Table) -> Result<Step, ScriptKind>
+    ensures { result ≡ delete_of (table_view table.now) }
+{
+    check_keys(table, &["do", "id"])?;
+    let id = whole(table, "id")?;
+    let id = within(id, 0, MOST_NUMBER)?;
+    Ok(Step::Delete { id })
 }
 
 /// The format, which may be missing.

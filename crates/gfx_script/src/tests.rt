@@ -2,7 +2,7 @@
 
 use crate::ScriptKind::{self, *};
 use crate::{Script, ScriptError, Step, read_script};
-use gfx_base::{Format, Pixel, Rect};
+use gfx_base::{Format, Pixel, Point, Rect};
 use std::test::Fail;
 
 /// Texts, and the step and the kind of the first fault, if there is one.
@@ -171,9 +171,162 @@ const TEXTS: &[(&[u8], Option<(u32, ScriptKind)>)] = &[
     ),
 ];
 
+/// The same of the steps that delete, reset, map and copy.
+const MORE_TEXTS: &[(&[u8], Option<(u32, ScriptKind)>)] = &[
+    // Delete: the surface and its cells are gone.
+    (b"step=[{do='delete'}]", Some((1, Key))),
+    (b"step=[{do='delete',id=1.0}]", Some((1, Key))),
+    (b"step=[{do='delete',id=1,x=1}]", Some((1, Key))),
+    (b"step=[{do='delete',id=65536}]", Some((1, Range))),
+    (b"step=[{do='delete',id=1}]", Some((1, SurfaceAbsent))),
+    (
+        b"step=[{do='surface',id=1,width=2,height=1},{do='delete',id=1},{do='delete',id=1},{do='frame'}]",
+        Some((3, SurfaceAbsent)),
+    ),
+    (
+        b"step=[{do='surface',id=1,width=2,height=1},{do='delete',id=1},{do='surface',id=1,width=2,height=1},{do='frame'}]",
+        None,
+    ),
+    (
+        b"step=[{do='surface',id=1,width=8192,height=8192},{do='delete',id=1},{do='surface',id=2,width=8192,height=8192},{do='frame'}]",
+        None,
+    ),
+    (
+        b"step=[{do='surface',id=1,width=8192,height=8128},{do='surface',id=2,width=64,height=65},{do='delete',id=2},{do='surface',id=3,width=8192,height=65},{do='frame'}]",
+        Some((4, CellBudget)),
+    ),
+    (
+        b"step=[{do='surface',id=1,width=8192,height=8064},{do='surface',id=2,width=64,height=65},{do='delete',id=2},{do='surface',id=3,width=8192,height=128},{do='frame'}]",
+        None,
+    ),
+    // Reset.
+    (b"step=[{do='reset',width=1}]", Some((1, Key))),
+    (b"step=[{do='reset',width=1,height='1'}]", Some((1, Key))),
+    (b"step=[{do='reset',id=1,width=1,height=1}]", Some((1, Key))),
+    (b"step=[{do='reset',width=0,height=1}]", Some((1, Range))),
+    (
+        b"step=[{do='reset',width=1,height=32767}]",
+        Some((1, Range)),
+    ),
+    (
+        b"step=[{do='reset',width=32766,height=1},{do='frame'}]",
+        None,
+    ),
+    (b"step=[{do='reset',width=1,height=1}]", Some((0, Unframed))),
+    // Map.
+    (b"step=[{do='map',id=1,x=0}]", Some((1, Key))),
+    (b"step=[{do='map',id=1,x=-1,y='0'}]", Some((1, Key))),
+    (b"step=[{do='map',id=1,x=-1,y=0}]", Some((1, Range))),
+    (b"step=[{do='map',id=1,x=0,y=32767}]", Some((1, Range))),
+    (b"step=[{do='map',id=1,x=0,y=0}]", Some((1, SurfaceAbsent))),
+    (
+        b"step=[{do='surface',id=1,width=2,height=1},{do='map',id=1,x=32766,y=0},{do='map',id=2,x=0,y=0},{do='frame'}]",
+        Some((3, SurfaceAbsent)),
+    ),
+    (
+        b"step=[{do='surface',id=1,width=2,height=1},{do='map',id=1,x=32766,y=32766},{do='delete',id=1},{do='map',id=1,x=0,y=0},{do='frame'}]",
+        Some((4, SurfaceAbsent)),
+    ),
+    // Copy: Key.
+    (
+        b"step=[{do='copy',from=1,to=1,rect=[0,0,1,1]}]",
+        Some((1, Key)),
+    ),
+    (
+        b"step=[{do='copy',from=1,to=1,rect=1,points=[[0,0]]}]",
+        Some((1, Key)),
+    ),
+    (
+        b"step=[{do='copy',from=1,to=1,rect=[[0,0,1,1]],points=[[0,0]]}]",
+        Some((1, Key)),
+    ),
+    (
+        b"step=[{do='copy',from=1,to=1,rect=[0,0,1.0,1],points=[[0,0]]}]",
+        Some((1, Key)),
+    ),
+    (
+        b"step=[{do='copy',from=1,to=1,rect=[0,0,1],points=[0,0]}]",
+        Some((1, Key)),
+    ),
+    (
+        b"step=[{do='copy',from=-1,to=1,rect=[0,0,1,1],points=[[0,'0']]}]",
+        Some((1, Key)),
+    ),
+    (
+        b"step=[{do='copy',id=1,from=1,to=1,rect=[0,0,1,1],points=[[0,0]]}]",
+        Some((1, Key)),
+    ),
+    // Range.
+    (
+        b"step=[{do='copy',from=1,to=-1,rect=[0,0,1,1],points=[[0,0]]}]",
+        Some((1, Range)),
+    ),
+    (
+        b"step=[{do='copy',from=1,to=1,rect=[0,0,1],points=[[0,0]]}]",
+        Some((1, Range)),
+    ),
+    (
+        b"step=[{do='copy',from=1,to=1,rect=[0,0,1,65536],points=[[0,0]]}]",
+        Some((1, Range)),
+    ),
+    (
+        b"step=[{do='copy',from=1,to=1,rect=[0,0,1,1],points=[]}]",
+        Some((1, Range)),
+    ),
+    (
+        b"step=[{do='copy',from=1,to=1,rect=[0,0,1,1],points=[[0,0,0]]}]",
+        Some((1, Range)),
+    ),
+    (
+        b"step=[{do='copy',from=1,to=1,rect=[0,0,1,1],points=[[0,65536]]}]",
+        Some((1, Range)),
+    ),
+    // Checks against earlier steps.
+    (
+        b"step=[{do='copy',from=1,to=1,rect=[0,0,1,1],points=[[0,0]]}]",
+        Some((1, SurfaceAbsent)),
+    ),
+    (
+        b"step=[{do='surface',id=1,width=2,height=1},{do='copy',from=2,to=1,rect=[0,0,1,1],points=[[0,0]]},{do='frame'}]",
+        Some((2, SurfaceAbsent)),
+    ),
+    (
+        b"step=[{do='surface',id=1,width=2,height=1},{do='copy',from=1,to=2,rect=[0,0,3,1],points=[[0,0]]},{do='frame'}]",
+        Some((2, SurfaceAbsent)),
+    ),
+    (
+        b"step=[{do='surface',id=1,width=2,height=1},{do='surface',id=2,width=3,height=2},{do='copy',from=1,to=2,rect=[0,0,3,1],points=[[0,0]]},{do='frame'}]",
+        Some((3, Outside)),
+    ),
+    (
+        b"step=[{do='surface',id=1,width=2,height=1},{do='surface',id=2,width=3,height=2},{do='copy',from=2,to=1,rect=[1,1,3,2],points=[[0,0],[1,0]]},{do='frame'}]",
+        Some((3, Outside)),
+    ),
+    (
+        b"step=[{do='surface',id=1,width=2,height=1},{do='surface',id=2,width=3,height=2},{do='copy',from=2,to=1,rect=[1,1,3,2],points=[[0,0]]},{do='frame'}]",
+        None,
+    ),
+    (
+        b"step=[{do='surface',id=1,width=2,height=1},{do='copy',from=1,to=1,rect=[1,0,0,1],points=[[0,0]]},{do='frame'}]",
+        Some((2, Outside)),
+    ),
+    (
+        b"step=[{do='surface',id=1,width=2,height=1},{do='copy',from=1,to=1,rect=[2,1,2,1],points=[[2,1],[0,0]]},{do='frame'}]",
+        None,
+    ),
+    (
+        b"step=[{do='surface',id=1,width=2,height=1},{do='copy',from=1,to=1,rect=[0,0,2,1],points=[[65535,65535]]},{do='frame'}]",
+        Some((2, Outside)),
+    ),
+    (
+        b"step=[{do='surface',id=1,width=2,height=1},{do='copy',from=1,to=1,rect=[0,0,1,1],points=[[1,0],[0,0]]}]",
+        Some((0, Unframed)),
+    ),
+];
+
 #[test]
 fn first_faults(rt: HostRuntime) -> Result<(), Fail> {
-    for (text, due) in TEXTS {
+    for (text, due) in TEXTS.iter().chain(MORE_TEXTS) {
         let found = match read_script(rt.alloc(), text) {
             Ok(_) => None,
             Err(ScriptError::Fault { step, kind }) => Some((step, kind)),
@@ -216,6 +369,51 @@ fn steps_of_a_script(rt: HostRuntime) -> Result<(), Fail> {
             bottom: 1
         }]
         .as_slice()
+    );
+    Ok(())
+}
+
+#[test]
+fn steps_on_surfaces_and_the_output(rt: HostRuntime) -> Result<(), Fail> {
+    let script = read_script(
+        rt.alloc(),
+        b"step=[{do='surface',id=1,width=2,height=1},{do='reset',width=3,height=4},{do='map',id=1,x=5,y=6},{do='copy',from=1,to=1,rect=[0,0,1,1],points=[[1,0],[0,0]]},{do='delete',id=1},{do='frame'}]",
+    )?;
+    assert!(rt;
+        matches!(
+            script.step(2),
+            Some(Step::Reset {
+                width: 3,
+                height: 4,
+            },)
+        )
+    );
+    assert!(rt; matches!(script.step(3), Some(Step::Map { id: 1, x: 5, y: 6 })));
+    assert!(rt; matches!(script.step(5), Some(Step::Delete { id: 1 })));
+    let Some(
+        Step::Copy {
+            from,
+            to,
+            rect,
+            points,
+        },
+    ) = script.step(4)
+    else {
+        return Err(Fail::from("no copy"));
+    };
+    assert_eq!(rt; (*from, *to), (1, 1));
+    assert_eq!(rt;
+        *rect,
+        Rect {
+            left: 0,
+            top: 0,
+            right: 1,
+            bottom: 1
+        }
+    );
+    assert_eq!(rt;
+        points.as_slice(),
+        [Point { x: 1, y: 0 }, Point { x: 0, y: 0 }].as_slice()
     );
     Ok(())
 }

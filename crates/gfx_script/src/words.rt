@@ -5,12 +5,14 @@ ghost use Rattle.toml.specs.View.{table_view, view};
 ghost use Rattle.gfx_script.specs.Found.{Finds};
 ghost use Rattle.gfx_script.specs.Words.{frame_of, worded, step_of};
 
+use crate::copy::read_copy;
 use crate::error::ScriptKind;
 use crate::fill::read_fill;
 use crate::flaw::Flaw;
 use crate::members::{check_keys, text};
+use crate::output::{read_map, read_reset};
 use crate::step::Step;
-use crate::surface::read_surface;
+use crate::surface::{read_delete, read_surface};
 use std::alloc::Global;
 use toml::{Table, Value};
 
@@ -33,7 +35,11 @@ fn read_worded(alloc: Global, word: &str, table: &Table) -> Result<Step, Flaw>
 {
     match word {
         "surface" => Ok(read_surface(table)?),
+        "delete" => Ok(read_delete(table)?),
+        "reset" => Ok(read_reset(table)?),
+        "map" => Ok(read_map(table)?),
         "fill" => read_fill(alloc, table),
+        "copy" => read_copy(alloc, table),
         "frame" => Ok(read_frame(table)?),
         _ => Err(Flaw::Wrong(ScriptKind::Key)),
     }

@@ -1,20 +1,28 @@
 -- What a message does to the state, or the first reason to refuse it. A refused message changes nothing.
 -- The effects are those of [MS-RDPEGFX] 3.3.5; the order of the checks is this project's own rule.
-use Rattle.std.specs.Prelude.{ℕ, ◌+◌, ◌%◌, ◌^◌, ◌==◌, Bool, false, not, List, Option, Some, None, is_some, Result, Ok, Err}
+use Rattle.std.specs.Prelude.{ℕ, ◌+◌, ◌*◌, ◌/◌, ◌%◌, ◌^◌, ◌==◌, ◌&&◌, ◌||◌, Bool, false, not, List, length, Option, Some, None, is_some, Result, Ok, Err}
 use Rattle.std.specs.List.{list_all}
 use Rattle.std.specs.Option.{ok_or}
 use Rattle.std.specs.FinMap as finmap
+use Rattle.std.specs.Int.{w32}
 use Rattle.gfx_base.specs.Results.{◌>>=◌, check}
+use Rattle.gfx_base.specs.Field.{number_at}
 use Rattle.gfx_base.specs.Format.{format_of}
-use Rattle.gfx_base.specs.Geometry.{lies_in}
+use Rattle.gfx_base.specs.Geometry.{lies_in, width_of, height_of}
+use Rattle.gfx_base.specs.declared.geometry.Point.{Point}
 use Rattle.gfx_base.specs.declared.geometry.Rect.{Rect}
 use Rattle.gfx_base.specs.declared.pixel.Pixel.{Pixel}
 use Rattle.gfx_base.specs.declared.refusal.Refusal.{Refusal}
-use Rattle.gfx_base.specs.declared.refusal.Refusal.TheVariants.{PduUnknown, NoSurface, SurfaceExists, SurfaceSize, PixelFormat, RectOutside, FrameOpen, FrameMismatch}
+use Rattle.gfx_base.specs.declared.refusal.Refusal.TheVariants.{PduUnknown, NoSurface, SurfaceExists, SurfaceSize, RectOutside, PixelFormat, CodecRefused, PayloadLength, SlotRange, FrameOpen, FrameMismatch, CapsVersion}
 use Rattle.gfx_pdu.specs.declared.pdu.Pdu.{Pdu}
-use Rattle.gfx_pdu.specs.declared.pdu.Pdu.TheVariants.{SolidFill, CreateSurface, StartFrame, EndFrame}
-use Rattle.gfx_surface_map.specs.Surfaces.{created, is_size, painted}
+use Rattle.gfx_pdu.specs.declared.pdu.Pdu.TheVariants.{WireToSurface1, WireToSurface2, SolidFill, SurfaceToSurface, SurfaceToCache, CacheToSurface, EvictCacheEntry, CreateSurface, DeleteSurface, StartFrame, EndFrame, ResetGraphics, MapSurfaceToOutput, CapsConfirm}
+use Rattle.gfx_bitmap_cache.specs.Slots.{Cached, Image, cached, entry, takes_slot, stored, evicted}
+use Rattle.gfx_bitmap_cache.specs.Slots.{shown as image_at}
+use Rattle.gfx_surface.specs.Picture.{Picture, overlaid, raw_pixels, rect_of}
+use Rattle.gfx_surface_map.specs.Surfaces.{is_size, painted}
+use Rattle.gfx_surface_map.specs.Shown.{Shown, with_picture, surface_made, surface_deleted, surface_copied, sized, pixels_put, output_reset, output_mapped}
 use Rattle.gfx_state.specs.State.{State}
+use Rattle.gfx_state.specs.declared.caps.TheConstants.{VERSION_8, VERSION_8_1, VERSION_10, FLAGS_SIZE, SMALL_CACHE}
 
 -- RDPGFX_START_FRAME_PDU: no frame may be open
 unfoldable pub frame_started : State → ℕ → Result State Refusal
@@ -33,26 +41,99 @@ frame_ended state frame = do
   ended ← check FrameMismatch (is_open state.frame frame)
   Ok (record state { frame = None; decoded = (state.decoded + 1) % 2 ^ 32 })
 
+-- only what is shown changes
+unfoldable pub showing : State → Result Shown Refusal → Result State Refusal
+showing state due = do
+  shown ← due
+  Ok (record state { shown = shown })
+
 -- RDPGFX_CREATE_SURFACE_PDU
 unfoldable pub surface_created : State → ℕ → ℕ → ℕ → ℕ → Result State Refusal
 surface_created state id width height byte = do
-  fresh ← check SurfaceExists (not (finmap.contains_key state.surfaces id))
+  fresh ← check SurfaceExists (not (finmap.contains_key state.shown.surfaces id))
   sides ← check SurfaceSize (is_size width height)
   format ← ok_or (format_of byte) PixelFormat
-  surfaces ← created state.surfaces id width height format
-  Ok (record state { surfaces = surfaces })
+  showing state (surface_made state.shown id width height format)
 
 -- RDPGFX_SOLIDFILL_PDU: all rectangles are checked before any is filled
 unfoldable pub rects_filled : State → ℕ → Pixel → List Rect → Result State Refusal
 rects_filled state id colour rects = do
-  picture ← ok_or (finmap.get state.surfaces id) NoSurface
+  picture ← ok_or (finmap.get state.shown.surfaces id) NoSurface
   inside ← check RectOutside (list_all (lies_in picture.width picture.height) rects)
-  Ok (record state { surfaces = finmap.insert state.surfaces id (painted picture rects colour) })
+  Ok (record state { shown = with_picture state.shown id (painted picture rects colour) })
+
+-- RDPGFX_CODECID_UNCOMPRESSED
+abbrev pub UNCOMPRESSED : ℕ
+UNCOMPRESSED = 0
+
+-- RDPGFX_WIRE_TO_SURFACE_PDU_1: uncompressed data alone are built yet
+unfoldable pub data_painted : State → ℕ → ℕ → ℕ → Rect → List ℕ → Result State Refusal
+data_painted state id codec byte rect payload = do
+  picture ← ok_or (finmap.get state.shown.surfaces id) NoSurface
+  built ← check CodecRefused (codec == UNCOMPRESSED)
+  format ← ok_or (format_of byte) PixelFormat
+  inside ← check RectOutside (lies_in picture.width picture.height rect)
+  whole ← check PayloadLength (length payload == 4 * (width_of rect * height_of rect))
+  Ok (record state { shown = with_picture state.shown id (overlaid picture rect (raw_pixels format payload)) })
+
+-- RDPGFX_WIRE_TO_SURFACE_PDU_2: no codec is built yet
+unfoldable pub tiles_painted : State → ℕ → Result State Refusal
+tiles_painted state id = do
+  picture ← ok_or (finmap.get state.shown.surfaces id) NoSurface
+  Err CodecRefused
+
+-- only the cache changes
+unfoldable pub caching : State → Result Cached Refusal → Result State Refusal
+caching state due = do
+  cache ← due
+  Ok (record state { cache = cache })
+
+-- a rectangle of a picture, as it stands
+abbrev pub image_in : Picture → Rect → Image
+image_in picture rect = record { width = width_of rect; height = height_of rect; pixels = rect_of picture rect }
+
+-- RDPGFX_SURFACE_TO_CACHE_PDU: the slot is checked before the rectangle, the budget last
+unfoldable pub rect_stored : State → ℕ → ℕ → ℕ → Rect → Result State Refusal
+rect_stored state id key slot rect = do
+  picture ← ok_or (finmap.get state.shown.surfaces id) NoSurface
+  taken ← check SlotRange (takes_slot state.cache.small slot)
+  inside ← check RectOutside (lies_in picture.width picture.height rect)
+  caching state (stored state.cache slot (entry key (image_in picture rect)))
+
+-- RDPGFX_CACHE_TO_SURFACE_PDU: the slot is checked before the surface
+unfoldable pub slot_put : State → ℕ → ℕ → List Point → Result State Refusal
+slot_put state slot id points = do
+  image ← image_at state.cache slot
+  showing state (pixels_put state.shown id (sized image.width image.height) image.pixels points)
+
+-- the versions that are built
+abbrev pub is_version : ℕ → Bool
+is_version version = version == VERSION_8 || version == VERSION_8_1 || version == VERSION_10
+
+-- these flags choose the small limits
+abbrev pub has_small_cache : List ℕ → Bool
+has_small_cache flags = number_at w32 flags 0 / SMALL_CACHE % 2 == 1
+
+-- RDPGFX_CAPS_CONFIRM_PDU: it sets the limits of later stores
+unfoldable pub caps_confirmed : State → ℕ → List ℕ → Result State Refusal
+caps_confirmed state version flags = do
+  known ← check CapsVersion (is_version version && length flags == FLAGS_SIZE)
+  Ok (record state { cache = cached state.cache.slots (has_small_cache flags) })
 
 -- one message. Those whose effect isn't built yet are refused once they are read
 unfoldable pub step : State → Pdu → Result State Refusal
+step state (WireToSurface1 surface codec format rect payload) = data_painted state surface codec format rect payload
+step state (WireToSurface2 surface codec context format payload) = tiles_painted state surface
 step state (SolidFill surface colour rects) = rects_filled state surface colour rects
+step state (SurfaceToSurface source destination rect points) = showing state (surface_copied state.shown source destination rect points)
+step state (SurfaceToCache surface key slot rect) = rect_stored state surface key slot rect
+step state (CacheToSurface slot surface points) = slot_put state slot surface points
+step state (EvictCacheEntry slot) = caching state (evicted state.cache slot)
 step state (CreateSurface id width height format) = surface_created state id width height format
+step state (DeleteSurface id) = showing state (surface_deleted state.shown id)
 step state (StartFrame timestamp frame) = frame_started state frame
 step state (EndFrame frame) = frame_ended state frame
+step state (ResetGraphics width height monitors) = showing state (output_reset state.shown width height)
+step state (MapSurfaceToOutput id reserved x y) = showing state (output_mapped state.shown id (record { x = x; y = y }))
+step state (CapsConfirm version flags) = caps_confirmed state version flags
 step state other = Err PduUnknown

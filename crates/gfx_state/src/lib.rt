@@ -5,8 +5,10 @@
 //! work to do: each states a law of the definitions, and its contract is the law.
 #![tactic(auto)]
 
+mod caps;
 mod laws;
 
+pub use caps::{FLAGS_SIZE, SMALL_CACHE, VERSION_8, VERSION_8_1, VERSION_10};
 pub use laws::{
     pieces_are_the_whole, refusals_stay, sent_messages_are_their_steps, steps_keep_the_run,
 };

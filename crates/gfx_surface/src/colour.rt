@@ -1,5 +1,6 @@
 //! Colours as a surface's format keeps them.
 ghost use Rattle.std.specs.Prelude.{◌≡◌};
+ghost use Rattle.gfx_base.specs.declared.pixel.Pixel.{Pixel as AnyPixel};
 ghost use Rattle.gfx_surface.specs.Picture.{shade, zero_colour};
 
 use gfx_base::{Format, Pixel};
@@ -32,5 +33,15 @@ pub fn shaded(format: Format, colour: Pixel) -> Pixel
             ..colour
         },
         Format::Argb => colour,
+    }
+}
+
+/// The format that keeps what these two formats keep.
+pub fn kept_by_both(first: Format, second: Format) -> Format
+    ensures { (pixel : AnyPixel) → shade result pixel ≡ shade first (shade second pixel) }
+{
+    match first {
+        Format::Xrgb => Format::Xrgb,
+        Format::Argb => second,
     }
 }

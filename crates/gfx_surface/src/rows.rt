@@ -1,21 +1,42 @@
 //! Pixels that stand row by row in one slice.
-ghost use Rattle.std.specs.Prelude.{◌≡◌, ◌≤◌, ◌<◌, ◌*◌, length, IsTrue};
+ghost use Rattle.std.specs.Prelude.{◌≡◌, ◌≤◌, ◌<◌, ◌+◌, ◌*◌, ◌^◌, length, IsTrue};
 ghost use Rattle.gfx_base.specs.Geometry.{lies_in};
-ghost use Rattle.gfx_surface.specs.Rows.{FillsRows, FillsRun};
+ghost use Rattle.gfx_surface.specs.Rows.{WritesRows, WritesRun};
 
 use gfx_base::{Pixel, Rect};
 
-/// Gives the places of a rectangle this colour, in rows of this width.
+/// How many columns rows have, and how many rows there are.
+#[derive(Clone, Copy)]
+pub struct Sides {
+    pub width: usize,
+    pub height: usize,
+}
+
+/// Where so many columns of a row begin and end, from a column on.
 #[tactic(auto, using(std::proofs::lemmas::Nat::rows))]
-pub fn fill_rows(pixels: &mut [Pixel], width: usize, height: usize, rect: Rect, colour: Pixel)
-    requires inside { IsTrue (lies_in width height rect) }
-    requires full { length pixels.old ≡ width * height }
-    ensures { FillsRows width rect colour pixels.old pixels.new }
+pub fn run_in_row(sides: Sides, x: usize, y: usize, count: usize) -> (usize, usize)
+    requires columns { x + count ≤ sides.width }
+    requires row { y < sides.height }
+    requires small { sides.width * sides.height < 2 ^ 64 }
+    ensures start { result.0 ≡ y * sides.width + x }
+    ensures end { result.1 ≡ y * sides.width + (x + count) }
+    ensures within { result.1 ≤ sides.width * sides.height }
+{
+    let start = y * sides.width + x;
+    (start, start + count)
+}
+
+/// Gives the places of a rectangle this colour.
+#[tactic(auto, using(std::proofs::lemmas::Nat::rows))]
+pub fn fill_rows(pixels: &mut [Pixel], sides: Sides, rect: Rect, colour: Pixel)
+    requires inside { IsTrue (lies_in sides.width sides.height rect) }
+    requires full { length pixels.old ≡ sides.width * sides.height }
+    ensures { WritesRows sides.width rect (λ _ _. colour) pixels.old pixels.new }
 {
     let (left, right) = (usize::from(rect.left), usize::from(rect.right));
     // Row by row over whole runs, so that it vectorises.
     'rows: for y in rect.top..rect.bottom {
-        let start = usize::from(y) * width;
+        let start = usize::from(y) * sides.width;
         fill_run(pixels, start + left, start + right, colour);
     }
 }
@@ -24,7 +45,7 @@ pub fn fill_rows(pixels: &mut [Pixel], width: usize, height: usize, rect: Rect, 
 fn fill_run(pixels: &mut [Pixel], from: usize, to: usize, colour: Pixel)
     requires ordered { from ≤ to }
     requires within { to ≤ length pixels.old }
-    ensures { FillsRun from to colour pixels.old pixels.new }
+    ensures { WritesRun from to (λ _. colour) pixels.old pixels.new }
 {
     pixels[from..to].fill(colour);
 }

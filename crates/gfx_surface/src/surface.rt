@@ -1,11 +1,14 @@
 ghost use Rattle.std.specs.Prelude.{◌≡◌, ◌≤◌, ◌<◌, ◌*◌, length, IsTrue, IfOk};
-ghost use Rattle.gfx_base.specs.Geometry.{lies_in};
-ghost use Rattle.gfx_surface.specs.Picture.{IsPicture, blank, pixel_at, row_of, filled};
+ghost use Rattle.gfx_base.specs.Geometry.{lies_in, width_of, height_of};
+ghost use Rattle.gfx_surface.specs.Picture.{IsPicture, blank, pixel_at, row_of, filled, moved, copied, rect_of, overlaid, raw_pixels};
 
 use crate::MOST_SIDE;
-use crate::colour::{empty_colour, shaded};
-use crate::rows::fill_rows;
-use gfx_base::{Format, NoMemory, Pixel, Rect};
+use crate::colour::{empty_colour, kept_by_both, shaded};
+use crate::copies::copy_rows;
+use crate::moves::move_rows;
+use crate::raw::{PIXEL_BYTES, put_rows};
+use crate::rows::{Sides, fill_rows};
+use gfx_base::{Format, NoMemory, Pixel, Point, Rect};
 use std::alloc::Global;
 use std::marker::Model;
 
@@ -91,7 +94,120 @@ impl Surface {
         ensures { self.new ≡ filled self.old rect colour }
     {
         let colour = shaded(self.format, colour);
-        let (width, height) = (usize::from(self.width), usize::from(self.height));
-        fill_rows(&mut self.pixels, width, height, rect, colour);
+        let sides = self.sides();
+        fill_rows(&mut self.pixels, sides, rect, colour);
+    }
+
+    /// Puts pixels into a rectangle, row by row from its top. An XRGB surface keeps alpha 255, an ARGB
+    /// one the pixels' own. It takes no memory.
+    pub fn put(&mut self, rect: Rect, pixels: &[Pixel])
+        requires inside { IsTrue (lies_in self.old.width self.old.height rect) }
+        requires whole { length pixels.now ≡ width_of rect * height_of rect }
+        ensures { self.new ≡ overlaid self.old rect pixels.now }
+    {
+        let from_sides = sides_of(rect);
+        let all = Rect {
+            left: 0,
+            top: 0,
+            right: rect.width(),
+            bottom: rect.height(),
+        };
+        let to = Point {
+            x: rect.left,
+            y: rect.top,
+        };
+        let sides = self.sides();
+        copy_rows(
+            pixels,
+            from_sides,
+            all,
+            self.format,
+            &mut self.pixels,
+            sides,
+            to,
+        );
+    }
+
+    /// Puts the pixels of uncompressed data into a rectangle, row by row from its top ([MS-RDPEGFX]
+    /// RDPGFX_WIRE_TO_SURFACE_PDU_1). Their alpha stays where both the data's format and the surface's
+    /// keep it. It takes no memory.
+    pub fn put_bytes(&mut self, rect: Rect, format: Format, bytes: &[u8])
+        requires inside { IsTrue (lies_in self.old.width self.old.height rect) }
+        requires whole { length bytes.now ≡ PIXEL_BYTES * (width_of rect * height_of rect) }
+        ensures { self.new ≡ overlaid self.old rect (raw_pixels format bytes.now) }
+    {
+        let format = kept_by_both(self.format, format);
+        let sides = self.sides();
+        put_rows(bytes, format, &mut self.pixels, sides, rect);
+    }
+
+    /// Copies a rectangle to a point of the same surface ([MS-RDPEGFX] RDPGFX_SURFACE_TO_SURFACE_PDU).
+    /// It reads before it writes, and takes no memory.
+    pub fn copy_within(&mut self, rect: Rect, to: Point)
+        requires inside { IsTrue (lies_in self.old.width self.old.height rect) }
+        requires fits { IsTrue (lies_in self.old.width self.old.height (moved rect to)) }
+        ensures { self.new ≡ copied self.old rect to self.old }
+    {
+        let sides = self.sides();
+        move_rows(&mut self.pixels, sides, rect, to);
+    }
+
+    /// Copies a rectangle of another surface to a point of this one ([MS-RDPEGFX]
+    /// RDPGFX_SURFACE_TO_SURFACE_PDU). An XRGB surface keeps alpha 255. It takes no memory.
+    pub fn copy_from(&mut self, from: &Surface, rect: Rect, to: Point)
+        requires inside { IsTrue (lies_in from.now.width from.now.height rect) }
+        requires fits { IsTrue (lies_in self.old.width self.old.height (moved rect to)) }
+        ensures { self.new ≡ copied from.now rect to self.old }
+    {
+        let format = self.format;
+        let sides = self.sides();
+        copy_rows(
+            &from.pixels,
+            from.sides(),
+            rect,
+            format,
+            &mut self.pixels,
+            sides,
+            to,
+        );
+    }
+
+    /// Reads the pixels of a rectangle into a slice, row by row from its top. It takes no memory.
+    pub fn read(&self, rect: Rect, out: &mut [Pixel])
+        requires inside { IsTrue (lies_in self.now.width self.now.height rect) }
+        requires whole { length out.old ≡ width_of rect * height_of rect }
+        ensures { out.new ≡ rect_of self.now rect }
+    {
+        let to = Point { x: 0, y: 0 };
+        copy_rows(
+            &self.pixels,
+            self.sides(),
+            rect,
+            Format::Argb,
+            out,
+            sides_of(rect),
+            to,
+        );
+    }
+
+    fn sides(&self) -> Sides
+        ensures width { result.width ≡ self.now.width }
+        ensures height { result.height ≡ self.now.height }
+    {
+        Sides {
+            width: usize::from(self.width),
+            height: usize::from(self.height),
+        }
+    }
+}
+
+/// The sides of the pixels of a rectangle.
+fn sides_of(rect: Rect) -> Sides
+    ensures width { result.width ≡ width_of rect }
+    ensures height { result.height ≡ height_of rect }
+{
+    Sides {
+        width: usize::from(rect.width()),
+        height: usize::from(rect.height()),
     }
 }

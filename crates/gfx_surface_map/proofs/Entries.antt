@@ -1,5 +1,5 @@
 -- The map that a list of entries stands for.
-use Rattle.std.proofs.Common.{◌≡◌, ◌≢◌, ◌∙◌, ◌⊎◌, ◌<◌, ◌^◌, ◌&&◌, nat_lt, nat_le, ap, sym, refl, length, true, false, cond, nat_eq, ℕ, ◌+◌, List, [], ◌∷◌, Option, Some, None, is_some, inl, inr, arith}
+use Rattle.std.proofs.Common.{◌≡◌, ◌≢◌, ◌∙◌, ◌⊎◌, ◌<◌, ◌^◌, ◌&&◌, nat_lt, nat_le, ap, sym, refl, length, true, false, cond, nat_eq, Bool, ℕ, ◌+◌, List, [], ◌∷◌, Option, Some, None, is_some, inl, inr, arith}
 use Rattle.std.specs.Ordering.{nat_cmp, eq_by_cmp, is_eq}
 use Rattle.std.specs.declared.cmp.Ordering.{Ordering}
 use Rattle.std.specs.declared.cmp.Ordering.TheVariants.{Less, Equal, Greater}
@@ -15,7 +15,7 @@ use Rattle.gfx_surface_map.specs.Surfaces.{Surfaces, has_room, cells, cells_of_p
 use Rattle.gfx_surface_map.specs.Inside.{AreIds}
 use Rattle.std.proofs.lemmas.Map.Keys.{IsDistinct-head, IsDistinct-tail}
 use Rattle.std.specs.Option.{ghost_name_of}
-use Rattle.std.specs.FinMap.{find, get, insert, empty, from_entries, get-from_entries, get-insert, get-entries, len, len-empty, len-entries, len-insert, values, entries, entries-insert, put, same_map, nat_cmp-IsAntisymmetric}
+use Rattle.std.specs.FinMap.{find, get, insert, empty, from_entries, get-from_entries, get-insert, get-remove, remove, get-entries, len, len-empty, len-entries, len-insert, values, entries, entries-insert, put, same_map, nat_cmp-IsAntisymmetric}
 use Rattle.std.proofs.lemmas.Bool.{cases_eq}
 use Rattle.std.proofs.lemmas.Bool.Decides.{nat_tests}
 use Rattle.std.specs.Borrow.{MutBor}
@@ -132,3 +132,21 @@ ids-insert surfaces id picture fits ids other there = by (cases_eq other id)
 pub ids-empty : (es : List (ℕ × Picture)) → es ≡ [] → AreIds (from_entries es)
 ids-empty es none id there =
     let no : false ≡ true = sym (ap is_some (get-entries_lookup es id ∙ ap (lookup (nat_eq id)) none)) ∙ there in cc
+
+-- one id fewer
+pub ids-remove : (surfaces : Surfaces) (id : ℕ) → AreIds surfaces → AreIds (remove surfaces id)
+ids-remove surfaces id ids other there =
+    by (eq_by_cmp nat_cmp other id) (sym (ap is_some (get-remove nat_cmp_total surfaces id other)) ∙ there)
+  where
+    by : (b : Bool) → is_some (cond b None (get surfaces other)) ≡ true → other < 2 ^ 16
+    by true none = let no : false ≡ true = none in cc
+    by false some = ids other some
+
+-- a list that has nothing at one key and the rest of an older list stands for the older map without that key
+pub removed_map : (old new : List (ℕ × Picture)) (k : ℕ)
+    → ((q : ℕ) → lookup (nat_eq q) new ≡ cond (nat_eq k q) None (lookup (nat_eq q) old))
+    → from_entries {R = nat_cmp} new ≡ remove (from_entries old) k
+removed_map old new k says = same_map nat_cmp_total nat_cmp-IsAntisymmetric _ _ (λ q.
+    get-entries_lookup new q ∙ says q
+    ∙ (λ i. cond ((nat_eq-turned k q ∙ sym (eq_by_cmp-nat_cmp q k)) i) None (sym (get-entries_lookup old q) i))
+    ∙ sym (get-remove nat_cmp_total (from_entries old) k q))

@@ -1,7 +1,7 @@
--- How the surfaces are kept.
+-- How surfaces are kept by their ids.
 use Rattle.std.specs.Prelude.{ℕ, ◌<◌, ◌^◌, IsSome}
 use Rattle.std.specs.FinMap.{from_entries, get}
-use Rattle.gfx_surface_map.specs.declared.map.SurfaceMap.TheInside.{Inside}
+use Rattle.gfx_surface_map.specs.declared.table.Table.TheInside.{Inside}
 use Rattle.gfx_surface_map.specs.Surfaces.{Surfaces}
 
 -- the map that the entries stand for

@@ -1,6 +1,6 @@
 -- The surfaces of a client or of a server, by their ids ([MS-RDPEGFX], RDPGFX_CREATE_SURFACE_PDU and
 -- RDPGFX_SOLIDFILL_PDU). The limits and the order of the checks are this project's own rules.
-use Rattle.std.specs.Prelude.{ℕ, ◌+◌, ◌-◌, ◌*◌, ◌/◌, Bool, IsTrue, All, ◌&&◌, not, nat_le, nat_lt, List, fold, Result, Ok}
+use Rattle.std.specs.Prelude.{◌≡◌, true, false, ℕ, ◌+◌, ◌-◌, ◌*◌, ◌/◌, Bool, IsTrue, All, ◌&&◌, not, nat_le, nat_lt, List, fold, Result, Ok}
 use Rattle.std.specs.Coded.{Coded, coded_ℕ}
 use Rattle.std.specs.List.{sum_by}
 use Rattle.std.specs.Ordering.{nat_cmp}
@@ -62,6 +62,12 @@ created surfaces id width height format = do
   sides ← check SurfaceSize (is_size width height)
   room ← check SurfaceBudget (has_room surfaces width height)
   Ok (finmap.insert surfaces id (blank width height format))
+
+-- nothing speaks against one more surface of these sides
+pub record MayMake (surfaces : Surfaces) (id width height : ℕ) : Type 0 where
+  pub fresh : finmap.contains_key surfaces id ≡ false
+  pub sides : is_size width height ≡ true
+  pub room : has_room surfaces width height ≡ true
 
 -- each rectangle lies on the picture
 abbrev pub AllLieIn : Picture → List Rect → Type 0

@@ -4,11 +4,18 @@
 //! It stands on `gfx_surface`; the state of the client and of the planner above it hold one.
 #![tactic(auto)]
 
+mod composing;
+mod copying;
+mod drawing;
 mod map;
+mod output;
+mod place;
 mod scan;
 mod size;
+mod table;
 
 pub use map::SurfaceMap;
+pub use place::{MOST_OUTPUT_SIDE, Output, Place};
 pub use size::{count_cells, fits_size};
 
 /// The side of a cell, in pixels ([MS-RDPRFX] cuts a surface into tiles of this side).

@@ -1,3 +1,4 @@
 pub mod LineLemmas
+pub mod LongWords
 pub mod StandardFacts
 pub mod WordLemmas

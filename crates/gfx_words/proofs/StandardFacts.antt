@@ -2,14 +2,14 @@
 use Rattle.std.proofs.Common.{◌≡◌, [], ◌∷◌, None, codes, refl}
 use Rattle.clap.proofs.OnLiterals.{clap_on_literals}
 use Rattle.gfx_words.specs.CommandLine.{accepted}
-use Rattle.gfx_words.specs.Table.{plain_command}
+use Rattle.gfx_words.specs.Table.{output_command, plain_command}
 use Rattle.gfx_words.specs.declared.table.TheConstants.{USAGE}
 
 pub no_command : (accepted [] ≡ None) × (accepted (codes "--help" ∷ []) ≡ None)
     × (accepted (codes "-h" ∷ []) ≡ None) × (accepted (codes "render" ∷ codes "--wide" ∷ []) ≡ None)
     × (accepted (codes "render" ∷ codes "render" ∷ []) ≡ None)
-    × (accepted (codes "render" ∷ codes "--output" ∷ []) ≡ None)
-unfolding clap_on_literals accepted plain_command
+    × (accepted (codes "encode" ∷ codes "--output" ∷ []) ≡ None)
+unfolding clap_on_literals accepted plain_command output_command
 no_command = (refl, refl, refl, refl, refl, refl)
 
 pub usage_line : USAGE.now ≡ codes "usage: gfxpipe encode | render [--output] | audit | session | make N | trial N"

@@ -1,5 +1,5 @@
--- Which words clap takes as a name alone, one word after another.
-use Rattle.std.proofs.Common.{◌≡◌, ◌∙◌, ◌==◌, ℕ, inl, inr, Bool, true, false, arith, ap, refl, sym, length, codes, List, [], ◌∷◌, Option, Some, None}
+-- Which words clap takes as a name, alone or with the flag, one word after another.
+use Rattle.std.proofs.Common.{◌≡◌, ◌∙◌, ◌==◌, ◌⊎◌, ℕ, inl, inr, Bool, true, false, arith, ap, refl, subst, sym, length, codes, List, [], ◌∷◌, Option, Some, None}
 use Rattle.std.specs.Prelude.{if◌then◌else◌, fold, is_some, slice_get}
 use Rattle.std.specs.Str.{bytes_eq, chars}
 use Rattle.std.proofs.lemmas.Slice.Eq.{bytes_eq-Decides}
@@ -13,10 +13,11 @@ use Rattle.clap.specs.declared.error.kind.ErrorKind.{ErrorKind}
 use Rattle.clap.specs.declared.error.kind.ErrorKind.TheVariants as kind
 use Rattle.gfx_words.specs.CommandLine.{accepted, command_line, command_matched, output_rule}
 use Rattle.clap.proofs.OnLiterals.{clap_on_literals}
-use Rattle.gfx_words.specs.Laws.{IsNameAlone, OnlyNameIsCommand, OnlyNamesAreCommands}
-use Rattle.gfx_words.specs.Table.{command_named, plain_command}
+use Rattle.gfx_words.proofs.LongWords.{long_word}
+use Rattle.gfx_words.specs.Laws.{IsNameAlone, IsNameAndFlag, OnlyNameIsCommand, OnlyNamesAreCommands, OnlyRenderAndFlagAreRenderOutput}
+use Rattle.gfx_words.specs.Table.{command_named, output_command, plain_command}
 use Rattle.gfx_words.specs.declared.table.Command.{Command}
-use Rattle.gfx_words.specs.declared.table.Command.TheVariants.{Encode, Render}
+use Rattle.gfx_words.specs.declared.table.Command.TheVariants.{Encode, Render, RenderOutput}
 
 -- ---- the walk as an answer
 
@@ -105,7 +106,7 @@ standing rows pending position = at (record { rows = rows; pending = pending; sk
 
 data Read (w : Walk) (word : Text) : Type 0 where
   a_mark : word ≡ codes "--" → turn_fault shape [] w word ≡ [] → walked rules [] w word ≡ marked w → Read w word
-  a_flag : turn_fault shape [] w word ≡ flag_fault w → walked rules [] w word ≡ flagged w → Read w word
+  a_flag : word ≡ codes "--output" → turn_fault shape [] w word ≡ flag_fault w → walked rules [] w word ≡ flagged w → Read w word
   a_value : turn_fault shape [] w word ≡ given_fault w → walked rules [] w word ≡ given word w → Read w word
   refused : (turn_fault shape [] w word ≡ [] → ⊥) → Read w word
 
@@ -117,6 +118,9 @@ some_fault (x ∷ xs) after k e = cc
 some_fault_before : (before after last : Kinds) (k : ErrorKind) → or_else (or_else (or_else before (k ∷ [])) after) last ≡ [] → ⊥
 some_fault_before [] after last k e = cc
 some_fault_before (x ∷ xs) after last k e = cc
+
+flag_word : (word name : Text) → long_of word ≡ Some (name, None) → bytes_eq (codes "output") name ≡ true → word ≡ codes "--output"
+flag_word word name is same = long_word word name is ∙ ap (λ (n : Text). 45 ∷ 45 ∷ n) (sym ((bytes_eq-Decides (codes "output") name).0 same))
 
 read : (rows : List Row) (pending : Option (Text × List Text)) (p : ℕ) (word : Text) → Read (standing rows pending p) word
 unfolding walked bundle_met flags_fault
@@ -145,7 +149,7 @@ read rows pending p word = by_mark (bytes_eq word (codes "--")) refl
 
     by_output : (l : Text × Option Text) (b : Bool) → bytes_eq word (codes "--") ≡ false → long_of word ≡ Some l
         → bytes_eq (codes "output") l.0 ≡ b → Read (standing rows pending p) word
-    by_output (name, None) true m is o = a_flag (rw (m, is, o) refl) (rw (m, is, o) refl)
+    by_output (name, None) true m is o = a_flag (flag_word word name is o) (rw (m, is, o) refl) (rw (m, is, o) refl)
     by_output (name, Some v) true m is o = refused (λ none. let bad : kind.TooManyValues ∷ [] ≡ [] = rw (m, is, o) at none in cc)
     by_output l false m is o = by_help l (bytes_eq (codes "help") l.0) m is o refl
 
@@ -175,14 +179,14 @@ EndsWithout c w = answer w [] ≡ Some c → ⊥
 -- what follows of the next word, by what it is
 next_word : (c : Command) (rows : List Row) (pending : Option (Text × List Text)) (p : ℕ) (word : Text) (rest : List Text) (G : Type 0)
     → (word ≡ codes "--" → answer (marked (standing rows pending p)) rest ≡ Some c → G)
-    → (flag_fault (standing rows pending p) ≡ [] → answer (flagged (standing rows pending p)) rest ≡ Some c → G)
+    → (word ≡ codes "--output" → flag_fault (standing rows pending p) ≡ [] → answer (flagged (standing rows pending p)) rest ≡ Some c → G)
     → (given_fault (standing rows pending p) ≡ [] → answer (given word (standing rows pending p)) rest ≡ Some c → G)
     → answer (standing rows pending p) (word ∷ rest) ≡ Some c → G
 next_word c rows pending p word rest G by_mark by_flag by_value is = go (read rows pending p word)
   where
     go : Read (standing rows pending p) word → G
     go (a_mark same none next) = by_mark same (step _ _ word rest _ c none next is).1
-    go (a_flag fault next) = let s = step _ _ word rest _ c fault next is in by_flag s.0 s.1
+    go (a_flag same fault next) = let s = step _ _ word rest _ c fault next is in by_flag same s.0 s.1
     go (a_value fault next) = let s = step _ _ word rest _ c fault next is in by_value s.0 s.1
     go (refused some) = absurd (some (step _ _ word rest _ c refl refl is).0)
 
@@ -201,20 +205,23 @@ full_behind : (c : Command) (h : Held) → EndsWithout c (marked (at h 3)) → N
 full_behind c h end [] is = end is
 full_behind c h end (word ∷ rest) is = faultless kind.UnknownArgument (next_behind c h 3 word rest is).0
 
--- and with one place left
-number_behind : (c : Command) (h : Held) → EndsWithout c (marked (at h 2))
-    → ((word : Text) → EndsWithout c (given word (marked (at h 2)))) → Never c (marked (at h 2))
-number_behind c h end more [] is = end is
-number_behind c h end more (word ∷ rest) is =
-    full_behind c (given word (marked (at h 2))).held (more word) rest (next_behind c h 2 word rest is).1
+-- with one place left, which no command fills
+number_behind : (c : Command) (h : Held) (V : Type 0) → (answer (marked (at h 2)) [] ≡ Some c → V)
+    → ((word : Text) → EndsWithout c (given word (marked (at h 2)))) → (rest : List Text)
+    → answer (marked (at h 2)) rest ≡ Some c → V × (rest ≡ [])
+number_behind c h V end more [] is = (end is, refl)
+number_behind c h V end more (word ∷ rest) is =
+    absurd (full_behind c (given word (marked (at h 2))).held (more word) rest (next_behind c h 2 word rest is).1)
 
 -- and with both places left
-name_behind : (c : Command) (h : Held) → EndsWithout c (marked (at h 1))
-    → ((a : Text) → EndsWithout c (given a (marked (at h 1))))
-    → ((a b : Text) → EndsWithout c (given b (given a (marked (at h 1))))) → Never c (marked (at h 1))
-name_behind c h end one two [] is = end is
-name_behind c h end one two (a ∷ rest) is =
-    number_behind c (given a (marked (at h 1))).held (one a) (two a) rest (next_behind c h 1 a rest is).1
+name_behind : (c : Command) (h : Held) (V : Text → Type 0) → EndsWithout c (marked (at h 1))
+    → ((a : Text) → answer (given a (marked (at h 1))) [] ≡ Some c → V a)
+    → ((a b : Text) → EndsWithout c (given b (given a (marked (at h 1))))) → (rest : List Text)
+    → answer (marked (at h 1)) rest ≡ Some c → (a : Text) × (V a × (rest ≡ a ∷ []))
+name_behind c h V end one two [] is = absurd (end is)
+name_behind c h V end one two (a ∷ rest) is =
+    let n = number_behind c (given a (marked (at h 1))).held (V a) (one a) (two a) rest (next_behind c h 1 a rest is).1 in
+    (a, (n.0, ap (λ (words : List Text). a ∷ words) n.1))
 
 -- where the walk stands after the flag and some values, in the order that the names say
 abbrev start : Walk
@@ -236,105 +243,181 @@ full : (c : Command) (rows : List Row) (pending : Option (Text × List Text)) �
 full c rows pending end marked_end again [] is = end is
 full c rows pending end marked_end again (word ∷ rest) is =
     next_word c rows pending 3 word rest ⊥ (λ _. full_behind c (standing rows pending 3).held marked_end rest)
-    (λ fault _. again fault) (λ fault _. faultless kind.UnknownArgument fault) is
+    (λ _ fault _. again fault) (λ fault _. faultless kind.UnknownArgument fault) is
 
--- ---- a command that comes of its name alone
+-- no word, or the mark alone
+abbrev IsEnd : List Text → Type 0
+IsEnd words = (words ≡ []) ⊎ (words ≡ codes "--" ∷ [])
 
--- no row of the table with the flag is the command
-abbrev HasNoFlag : Command → Type 0
-HasNoFlag c = (a : Text) (number : Option Text) → command_named (Some a) true number ≡ Some c → ⊥
+-- where the flag and the name stand, no word can follow but the mark
+flag_and_name : (c : Command) (rows : List Row) (pending : Option (Text × List Text)) (V : Type 0)
+    → (answer (standing rows pending 2) [] ≡ Some c → V) → (answer (marked (standing rows pending 2)) [] ≡ Some c → V)
+    → (flag_fault (standing rows pending 2) ≡ [] → ⊥)
+    → ((b : Text) → EndsWithout c (given b (marked (standing rows pending 2))))
+    → ((b : Text) → Never c (given b (standing rows pending 2))) → (words : List Text)
+    → answer (standing rows pending 2) words ≡ Some c → V × IsEnd words
+flag_and_name c rows pending V end marked_end again more never [] is = (end is, inl refl)
+flag_and_name c rows pending V end marked_end again more never (word ∷ rest) is =
+    next_word c rows pending 2 word rest (V × IsEnd (word ∷ rest))
+    (λ mark e. let n = number_behind c (standing rows pending 2).held V marked_end more rest e in (n.0, inr (rw (mark, n.1) refl)))
+    (λ _ fault _. absurd (again fault)) (λ _ e. absurd (never word rest e)) is
 
--- no row with a number and no flag is the command
+-- ---- which words are a command
+
+-- no row of the table with a number is the command
 abbrev HasNoNumber : Command → Type 0
-HasNoNumber c = (a b : Text) → command_named (Some a) false (Some b) ≡ Some c → ⊥
+HasNoNumber c = (has_output : Bool) (a b : Text) → command_named (Some a) has_output (Some b) ≡ Some c → ⊥
 
--- the one name that is the command by itself
-abbrev IsOnlyName : Text → Command → Type 0
-IsOnlyName name c = (a : Text) → plain_command a ≡ Some c → a ≡ name
-
-never_name_flag_number : (c : Command) → HasNoFlag c → (a b : Text) → Never c (given b (name_flag a))
+never_name_flag_number : (c : Command) → HasNoNumber c → (a b : Text) → Never c (given b (name_flag a))
 unfolding clap_on_literals
-never_name_flag_number c no_flag a b = full c (given b (name_flag a)).held.rows (given b (name_flag a)).held.pending
-    (no_flag a (Some b)) (no_flag a (Some b)) (faultless kind.ArgumentConflict)
+never_name_flag_number c no_number a b = full c (given b (name_flag a)).held.rows (given b (name_flag a)).held.pending
+    (no_number true a b) (no_number true a b) (faultless kind.ArgumentConflict)
 
-never_flag_name_number : (c : Command) → HasNoFlag c → (a b : Text) → Never c (given b (flag_name a))
+never_flag_name_number : (c : Command) → HasNoNumber c → (a b : Text) → Never c (given b (flag_name a))
 unfolding clap_on_literals
-never_flag_name_number c no_flag a b = full c (given b (flag_name a)).held.rows (given b (flag_name a)).held.pending
-    (no_flag a (Some b)) (no_flag a (Some b)) (faultless kind.ArgumentConflict)
+never_flag_name_number c no_number a b = full c (given b (flag_name a)).held.rows (given b (flag_name a)).held.pending
+    (no_number true a b) (no_number true a b) (faultless kind.ArgumentConflict)
 
-never_name_number_flag : (c : Command) → HasNoFlag c → (a b : Text) → Never c (flagged (name_number a b))
+never_name_number_flag : (c : Command) → HasNoNumber c → (a b : Text) → Never c (flagged (name_number a b))
 unfolding clap_on_literals
-never_name_number_flag c no_flag a b = full c (flagged (name_number a b)).held.rows (flagged (name_number a b)).held.pending
-    (no_flag a (Some b)) (no_flag a (Some b)) (faultless kind.ArgumentConflict)
+never_name_number_flag c no_number a b = full c (flagged (name_number a b)).held.rows (flagged (name_number a b)).held.pending
+    (no_number true a b) (no_number true a b) (faultless kind.ArgumentConflict)
 
-never_name_flag : (c : Command) → HasNoFlag c → (a : Text) → Never c (name_flag a)
+never_name_number : (c : Command) → HasNoNumber c → (a b : Text) → Never c (name_number a b)
 unfolding clap_on_literals
-never_name_flag c no_flag a [] is = no_flag a None is
-never_name_flag c no_flag a (word ∷ rest) is =
-    next_word c (name_flag a).held.rows (name_flag a).held.pending 2 word rest ⊥
-    (λ _. number_behind c (name_flag a).held (no_flag a None) (λ b. no_flag a (Some b)) rest)
-    (λ fault _. faultless kind.ArgumentConflict fault) (λ _. never_name_flag_number c no_flag a word rest) is
-
-never_flag_name : (c : Command) → HasNoFlag c → (a : Text) → Never c (flag_name a)
-unfolding clap_on_literals
-never_flag_name c no_flag a [] is = no_flag a None is
-never_flag_name c no_flag a (word ∷ rest) is =
-    next_word c (flag_name a).held.rows (flag_name a).held.pending 2 word rest ⊥
-    (λ _. number_behind c (flag_name a).held (no_flag a None) (λ b. no_flag a (Some b)) rest)
-    (λ fault _. faultless kind.ArgumentConflict fault) (λ _. never_flag_name_number c no_flag a word rest) is
-
-never_flag : (c : Command) → HasNoFlag c → Never c (flagged start)
-unfolding clap_on_literals
-never_flag c no_flag [] is = no_answer c is
-never_flag c no_flag (word ∷ rest) is =
-    next_word c (flagged start).held.rows (flagged start).held.pending 1 word rest ⊥
-    (λ _. name_behind c (flagged start).held (no_answer c) (λ a. no_flag a None) (λ a b. no_flag a (Some b)) rest)
-    (λ fault _. faultless kind.ArgumentConflict fault) (λ _. never_flag_name c no_flag word rest) is
-
-never_name_number : (c : Command) → HasNoFlag c → HasNoNumber c → (a b : Text) → Never c (name_number a b)
-unfolding clap_on_literals
-never_name_number c no_flag no_number a b [] is = no_number a b is
-never_name_number c no_flag no_number a b (word ∷ rest) is =
+never_name_number c no_number a b [] is = no_number false a b is
+never_name_number c no_number a b (word ∷ rest) is =
     next_word c (name_number a b).held.rows (name_number a b).held.pending 3 word rest ⊥
-    (λ _. full_behind c (name_number a b).held (no_number a b) rest)
-    (λ _. never_name_number_flag c no_flag a b rest) (λ fault _. faultless kind.UnknownArgument fault) is
+    (λ _. full_behind c (name_number a b).held (no_number false a b) rest)
+    (λ _ _. never_name_number_flag c no_number a b rest) (λ fault _. faultless kind.UnknownArgument fault) is
 
--- behind a name and the mark no word can stand
-marked_name : (name : Text) (c : Command) → IsOnlyName name c → HasNoNumber c → (a : Text) (rest : List Text)
-    → answer (marked (given a start)) rest ≡ Some c → (a ≡ name) × (rest ≡ [])
+-- what follows a name and the flag
+behind_name_flag : (c : Command) → HasNoNumber c → (a : Text) (words : List Text)
+    → answer (name_flag a) words ≡ Some c → (output_command a ≡ Some c) × IsEnd words
 unfolding clap_on_literals
-marked_name name c only no_number a [] is = (only a is, refl)
-marked_name name c only no_number a (b ∷ rest) is =
-    absurd (full_behind c (given b (marked (given a start))).held (no_number a b) rest
-    (next_behind c (given a start).held 2 b rest is).1)
+behind_name_flag c no_number a =
+    flag_and_name c (name_flag a).held.rows (name_flag a).held.pending (output_command a ≡ Some c) (λ is. is) (λ is. is)
+    (faultless kind.ArgumentConflict) (no_number true a) (never_name_flag_number c no_number a)
 
-named_mark : (name : Text) (c : Command) → IsOnlyName name c → HasNoNumber c → (rest : List Text)
-    → answer (marked start) rest ≡ Some c → rest ≡ name ∷ []
+behind_flag_name : (c : Command) → HasNoNumber c → (a : Text) (words : List Text)
+    → answer (flag_name a) words ≡ Some c → (output_command a ≡ Some c) × IsEnd words
 unfolding clap_on_literals
-named_mark name c only no_number [] is = absurd (no_answer c is)
-named_mark name c only no_number (a ∷ []) is =
-    ap (λ (word : Text). word ∷ []) (only a (next_behind c start.held 1 a [] is).1)
-named_mark name c only no_number (a ∷ b ∷ rest) is =
-    absurd (full_behind c (given b (given a (marked start))).held (no_number a b) rest
-    (next_behind c (given a start).held 2 b rest (next_behind c start.held 1 a (b ∷ rest) is).1).1)
+behind_flag_name c no_number a =
+    flag_and_name c (flag_name a).held.rows (flag_name a).held.pending (output_command a ≡ Some c) (λ is. is) (λ is. is)
+    (faultless kind.ArgumentConflict) (no_number true a) (never_flag_name_number c no_number a)
 
-named : (name : Text) (c : Command) → IsOnlyName name c → HasNoFlag c → HasNoNumber c → (a : Text) (words : List Text)
-    → answer (given a start) words ≡ Some c → IsNameAlone name (a ∷ words)
-unfolding clap_on_literals
-named name c only no_flag no_number a [] is = inl (ap (λ (word : Text). word ∷ []) (only a is))
-named name c only no_flag no_number a (word ∷ rest) is =
-    next_word c (given a start).held.rows (given a start).held.pending 2 word rest (IsNameAlone name (a ∷ word ∷ rest))
-    (λ mark e. let m = marked_name name c only no_number a rest e in inr (inl (rw (m.0, mark, m.1) refl)))
-    (λ _ e. absurd (never_name_flag c no_flag a rest e)) (λ _ e. absurd (never_name_number c no_flag no_number a word rest e)) is
+mark_before : (a word : Text) (words : List Text) → word ≡ codes "--" → words ≡ a ∷ [] → IsNameAlone a (word ∷ words)
+mark_before a word words mark name = inr (inr (rw (mark, name) refl))
 
-only_name : (name : Text) (c : Command) → IsOnlyName name c → HasNoFlag c → HasNoNumber c → (words : List Text)
-    → answer start words ≡ Some c → IsNameAlone name words
+alone : (a : Text) (words : List Text) → IsEnd words → IsNameAlone a (a ∷ words)
+alone a words (inl none) = inl (rw none refl)
+alone a words (inr mark) = inr (inl (rw mark refl))
+
+-- what follows the flag is the name alone
+behind_flag : (c : Command) → HasNoNumber c → (words : List Text) → answer (flagged start) words ≡ Some c
+    → (a : Text) × ((output_command a ≡ Some c) × IsNameAlone a words)
 unfolding clap_on_literals
-only_name name c only no_flag no_number [] is = absurd (no_answer c is)
-only_name name c only no_flag no_number (word ∷ rest) is =
-    next_word c [] None 1 word rest (IsNameAlone name (word ∷ rest))
-    (λ mark e. inr (inr (rw (mark, named_mark name c only no_number rest e) refl)))
-    (λ _ e. absurd (never_flag c no_flag rest e)) (λ _ e. named name c only no_flag no_number word rest e) is
+behind_flag c no_number [] is = absurd (no_answer c is)
+behind_flag c no_number (word ∷ rest) is =
+    next_word c (flagged start).held.rows (flagged start).held.pending 1 word rest
+    ((a : Text) × ((output_command a ≡ Some c) × IsNameAlone a (word ∷ rest)))
+    (λ mark e. let n = name_behind c (flagged start).held (λ a. output_command a ≡ Some c) (no_answer c) (λ a same. same) (no_number true) rest e in
+    (n.0, (n.1.0, mark_before n.0 word rest mark n.1.1)))
+    (λ _ fault _. absurd (faultless kind.ArgumentConflict fault))
+    (λ _ e. let n = behind_flag_name c no_number word rest e in (word, (n.0, alone word rest n.1))) is
+
+-- the words are a name alone that is the command, or a name and the flag that are
+abbrev ByName : Command → List Text → Type 0
+ByName c words = (a : Text) × ((plain_command a ≡ Some c) × IsNameAlone a words)
+
+abbrev ByFlag : Command → List Text → Type 0
+ByFlag c words = (a : Text) × ((output_command a ≡ Some c) × IsNameAndFlag a words)
+
+flag_behind : (a word : Text) (words : List Text) → word ≡ codes "--output" → IsEnd words → IsNameAndFlag a (a ∷ word ∷ words)
+flag_behind a word words flag (inl none) = inl (rw (flag, none) refl)
+flag_behind a word words flag (inr mark) = inr (inr (inl (rw (flag, mark) refl)))
+
+flag_before : (a word : Text) (words : List Text) → word ≡ codes "--output" → IsNameAlone a words → IsNameAndFlag a (word ∷ words)
+flag_before a word words flag (inl name) = inr (inl (rw (flag, name) refl))
+flag_before a word words flag (inr (inl before)) = inr (inr (inr (inl (rw (flag, before) refl))))
+flag_before a word words flag (inr (inr behind)) = inr (inr (inr (inr (rw (flag, behind) refl))))
+
+behind_name : (c : Command) → HasNoNumber c → (a : Text) (words : List Text) → answer (given a start) words ≡ Some c
+    → ByName c (a ∷ words) ⊎ ByFlag c (a ∷ words)
+unfolding clap_on_literals
+behind_name c no_number a [] is = inl (a, (is, inl refl))
+behind_name c no_number a (word ∷ rest) is =
+    next_word c (given a start).held.rows (given a start).held.pending 2 word rest (ByName c (a ∷ word ∷ rest) ⊎ ByFlag c (a ∷ word ∷ rest))
+    (λ mark e. let n = number_behind c (given a start).held (plain_command a ≡ Some c) (λ same. same) (no_number false a) rest e in
+    inl (a, (n.0, inr (inl (rw (mark, n.1) refl)))))
+    (λ flag _ e. let n = behind_name_flag c no_number a rest e in inr (a, (n.0, flag_behind a word rest flag n.1)))
+    (λ _ e. absurd (never_name_number c no_number a word rest e)) is
+
+-- the words that clap takes, and the table has
+words_of : (c : Command) → HasNoNumber c → (words : List Text) → answer start words ≡ Some c → ByName c words ⊎ ByFlag c words
+unfolding clap_on_literals
+words_of c no_number [] is = absurd (no_answer c is)
+words_of c no_number (word ∷ rest) is =
+    next_word c [] None 1 word rest (ByName c (word ∷ rest) ⊎ ByFlag c (word ∷ rest))
+    (λ mark e. let n = name_behind c start.held (λ a. plain_command a ≡ Some c) (no_answer c) (λ a same. same) (no_number false) rest e in
+    inl (n.0, (n.1.0, mark_before n.0 word rest mark n.1.1)))
+    (λ flag _ e. let n = behind_flag c no_number rest e in inr (n.0, (n.1.0, flag_before n.0 word rest flag n.1.1)))
+    (λ _ e. behind_name c no_number word rest e) is
+
+-- ---- the table
+
+has_no_number : (c : Command) → HasNoNumber c
+has_no_number c true a b = no_answer c
+has_no_number c false a b = no_answer c
+
+same_command : (b c : Command) → Some b ≡ Some c → b ≡ c
+same_command b c e = cc
+
+-- the text is the name that is the command by itself
+abbrev IsPlainName : Command → Text → Type 0
+IsPlainName Encode a = a ≡ codes "encode"
+IsPlainName Render a = a ≡ codes "render"
+IsPlainName RenderOutput a = ⊥
+
+-- the text is the name that is the command with the flag
+abbrev IsFlagName : Command → Text → Type 0
+IsFlagName Encode a = ⊥
+IsFlagName Render a = ⊥
+IsFlagName RenderOutput a = a ≡ codes "render"
+
+plain_in_table : (c : Command) (a : Text) → plain_command a ≡ Some c → IsPlainName c a
+unfolding plain_command
+plain_in_table c a is = by_encode (bytes_eq a (codes "encode")) refl is
+  where
+    by_render : (b : Bool) → bytes_eq a (codes "render") ≡ b → (if b then Some Render else None) ≡ Some c → IsPlainName c a
+    by_render true same e = subst (λ k. IsPlainName k a) (same_command Render c e) ((bytes_eq-Decides a (codes "render")).0 same)
+    by_render false same e = absurd (no_answer c e)
+
+    by_encode : (b : Bool) → bytes_eq a (codes "encode") ≡ b
+        → (if b then Some Encode else if bytes_eq a (codes "render") then Some Render else None) ≡ Some c → IsPlainName c a
+    by_encode true same e = subst (λ k. IsPlainName k a) (same_command Encode c e) ((bytes_eq-Decides a (codes "encode")).0 same)
+    by_encode false same e = by_render (bytes_eq a (codes "render")) refl e
+
+flag_in_table : (c : Command) (a : Text) → output_command a ≡ Some c → IsFlagName c a
+unfolding output_command
+flag_in_table c a is = go (bytes_eq a (codes "render")) refl is
+  where
+    go : (b : Bool) → bytes_eq a (codes "render") ≡ b → (if b then Some RenderOutput else None) ≡ Some c → IsFlagName c a
+    go true same e = subst (λ k. IsFlagName k a) (same_command RenderOutput c e) ((bytes_eq-Decides a (codes "render")).0 same)
+    go false same e = absurd (no_answer c e)
+
+-- the words that make a command, by the table
+abbrev ByTable : Command → List Text → Type 0
+ByTable c words = ((a : Text) × (IsPlainName c a × IsNameAlone a words)) ⊎ ((a : Text) × (IsFlagName c a × IsNameAndFlag a words))
+
+accepted_by : (c : Command) (words : List Text) → accepted words ≡ Some c → ByTable c words
+accepted_by c words is = go (words_of c (has_no_number c) words (sym (accepted-answer words) ∙ is))
+  where
+    go : ByName c words ⊎ ByFlag c words → ByTable c words
+    go (inl (a, (is, form))) = inl (a, (plain_in_table c a is, form))
+    go (inr (a, (is, form))) = inr (a, (flag_in_table c a is, form))
+
+-- ---- the laws
 
 -- the name is the command, however the mark stands beside it
 abbrev IsTaken : Text → Command → Type 0
@@ -346,37 +429,34 @@ name_alone name c taken words (inl alone) = rw alone taken.0
 name_alone name c taken words (inr (inl before)) = rw before taken.1.0
 name_alone name c taken words (inr (inr behind)) = rw behind taken.1.1
 
-only_name_is_command : (name : Text) (c : Command) → IsOnlyName name c → HasNoFlag c → HasNoNumber c → IsTaken name c
-    → OnlyNameIsCommand name c
-only_name_is_command name c only no_flag no_number taken words =
-    ((λ is. only_name name c only no_flag no_number words (sym (accepted-answer words) ∙ is)), name_alone name c taken words)
-
--- ---- the table
-
--- the name of each command
-abbrev name_of : Command → Text
-name_of Encode = codes "encode"
-name_of Render = codes "render"
-
-only_in_table : (c : Command) → IsOnlyName (name_of c) c
-unfolding plain_command
-only_in_table c a is = by_encode c (bytes_eq a (codes "encode")) refl is
+by_name : (name : Text) (c : Command) → ((a : Text) → IsPlainName c a → a ≡ name) → ((a : Text) → IsFlagName c a → ⊥)
+    → IsTaken name c → OnlyNameIsCommand name c
+by_name name c only no_flag taken words = ((λ is. go (accepted_by c words is)), name_alone name c taken words)
   where
-    by_render : (c : Command) (b : Bool) → bytes_eq a (codes "render") ≡ b → (if b then Some Render else None) ≡ Some c → a ≡ name_of c
-    by_render Render true same e = (bytes_eq-Decides a (codes "render")).0 same
-    by_render Encode true same e = let bad : Some Render ≡ Some Encode = e in cc
-    by_render c false same e = absurd (no_answer c e)
-
-    by_encode : (c : Command) (b : Bool) → bytes_eq a (codes "encode") ≡ b
-        → (if b then Some Encode else if bytes_eq a (codes "render") then Some Render else None) ≡ Some c → a ≡ name_of c
-    by_encode Encode true same e = (bytes_eq-Decides a (codes "encode")).0 same
-    by_encode Render true same e = let bad : Some Encode ≡ Some Render = e in cc
-    by_encode c false same e = by_render c (bytes_eq a (codes "render")) refl e
-
-by_name : (c : Command) → IsTaken (name_of c) c → OnlyNameIsCommand (name_of c) c
-by_name c = only_name_is_command (name_of c) c (only_in_table c) (λ a number. no_answer c) (λ a b. no_answer c)
+    go : ByTable c words → IsNameAlone name words
+    go (inl (a, (is, form))) = subst (λ n. IsNameAlone n words) (only a is) form
+    go (inr (a, (is, form))) = absurd (no_flag a is)
 
 -- the words that are a command of a name alone
 pub only_names_are_commands : OnlyNamesAreCommands
 unfolding clap_on_literals accepted plain_command
-only_names_are_commands = (by_name Encode (refl, (refl, refl)), by_name Render (refl, (refl, refl)))
+only_names_are_commands = (
+  by_name (codes "encode") Encode (λ a is. is) (λ a is. is) (refl, (refl, refl)),
+  by_name (codes "render") Render (λ a is. is) (λ a is. is) (refl, (refl, refl)),
+)
+
+render_output_taken : (words : List Text) → IsNameAndFlag (codes "render") words → accepted words ≡ Some RenderOutput
+unfolding clap_on_literals accepted output_command
+render_output_taken words (inl is) = rw is refl
+render_output_taken words (inr (inl is)) = rw is refl
+render_output_taken words (inr (inr (inl is))) = rw is refl
+render_output_taken words (inr (inr (inr (inl is)))) = rw is refl
+render_output_taken words (inr (inr (inr (inr is)))) = rw is refl
+
+-- the words that are the command of a name with the flag
+pub only_render_and_flag_are_render_output : OnlyRenderAndFlagAreRenderOutput
+only_render_and_flag_are_render_output words = ((λ is. go (accepted_by RenderOutput words is)), render_output_taken words)
+  where
+    go : ByTable RenderOutput words → IsNameAndFlag (codes "render") words
+    go (inl (a, (is, form))) = absurd is
+    go (inr (a, (is, form))) = subst (λ n. IsNameAndFlag n words) is form

@@ -1,9 +1,9 @@
--- Which word lists are a command of a name alone, in words.
+-- Which word lists are each command, in words.
 use Rattle.std.specs.Prelude.{◌≡◌, ◌⊎◌, ◌↔◌, List, [], ◌∷◌, Some, codes}
 use Rattle.clap.specs.Words.{Text}
 use Rattle.gfx_words.specs.CommandLine.{accepted}
 use Rattle.gfx_words.specs.declared.table.Command.{Command}
-use Rattle.gfx_words.specs.declared.table.Command.TheVariants.{Encode, Render}
+use Rattle.gfx_words.specs.declared.table.Command.TheVariants.{Encode, Render, RenderOutput}
 
 -- the words are the name alone, or with the mark `--` before or behind it
 abbrev pub IsNameAlone : Text → List Text → Type 0
@@ -17,3 +17,21 @@ OnlyNameIsCommand name command = (words : List Text) → (accepted words ≡ Som
 -- the commands of a name alone, each with its name
 abbrev pub OnlyNamesAreCommands : Type 0
 OnlyNamesAreCommands = OnlyNameIsCommand (codes "encode") Encode × OnlyNameIsCommand (codes "render") Render
+
+-- the words are the name and the flag `--output` in either order, with the mark `--` at most once
+-- and behind the flag
+abbrev pub IsNameAndFlag : Text → List Text → Type 0
+IsNameAndFlag name words = (words ≡ name ∷ codes "--output" ∷ [])
+    ⊎ ((words ≡ codes "--output" ∷ name ∷ [])
+    ⊎ ((words ≡ name ∷ codes "--output" ∷ codes "--" ∷ [])
+    ⊎ ((words ≡ codes "--output" ∷ name ∷ codes "--" ∷ [])
+    ⊎ (words ≡ codes "--output" ∷ codes "--" ∷ name ∷ []))))
+
+-- the name with the flag is the command, and no other words are
+abbrev pub OnlyNameAndFlagAreCommand : Text → Command → Type 0
+OnlyNameAndFlagAreCommand name command =
+    (words : List Text) → (accepted words ≡ Some command) ↔ IsNameAndFlag name words
+
+-- the command of a name with the flag
+abbrev pub OnlyRenderAndFlagAreRenderOutput : Type 0
+OnlyRenderAndFlagAreRenderOutput = OnlyNameAndFlagAreCommand (codes "render") RenderOutput

@@ -1,6 +1,6 @@
 //! The commands, and the words that name each of them.
 ghost use Rattle.std.specs.Prelude.{◌≡◌, option_map};
-ghost use Rattle.gfx_words.specs.Table.{command_named, plain_command};
+ghost use Rattle.gfx_words.specs.Table.{command_named, output_command, plain_command};
 
 /// The line that a caller prints where the words are no command, without its newline.
 pub const USAGE: &str =
@@ -13,6 +13,8 @@ pub enum Command {
     Encode,
     /// Reads a stream of channel messages and writes the pixels of all its surfaces.
     Render,
+    /// Reads a stream of channel messages and writes the pixels of its output.
+    RenderOutput,
 }
 
 /// The command that its name, the number behind it and the flag `--output` make.
@@ -26,6 +28,7 @@ pub(crate) fn command_named(
 {
     match (name, has_output, number) {
         (Some(name), false, None) => plain_command(name),
+        (Some(name), true, None) => output_command(name),
         _ => None,
     }
 }
@@ -37,6 +40,16 @@ fn plain_command(name: &str) -> Option<Command>
     match name {
         "encode" => Some(Command::Encode),
         "render" => Some(Command::Render),
+        _ => None,
+    }
+}
+
+#[tactic(auto, unfolding(crate::specs::Table::output_command))]
+fn output_command(name: &str) -> Option<Command>
+    ensures { result ≡ output_command name.now }
+{
+    match name {
+        "render" => Some(Command::RenderOutput),
         _ => None,
     }
 }

@@ -5,11 +5,11 @@ use Rattle.gfx_planner.specs.Shows.{Shows}
 use Rattle.gfx_planner.specs.Stream.{serves, stream_of}
 use Rattle.gfx_planner.specs.Wire.{at_start}
 use Rattle.gfx_planner.proofs.Streams.{shown}
-use Rattle.gfx_report.specs.Texts.{dump_text}
 use Rattle.gfx_script.proofs.Accepted.{accepted}
 use Rattle.gfx_state.specs.Run.{Run, end}
 use Rattle.gfx_state.specs.Sending.{standing}
 use Rattle.gfx_state.specs.State.{State}
+use Rattle.gfxpipe.specs.Dump.{dump_of}
 use Rattle.gfxpipe.specs.Laws.{EncodeThenRender}
 use Rattle.gfxpipe.specs.Played.{played, stop_by, last_stop}
 use Rattle.gfxpipe.proofs.Pieces.{played_short, last_short}
@@ -27,5 +27,5 @@ encode_then_render limit text script is short =
     let run : played limit bytes ≡ standing state s.applied = played_short limit bytes short ∙ ap end s.run ∙ ends_well state s.applied in
     record {
       ends = ap (λ (z : Run). stop_by z.refusal z.applied (last_stop limit bytes)) run ∙ last_short limit bytes short;
-      text = ap (λ (z : Run). dump_text z.state.surfaces) run ∙ ap dump_text s.agrees.surfaces;
+      text = λ dump. ap (λ (z : Run). dump_of dump z.state.shown) run ∙ ap (dump_of dump) s.agrees.shown;
     }

@@ -1,9 +1,9 @@
 -- What a run of the program does: this project's own rule.
 use Rattle.std.specs.Prelude.{◌≡◌, ℕ, ◌≤◌, List, [], Option, Some, None, Result, Ok, Err}
 use Rattle.gfx_base.specs.Stream.{Change, Gains, GainsPart, FailsAfter, Rose}
-use Rattle.gfx_report.specs.Texts.{dump_text}
+use Rattle.gfx_surface_map.specs.Shown.{Shown}
 use Rattle.gfx_words.specs.declared.table.Command.{Command}
-use Rattle.gfx_words.specs.declared.table.Command.TheVariants.{Render, Encode}
+use Rattle.gfx_words.specs.declared.table.Command.TheVariants.{Render, RenderOutput, Encode}
 use Rattle.gfxpipe.specs.declared.ending.Ending.{Ending}
 use Rattle.gfxpipe.specs.declared.ending.Ending.TheVariants.{Usage, Played, Judged}
 use Rattle.gfxpipe.specs.declared.encode.Verdict.TheVariants as verdict
@@ -11,6 +11,8 @@ use Rattle.gfxpipe.specs.declared.player.Stop.TheVariants as stop
 use Rattle.gfxpipe.specs.declared.status.Status.{Status}
 use Rattle.gfxpipe.specs.declared.trouble.Trouble.{Trouble}
 use Rattle.gfxpipe.specs.declared.trouble.Trouble.TheVariants as trouble
+use Rattle.gfxpipe.specs.declared.render.Dump.TheVariants.{Surfaces, Output}
+use Rattle.gfxpipe.specs.Dump.{dump_of}
 use Rattle.gfxpipe.specs.Encode.{verdict_of, encoded}
 use Rattle.gfxpipe.specs.Ending.{Closes}
 use Rattle.gfxpipe.specs.Play.{rest_of, Reads, input_of}
@@ -35,16 +37,16 @@ Refuses (Ok Usage) i o = NoFault i × (i.new ≡ i.old) × Gains o []
 Refuses (Err trouble.Memory) i o = NoFault i × (i.new ≡ i.old) × Gains o []
 Refuses ended i o = ⊥
 
--- `render`: the text that is due is printed once the recording is played, or a call failed
-abbrev pub Renders : Result Ending Trouble → ℕ → List ℕ → Change → Change → Type 0
-Renders (Ok (Played stop.End)) limit input i o =
-    (stop_of limit input ≡ stop.End) × NoFault i × (rest_of i.new ≡ []) × Gains o (dump_text (played limit input).state.surfaces)
-Renders (Ok (Played other)) limit input i o =
-    (stop_of limit input ≡ other) × NoFault i × Gains o (dump_text (played limit input).state.surfaces)
-Renders (Ok other) limit input i o = ⊥
-Renders (Err trouble.Read) limit input i o = (i.before ≤ i.now) × Rose i.before i.now × Gains o []
-Renders (Err trouble.Write) limit input i o = NoFault i × FailsAfter o (dump_text (played limit input).state.surfaces)
-Renders (Err trouble.Memory) limit input i o = NoFault i × Gains o []
+-- `render`: the text that is due of what the recording shows is printed once it is played, or a call failed
+abbrev pub Renders : Result Ending Trouble → (Shown → List ℕ) → ℕ → List ℕ → Change → Change → Type 0
+Renders (Ok (Played stop.End)) text limit input i o =
+    (stop_of limit input ≡ stop.End) × NoFault i × (rest_of i.new ≡ []) × Gains o (text (played limit input).state.shown)
+Renders (Ok (Played other)) text limit input i o =
+    (stop_of limit input ≡ other) × NoFault i × Gains o (text (played limit input).state.shown)
+Renders (Ok other) text limit input i o = ⊥
+Renders (Err trouble.Read) text limit input i o = (i.before ≤ i.now) × Rose i.before i.now × Gains o []
+Renders (Err trouble.Write) text limit input i o = NoFault i × FailsAfter o (text (played limit input).state.shown)
+Renders (Err trouble.Memory) text limit input i o = NoFault i × Gains o []
 
 -- `encode`: the stream that is due is written once the script is read whole, or a call failed
 abbrev pub Encodes : Result Ending Trouble → ℕ → List ℕ → Change → Change → Type 0
@@ -60,7 +62,8 @@ Encodes (Err trouble.Memory) limit input i o = NoFault i × (o.now ≡ o.before)
 -- this is the right end
 abbrev pub Executes : Result Ending Trouble → Option Command → Limits → Change → Change → Type 0
 Executes ended None limits i o = Refuses ended i o
-Executes ended (Some Render) limits i o = (reads : Reads limits.stream i) × Renders ended limits.stream (input_of reads) i o
+Executes ended (Some Render) limits i o = (reads : Reads limits.stream i) × Renders ended (dump_of Surfaces) limits.stream (input_of reads) i o
+Executes ended (Some RenderOutput) limits i o = (reads : Reads limits.stream i) × Renders ended (dump_of Output) limits.stream (input_of reads) i o
 Executes ended (Some Encode) limits i o = (reads : ReadsText limits.script i) × Encodes ended limits.script (text_of reads) i o
 
 -- what a run did: how its command ended, and what it said of that

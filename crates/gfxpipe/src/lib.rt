@@ -21,6 +21,7 @@ pub use ending::Ending;
 pub use laws::render_shows_what_encode_wrote;
 pub use player::{PIECE, Stop, Turn};
 pub use program::{SCRIPT_LIMIT, STREAM_LIMIT, run};
+pub use render::Dump;
 pub use status::Status;
 pub use trouble::Trouble;
 

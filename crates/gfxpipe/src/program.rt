@@ -6,7 +6,7 @@ ghost use Rattle.gfxpipe.specs.Run.{Executes, Runs, limits};
 
 use crate::encode::encode;
 use crate::ending::{Ending, close};
-use crate::render::render;
+use crate::render::{Dump, render};
 use crate::status::Status;
 use crate::trouble::Trouble;
 use gfx_base::{Sink, Source};
@@ -53,7 +53,8 @@ fn execute<I: Source, O: Sink>(
         (change (O.faults out.old) (O.faults out.new) (O.held out.old) (O.held out.new)) }
 {
     match command_of(alloc, words) {
-        Ok(Some(Command::Render)) => render(alloc, stream, input, out),
+        Ok(Some(Command::Render)) => render(alloc, Dump::Surfaces, stream, input, out),
+        Ok(Some(Command::RenderOutput)) => render(alloc, Dump::Output, stream, input, out),
         Ok(Some(Command::Encode)) => encode(alloc, script, input, out),
         Ok(None) => Ok(Ending::Usage),
         Err(_) => Err(Trouble::Memory),

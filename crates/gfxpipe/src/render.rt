@@ -1,6 +1,7 @@
 //! The command `render`: a recording is played, and what the client then shows is printed.
 ghost use Rattle.std.specs.Prelude.{◌<◌, ◌^◌};
 ghost use Rattle.gfx_base.specs.Stream.{change};
+ghost use Rattle.gfxpipe.specs.Dump.{dump_of, Prints};
 ghost use Rattle.gfxpipe.specs.Play.{Reads, input_of};
 ghost use Rattle.gfxpipe.specs.Run.{Renders};
 
@@ -9,26 +10,58 @@ use crate::player::play;
 use crate::trouble::Trouble;
 use gfx_base::{Sink, Source};
 use gfx_client::{Client, Offers};
-use gfx_report::dump;
+use gfx_report::{ReportFault, dump_output};
+use gfx_surface_map::SurfaceMap;
 use std::alloc::Global;
 
-/// Plays a recording within the limit, and prints the surfaces that it leaves.
+/// What is printed of what a client shows.
+#[derive(Clone, Copy, Debug, PartialEq, Eq)]
+pub enum Dump {
+    /// Each surface by its id.
+    Surfaces,
+    /// The output, on which the mapped surfaces stand.
+    Output,
+}
+
+/// Plays a recording within the limit, and prints what it leaves.
 pub fn render<I: Source, O: Sink>(
     alloc: Global,
+    dump: Dump,
     limit: usize,
     input: &mut I,
     out: &mut O,
 ) -> Result<Ending, Trouble>
     requires { limit < 2 ^ 63 }
     ensures { (reads : Reads limit (change (I.faults input.old) (I.faults input.new) (I.left input.old) (I.left input.new)))
-        × Renders result limit (input_of reads)
+        × Renders result (dump_of dump) limit (input_of reads)
         (change (I.faults input.old) (I.faults input.new) (I.left input.old) (I.left input.new))
         (change (O.faults out.old) (O.faults out.new) (O.held out.old) (O.held out.new)) }
 {
     let mut client = Client::new(alloc, Offers::new(alloc))?;
     let stop = play(input, limit, &mut client)?;
-    match dump(client.surfaces(), out) {
-        Ok(()) => Ok(Ending::Played(stop)),
-        Err(_) => Err(Trouble::Write),
+    print(alloc, dump, client.surfaces(), out)?;
+    Ok(Ending::Played(stop))
+}
+
+/// Prints a dump.
+fn print<O: Sink>(
+    alloc: Global,
+    dump: Dump,
+    surfaces: &SurfaceMap,
+    out: &mut O,
+) -> Result<(), Trouble>
+    ensures { Prints result (change (O.faults out.old) (O.faults out.new) (O.held out.old) (O.held out.new))
+        (dump_of dump surfaces.now.shown) }
+{
+    match dump {
+        Dump::Surfaces => match gfx_report::dump(surfaces, out) {
+            Ok(()) => Ok(()),
+            Err(_) => Err(Trouble::Write),
+        },
+        Dump::Output => match dump_output(surfaces, alloc, out) {
+            Ok(()) => Ok(()),
+            Err(ReportFault::Failed) => Err(Trouble::Write),
+            Err(ReportFault::Memory) => Err(Trouble::Memory),
+        },
     }
 }

@@ -114,6 +114,30 @@ fn worked_examples(rt: HostRuntime) -> Result<(), Fail> {
     Ok(())
 }
 
+/// A reset of the output to 2 by 2, a surface of 2 by 1 that is red, and its place at (1, 0).
+#[test]
+fn the_output_of_a_mapped_surface(rt: HostRuntime) -> Result<(), Fail> {
+    let script = r#"step = [
+        { do = "reset", width = 2, height = 2 },
+        { do = "surface", id = 1, width = 2, height = 1 },
+        { do = "fill", id = 1, colour = "0000ff00", rects = [[0, 0, 2, 1]] },
+        { do = "map", id = 1, x = 1, y = 0 },
+        { do = "frame" },
+    ]"#;
+    let (alloc, words) = (rt.alloc(), ["render", "--output"]);
+    let mut source = SliceSource::new(script.as_bytes(), &[]);
+    let mut stream = VecSink::new(alloc, 600, &[])?;
+    let mut err = VecSink::new(alloc, 64, &[])?;
+    let encoded = run(alloc, &["encode"], &mut source, &mut stream, &mut err);
+    let mut input = SliceSource::new(stream.held(), &[]);
+    let mut out = VecSink::new(alloc, 64, &[])?;
+    let rendered = run(alloc, &words, &mut input, &mut out, &mut err);
+    assert_eq!(rt; (encoded, rendered), (Status::Done, Status::Done));
+    let text = "output 2x2\n000000ff0000ffff\n000000ff000000ff\n";
+    assert_eq!(rt; out.held(), text.as_bytes());
+    Ok(())
+}
+
 #[test]
 fn other_words_read_nothing(rt: HostRuntime) -> Result<(), Fail> {
     let mut input = SliceSource::new(&FILL, &[]);

@@ -1,51 +1,112 @@
 use Rattle.std.proofs.Common.{◌≡◌, [], ◌∷◌, ap, sym, subst, ◌∙◌, rules}
-use Rattle.std.specs.Result.{is_ok}
-use Rattle.gfx_pdu.specs.declared.pdu.Pdu.TheVariants.{CreateSurface, SolidFill}
-use Rattle.gfx_planner.specs.Agree.{IsAllowed}
+use Rattle.gfx_pdu.specs.declared.pdu.Pdu.TheVariants.{SolidFill, SurfaceToSurface, CreateSurface, DeleteSurface, ResetGraphics, MapSurfaceToOutput}
 use Rattle.gfx_planner.specs.Planned.{Passes}
-use Rattle.gfx_planner.specs.Wire.{messages}
-use Rattle.gfx_planner.proofs.Steps.{allowed_surface, allowed_fill, messages-surface, messages-fill}
+use Rattle.gfx_planner.specs.Wire.{messages, one_monitor}
 use Rattle.gfx_planner.proofs.Calls.{frame_passes}
+use Rattle.gfx_planner.proofs.Steps.{may_pass, messages-surface, messages-delete, messages-reset, messages-map, messages-fill, messages-copy}
 use Rattle.gfx_planner.proofs.planner.Planner.put_step.Goals as goal
 
 pub pass-requires-clause-carried : goal.pass-requires-clause-carried
 pass-requires-clause-carried c =
     let s = c.in-Surface in
-    rw c.byte.ensures (allowed_surface c.args.self.now.server s.id s.width s.height s.format (subst (IsAllowed c.args.self.now.server) s.is c.requires.allowed)).carried
+    let due : messages c.args.self.now.server c.args.step.now ≡ CreateSurface s.id s.width s.height c.byte.result ∷ [] = ap (messages c.args.self.now.server) s.is ∙ messages-surface c.args.self.now.server s.id s.width s.height s.format ∙ ap (λ b. CreateSurface s.id s.width s.height b ∷ []) (sym c.byte.ensures) in
+    (may_pass c.args.self.now.server c.args.step.now (CreateSurface s.id s.width s.height c.byte.result) c.requires.allowed due).carried
 
 pub pass-requires-clause-accepted : goal.pass-requires-clause-accepted
 pass-requires-clause-accepted c =
     let s = c.in-Surface in
-    rw c.byte.ensures (ap is_ok (allowed_surface c.args.self.now.server s.id s.width s.height s.format (subst (IsAllowed c.args.self.now.server) s.is c.requires.allowed)).stepped)
-
-pub pass-requires-in-Fill-clause-carried : goal.pass-requires-in-Fill-clause-carried
-pass-requires-in-Fill-clause-carried c =
-    let f = c.in-Fill in
-    let same : c.append.new.self ≡ f.rects = search rules in
-    rw same (allowed_fill c.args.self.now.server f.id f.colour f.rects (subst (IsAllowed c.args.self.now.server) f.is c.requires.allowed)).accepts.carried
-
-pub pass-requires-in-Fill-clause-accepted : goal.pass-requires-in-Fill-clause-accepted
-pass-requires-in-Fill-clause-accepted c =
-    let f = c.in-Fill in
-    let same : c.append.new.self ≡ f.rects = search rules in
-    rw same (ap is_ok (allowed_fill c.args.self.now.server f.id f.colour f.rects (subst (IsAllowed c.args.self.now.server) f.is c.requires.allowed)).accepts.stepped)
+    let due : messages c.args.self.now.server c.args.step.now ≡ CreateSurface s.id s.width s.height c.byte.result ∷ [] = ap (messages c.args.self.now.server) s.is ∙ messages-surface c.args.self.now.server s.id s.width s.height s.format ∙ ap (λ b. CreateSurface s.id s.width s.height b ∷ []) (sym c.byte.ensures) in
+    (may_pass c.args.self.now.server c.args.step.now (CreateSurface s.id s.width s.height c.byte.result) c.requires.allowed due).accepted
 
 pub returns-in-Surface-clause-passes : goal.returns-in-Surface-clause-passes
 returns-in-Surface-clause-passes c =
     let s = c.in-Surface in
-    let due : CreateSurface s.id s.width s.height c.byte.result ∷ [] ≡ messages c.args.self.now.server c.args.step.now =
-    ap (λ b. CreateSurface s.id s.width s.height b ∷ []) c.byte.ensures ∙ sym (messages-surface c.args.self.now.server s.id s.width s.height s.format)
-    ∙ ap (messages c.args.self.now.server) (sym s.is)
-    in subst (Passes c.pass.result c.args.self.now.server.state c.pass.new.self.server.state c.args.out.now c.pass.new.out) due c.pass.ensures.passes
+    let due : messages c.args.self.now.server c.args.step.now ≡ CreateSurface s.id s.width s.height c.byte.result ∷ [] = ap (messages c.args.self.now.server) s.is ∙ messages-surface c.args.self.now.server s.id s.width s.height s.format ∙ ap (λ b. CreateSurface s.id s.width s.height b ∷ []) (sym c.byte.ensures) in
+    subst (Passes c.pass.result c.args.self.now.server.state c.pass.new.self.server.state c.args.out.now c.pass.new.out) (sym due) c.pass.ensures.passes
+
+pub pass-requires-in-Delete-clause-carried : goal.pass-requires-in-Delete-clause-carried
+pass-requires-in-Delete-clause-carried c =
+    let s = c.in-Delete in
+    let due : messages c.args.self.now.server c.args.step.now ≡ DeleteSurface s.id ∷ [] = ap (messages c.args.self.now.server) s.is ∙ messages-delete c.args.self.now.server s.id in
+    (may_pass c.args.self.now.server c.args.step.now (DeleteSurface s.id) c.requires.allowed due).carried
+
+pub pass-requires-in-Delete-clause-accepted : goal.pass-requires-in-Delete-clause-accepted
+pass-requires-in-Delete-clause-accepted c =
+    let s = c.in-Delete in
+    let due : messages c.args.self.now.server c.args.step.now ≡ DeleteSurface s.id ∷ [] = ap (messages c.args.self.now.server) s.is ∙ messages-delete c.args.self.now.server s.id in
+    (may_pass c.args.self.now.server c.args.step.now (DeleteSurface s.id) c.requires.allowed due).accepted
+
+pub returns-in-Delete-clause-passes : goal.returns-in-Delete-clause-passes
+returns-in-Delete-clause-passes c =
+    let s = c.in-Delete in
+    let due : messages c.args.self.now.server c.args.step.now ≡ DeleteSurface s.id ∷ [] = ap (messages c.args.self.now.server) s.is ∙ messages-delete c.args.self.now.server s.id in
+    subst (Passes c.pass-in-Delete.result c.args.self.now.server.state c.pass-in-Delete.new.self.server.state c.args.out.now c.pass-in-Delete.new.out) (sym due) c.pass-in-Delete.ensures.passes
+
+pub returns-in-Reset-clause-passes : goal.returns-in-Reset-clause-passes
+returns-in-Reset-clause-passes c =
+    let s = c.in-Reset in
+    let due : messages c.args.self.now.server c.args.step.now ≡ ResetGraphics s.width s.height (one_monitor s.width s.height ∷ []) ∷ [] = ap (messages c.args.self.now.server) s.is ∙ messages-reset c.args.self.now.server s.width s.height in
+    subst (Passes c.put_reset.result c.args.self.now.server.state c.put_reset.new.self.server.state c.args.out.now c.put_reset.new.out) (sym due) c.put_reset.ensures.passes
+
+pub pass-requires-in-Map-clause-carried : goal.pass-requires-in-Map-clause-carried
+pass-requires-in-Map-clause-carried c =
+    let s = c.in-Map in
+    let due : messages c.args.self.now.server c.args.step.now ≡ MapSurfaceToOutput s.id 0 s.x s.y ∷ [] = ap (messages c.args.self.now.server) s.is ∙ messages-map c.args.self.now.server s.id s.x s.y in
+    (may_pass c.args.self.now.server c.args.step.now (MapSurfaceToOutput s.id 0 s.x s.y) c.requires.allowed due).carried
+
+pub pass-requires-in-Map-clause-accepted : goal.pass-requires-in-Map-clause-accepted
+pass-requires-in-Map-clause-accepted c =
+    let s = c.in-Map in
+    let due : messages c.args.self.now.server c.args.step.now ≡ MapSurfaceToOutput s.id 0 s.x s.y ∷ [] = ap (messages c.args.self.now.server) s.is ∙ messages-map c.args.self.now.server s.id s.x s.y in
+    (may_pass c.args.self.now.server c.args.step.now (MapSurfaceToOutput s.id 0 s.x s.y) c.requires.allowed due).accepted
+
+pub returns-in-Map-clause-passes : goal.returns-in-Map-clause-passes
+returns-in-Map-clause-passes c =
+    let s = c.in-Map in
+    let due : messages c.args.self.now.server c.args.step.now ≡ MapSurfaceToOutput s.id 0 s.x s.y ∷ [] = ap (messages c.args.self.now.server) s.is ∙ messages-map c.args.self.now.server s.id s.x s.y in
+    subst (Passes c.pass-in-Map.result c.args.self.now.server.state c.pass-in-Map.new.self.server.state c.args.out.now c.pass-in-Map.new.out) (sym due) c.pass-in-Map.ensures.passes
+
+pub pass-requires-in-Fill-clause-carried : goal.pass-requires-in-Fill-clause-carried
+pass-requires-in-Fill-clause-carried c =
+    let s = c.in-Fill in
+    let same : c.append.new.self ≡ s.rects = search rules in
+    let due : messages c.args.self.now.server c.args.step.now ≡ SolidFill s.id s.colour c.append.new.self ∷ [] = ap (messages c.args.self.now.server) s.is ∙ messages-fill c.args.self.now.server s.id s.colour s.rects ∙ ap (λ r. SolidFill s.id s.colour r ∷ []) (sym same) in
+    (may_pass c.args.self.now.server c.args.step.now (SolidFill s.id s.colour c.append.new.self) c.requires.allowed due).carried
+
+pub pass-requires-in-Fill-clause-accepted : goal.pass-requires-in-Fill-clause-accepted
+pass-requires-in-Fill-clause-accepted c =
+    let s = c.in-Fill in
+    let same : c.append.new.self ≡ s.rects = search rules in
+    let due : messages c.args.self.now.server c.args.step.now ≡ SolidFill s.id s.colour c.append.new.self ∷ [] = ap (messages c.args.self.now.server) s.is ∙ messages-fill c.args.self.now.server s.id s.colour s.rects ∙ ap (λ r. SolidFill s.id s.colour r ∷ []) (sym same) in
+    (may_pass c.args.self.now.server c.args.step.now (SolidFill s.id s.colour c.append.new.self) c.requires.allowed due).accepted
 
 pub returns-in_ok-append-in-Fill-clause-passes : goal.returns-in_ok-append-in-Fill-clause-passes
 returns-in_ok-append-in-Fill-clause-passes c =
-    let f = c.in-Fill in
-    let same : c.append.new.self ≡ f.rects = search rules in
-    let due : SolidFill f.id f.colour c.append.new.self ∷ [] ≡ messages c.args.self.now.server c.args.step.now =
-    ap (λ r. SolidFill f.id f.colour r ∷ []) same ∙ sym (messages-fill c.args.self.now.server f.id f.colour f.rects)
-    ∙ ap (messages c.args.self.now.server) (sym f.is)
-    in subst (Passes c.pass-in-Fill.result c.args.self.now.server.state c.pass-in-Fill.new.self.server.state c.args.out.now c.pass-in-Fill.new.out) due c.pass-in-Fill.ensures.passes
+    let s = c.in-Fill in
+    let same : c.append.new.self ≡ s.rects = search rules in
+    let due : messages c.args.self.now.server c.args.step.now ≡ SolidFill s.id s.colour c.append.new.self ∷ [] = ap (messages c.args.self.now.server) s.is ∙ messages-fill c.args.self.now.server s.id s.colour s.rects ∙ ap (λ r. SolidFill s.id s.colour r ∷ []) (sym same) in
+    subst (Passes c.pass-in-Fill.result c.args.self.now.server.state c.pass-in-Fill.new.self.server.state c.args.out.now c.pass-in-Fill.new.out) (sym due) c.pass-in-Fill.ensures.passes
+
+pub pass-requires-in-Copy-clause-carried : goal.pass-requires-in-Copy-clause-carried
+pass-requires-in-Copy-clause-carried c =
+    let s = c.in-Copy in
+    let same : c.append-in-Copy.new.self ≡ s.points = search rules in
+    let due : messages c.args.self.now.server c.args.step.now ≡ SurfaceToSurface s.from s.to s.rect c.append-in-Copy.new.self ∷ [] = ap (messages c.args.self.now.server) s.is ∙ messages-copy c.args.self.now.server s.from s.to s.rect s.points ∙ ap (λ p. SurfaceToSurface s.from s.to s.rect p ∷ []) (sym same) in
+    (may_pass c.args.self.now.server c.args.step.now (SurfaceToSurface s.from s.to s.rect c.append-in-Copy.new.self) c.requires.allowed due).carried
+
+pub pass-requires-in-Copy-clause-accepted : goal.pass-requires-in-Copy-clause-accepted
+pass-requires-in-Copy-clause-accepted c =
+    let s = c.in-Copy in
+    let same : c.append-in-Copy.new.self ≡ s.points = search rules in
+    let due : messages c.args.self.now.server c.args.step.now ≡ SurfaceToSurface s.from s.to s.rect c.append-in-Copy.new.self ∷ [] = ap (messages c.args.self.now.server) s.is ∙ messages-copy c.args.self.now.server s.from s.to s.rect s.points ∙ ap (λ p. SurfaceToSurface s.from s.to s.rect p ∷ []) (sym same) in
+    (may_pass c.args.self.now.server c.args.step.now (SurfaceToSurface s.from s.to s.rect c.append-in-Copy.new.self) c.requires.allowed due).accepted
+
+pub returns-in_ok-append-in-Copy-clause-passes : goal.returns-in_ok-append-in-Copy-clause-passes
+returns-in_ok-append-in-Copy-clause-passes c =
+    let s = c.in-Copy in
+    let same : c.append-in-Copy.new.self ≡ s.points = search rules in
+    let due : messages c.args.self.now.server c.args.step.now ≡ SurfaceToSurface s.from s.to s.rect c.append-in-Copy.new.self ∷ [] = ap (messages c.args.self.now.server) s.is ∙ messages-copy c.args.self.now.server s.from s.to s.rect s.points ∙ ap (λ p. SurfaceToSurface s.from s.to s.rect p ∷ []) (sym same) in
+    subst (Passes c.pass-in-Copy.result c.args.self.now.server.state c.pass-in-Copy.new.self.server.state c.args.out.now c.pass-in-Copy.new.out) (sym due) c.pass-in-Copy.ensures.passes
 
 pub returns-in-Frame-clause-passes : goal.returns-in-Frame-clause-passes
 returns-in-Frame-clause-passes c = frame_passes c.args.self.now.server c.args.out.now c.args.step.now c.in-Frame.is

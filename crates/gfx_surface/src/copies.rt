@@ -1,0 +1,67 @@
+//! Rectangles of pixels taken from rows to other rows.
+ghost use Rattle.std.specs.Prelude.{◌≡◌, ◌≤◌, ◌+◌, ◌-◌, ◌*◌, length, map, slice_index_or, IsTrue};
+ghost use Rattle.gfx_base.specs.Geometry.{lies_in};
+ghost use Rattle.gfx_surface.specs.Picture.{shade, moved, no_pixel};
+ghost use Rattle.gfx_base.specs.declared.format.Format.TheVariants.{Xrgb};
+ghost use Rattle.gfx_surface.specs.Rows.{WritesRows, WritesRun, taken_from};
+
+use crate::colour::shaded;
+use crate::rows::{Sides, run_in_row};
+use gfx_base::{Format, Pixel, Point, Rect};
+
+/// Takes a rectangle of rows to a point of other rows, as this format keeps it.
+pub fn copy_rows(
+    from: &[Pixel],
+    from_sides: Sides,
+    rect: Rect,
+    format: Format,
+    pixels: &mut [Pixel],
+    sides: Sides,
+    to: Point,
+)
+    requires inside { IsTrue (lies_in from_sides.width from_sides.height rect) }
+    requires from_full { length from.now ≡ from_sides.width * from_sides.height }
+    requires fits { IsTrue (lies_in sides.width sides.height (moved rect to)) }
+    requires full { length pixels.old ≡ sides.width * sides.height }
+    ensures { WritesRows sides.width (moved rect to)
+        (λ x y. shade format (taken_from from_sides.width from.now rect to x y)) pixels.old pixels.new }
+{
+    let count = usize::from(rect.width());
+    'rows: for i in 0..usize::from(rect.height()) {
+        let (left, top) = (usize::from(rect.left), usize::from(rect.top));
+        let (start, end) = run_in_row(from_sides, left, top + i, count);
+        let (x, y) = (usize::from(to.x), usize::from(to.y));
+        let (at, _) = run_in_row(sides, x, y + i, count);
+        copy_run(&from[start..end], format, pixels, at);
+    }
+}
+
+/// Puts pixels at a place and those after it, as this format keeps them.
+pub fn copy_run(from: &[Pixel], format: Format, pixels: &mut [Pixel], at: usize)
+    requires { at + length from.now ≤ length pixels.old }
+    ensures { WritesRun at (at + length from.now)
+        (λ k. slice_index_or (map (shade format) from.now) (k - at) no_pixel) pixels.old pixels.new }
+{
+    copy_pixels(from, format, &mut pixels[at..at + from.len()]);
+}
+
+/// Makes pixels those of another slice, as this format keeps them.
+fn copy_pixels(from: &[Pixel], format: Format, pixels: &mut [Pixel])
+    requires { length pixels.old ≡ length from.now }
+    ensures { pixels.new ≡ map (shade format) from.now }
+{
+    match format {
+        Format::Argb => pixels.copy_from_slice(from),
+        Format::Xrgb => shade_pixels(from, pixels),
+    }
+}
+
+/// Makes pixels those of another slice, without their alpha.
+fn shade_pixels(from: &[Pixel], pixels: &mut [Pixel])
+    requires { length pixels.old ≡ length from.now }
+    ensures { pixels.new ≡ map (shade Xrgb) from.now }
+{
+    'pixels: for i in 0..from.len() {
+        pixels[i] = shaded(Format::Xrgb, from[i]);
+    }
+}

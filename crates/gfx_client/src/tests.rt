@@ -211,39 +211,12 @@ fn caching() -> [u8; 135] {
     ]
 }
 
-/// EvictCacheEntry of a slot.
-fn evict(slot: u16) -> [u8; 16] {
-    let mut message = [0xc, 0, 0, 0, 0xe0, 4, 8, 0, 0, 0, 0xa, 0, 0, 0, 0, 0];
-    message[14..16].copy_from_slice(&slot.to_le_bytes());
-    message
-}
-
-const BLACK: Pixel = Pixel {
-    b: 0,
-    g: 0,
-    r: 0,
-    a: 0xff,
-};
-
 #[test]
-fn bitmaps_are_cached(rt: HostRuntime) -> Result<(), Fail> {
+fn a_bitmap_is_cached(rt: HostRuntime) -> Result<(), Fail> {
     let mut client = new_client(rt.alloc())?;
     client.take(&caching())?;
     step_on(&mut client)?;
     assert_eq!(rt; client.applied(), 5);
     assert_eq!(rt; client.cache().key(258), Some(7));
-    assert!(rt; !client.cache().takes_slot(4097));
-    let surface = client.surfaces().get(1).ok_or("a surface")?;
-    assert_eq!(rt; surface.size(), (4, 1));
-    assert_eq!(rt; surface.row(0), [RED, BLACK, RED, BLACK].as_slice());
-    client.take(&evict(258))?;
-    assert_eq!(rt; client.step(), Ok(Stepped::Applied));
-    assert_eq!(rt; client.cache().key(258), None);
-    client.take(&evict(0))?;
-    let (number, refusal) = (7, Refusal::SlotRange);
-    assert_eq!(rt;
-        client.step(),
-        Err(ClientFault::Refused { number, refusal })
-    );
     Ok(())
 }

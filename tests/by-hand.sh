@@ -4,8 +4,9 @@
 #
 #     tests/by-hand.sh PROGRAM [REFERENCE [SEEDS]]
 #
-# REFERENCE has the same `render`, and prints a stream of its own for `--random-stream SEED surface fill`;
-# 100 SEEDS are taken where none are named. Each case is a line, `ok` or `FAILED`; the exit number is 1
+# REFERENCE has the same `render` and `encode`. It prints a stream of its own for `--random-stream SEED
+# WORDS`, a script for `--random SEED WORDS`, and one with a fault for `--random-fault SEED WORDS`, where
+# WORDS are the steps that may occur. 100 SEEDS are taken where none are named. Each case is a line, `ok` or `FAILED`; the exit number is 1
 # where one failed.
 set -u
 if [ $# -lt 1 ] || [ $# -gt 3 ]; then
@@ -139,6 +140,14 @@ example() {
 example fill "0 "
 example desktop "0 "
 example outside "1 message 4: 14 RectOutside"
+"$program" render --output < "$examples/output.bin" > "$work/out" 2> "$work/err"
+report "the example output" "0 " "$(ended $?)"
+report "the example output, the output" "same" "$(cmp -s "$work/out" "$examples/output.txt" && echo same)"
+for name in fill output; do
+    "$program" encode < "$examples/$name.toml" > "$work/out" 2> "$work/err"
+    report "the script $name" "0 " "$(ended $?)"
+    report "the script $name, its stream" "same" "$(cmp -s "$work/out" "$examples/$name.bin" && echo same)"
+done
 
 # The limit of the input: 1 GiB. Nothing of these streams is stored.
 limit=$((1 << 30))
@@ -161,31 +170,54 @@ report "1 GiB whose last message is refused, and one byte" "1 22 FrameMismatch" 
 
 # Beside the reference program.
 if [ -n "$reference" ]; then
-    # Both programs on one stream; notes the seed where they differ.
-    beside() {
-        "$reference" render < "$work/stream" > "$work/wanted" 2> "$work/wanted.err"
-        echo "exit $?" >> "$work/wanted.err"
-        if [ "$1" = pieces ]; then
-            in_pieces "$2" < "$work/stream" | "$program" render > "$work/out" 2> "$work/err"
+    # What this program answered to an input, in small pieces of it where the second word is `pieces`.
+    answer() {
+        local way=$1 seed=$2
+        shift 2
+        if [ "$way" = pieces ]; then
+            in_pieces "$seed" < "$work/input" | "$program" "$@" > "$work/out" 2> "$work/err"
             echo "exit ${PIPESTATUS[1]}" >> "$work/err"
         else
-            "$program" render < "$work/stream" > "$work/out" 2> "$work/err"
+            "$program" "$@" < "$work/input" > "$work/out" 2> "$work/err"
             echo "exit $?" >> "$work/err"
         fi
-        cmp -s "$work/out" "$work/wanted" && cmp -s "$work/err" "$work/wanted.err" || different="$different $2"
     }
+    # Both programs on one input; notes the seed where they differ.
+    beside() {
+        local way=$1 seed=$2
+        shift 2
+        "$reference" "$@" < "$work/input" > "$work/wanted" 2> "$work/wanted.err"
+        echo "exit $?" >> "$work/wanted.err"
+        answer "$way" "$seed" "$@"
+        cmp -s "$work/out" "$work/wanted" && cmp -s "$work/err" "$work/wanted.err" || different="$different $seed"
+    }
+    shown="surface delete reset map fill copy argb"
+    cached="$shown keep show forget clients"
     for way in whole cut pieces; do
+        for words in "render" "render --output"; do
+            different=
+            for seed in $(seq "$seeds"); do
+                # shellcheck disable=SC2086
+                "$reference" --random-stream "$seed" $cached > "$work/input"
+                if [ $way = cut ]; then
+                    RANDOM=$seed
+                    size=$(stat -c %s "$work/input")
+                    truncate -s $(((RANDOM * 32768 + RANDOM) % (size + 1))) "$work/input"
+                fi
+                # shellcheck disable=SC2086
+                beside $way "$seed" $words
+            done
+            report "$seeds streams beside the reference, $way, $words" "" "$different"
+        done
+    done
+    for kind in random random-fault; do
         different=
         for seed in $(seq "$seeds"); do
-            "$reference" --random-stream "$seed" surface fill > "$work/stream"
-            if [ $way = cut ]; then
-                RANDOM=$seed
-                size=$(stat -c %s "$work/stream")
-                truncate -s $(((RANDOM * 32768 + RANDOM) % (size + 1))) "$work/stream"
-            fi
-            beside $way "$seed"
+            # shellcheck disable=SC2086
+            "$reference" "--$kind" "$seed" $shown > "$work/input"
+            beside whole "$seed" encode
         done
-        report "$seeds streams beside the reference, $way" "" "$different"
+        report "$seeds scripts beside the reference, $kind" "" "$different"
     done
 fi
 

@@ -139,11 +139,12 @@ example() {
 }
 example fill "0 "
 example desktop "0 "
+example pictures "0 "
 example outside "1 message 4: 14 RectOutside"
 "$program" render --output < "$examples/output.bin" > "$work/out" 2> "$work/err"
 report "the example output" "0 " "$(ended $?)"
 report "the example output, the output" "same" "$(cmp -s "$work/out" "$examples/output.txt" && echo same)"
-for name in fill output; do
+for name in fill output pictures; do
     "$program" encode < "$examples/$name.toml" > "$work/out" 2> "$work/err"
     report "the script $name" "0 " "$(ended $?)"
     report "the script $name, its stream" "same" "$(cmp -s "$work/out" "$examples/$name.bin" && echo same)"
@@ -191,14 +192,13 @@ if [ -n "$reference" ]; then
         answer "$way" "$seed" "$@"
         cmp -s "$work/out" "$work/wanted" && cmp -s "$work/err" "$work/wanted.err" || different="$different $seed"
     }
-    shown="surface delete reset map fill copy argb"
-    cached="$shown keep show forget clients"
+    built="surface delete reset map fill copy paint kinds=raw argb keep show forget clients"
     for way in whole cut pieces; do
         for words in "render" "render --output"; do
             different=
             for seed in $(seq "$seeds"); do
                 # shellcheck disable=SC2086
-                "$reference" --random-stream "$seed" $cached > "$work/input"
+                "$reference" --random-stream "$seed" $built > "$work/input"
                 if [ $way = cut ]; then
                     RANDOM=$seed
                     size=$(stat -c %s "$work/input")
@@ -214,7 +214,7 @@ if [ -n "$reference" ]; then
         different=
         for seed in $(seq "$seeds"); do
             # shellcheck disable=SC2086
-            "$reference" "--$kind" "$seed" $shown > "$work/input"
+            "$reference" "--$kind" "$seed" $built > "$work/input"
             beside whole "$seed" encode
         done
         report "$seeds scripts beside the reference, $kind" "" "$different"

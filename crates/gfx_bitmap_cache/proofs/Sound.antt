@@ -1,15 +1,15 @@
 -- What holds of every cache, after a change.
-use Rattle.std.proofs.Common.{◌≡◌, ◌<◌, ◌≤◌, ◌^◌, sym, subst, Bool, true, false, ℕ, Ok, arith, nat_le}
+use Rattle.std.proofs.Common.{◌≡◌, ◌∙◌, ◌<◌, ◌≤◌, ◌^◌, ap, sym, subst, Bool, true, false, ℕ, Ok, Err, arith, nat_le}
 use Rattle.std.specs.Prelude.{IsSome, IsTrue}
 use Rattle.std.specs.Ordering.{nat_cmp}
 use Rattle.std.specs.FinMap.{FinMap, get, insert, remove, empty}
 use Rattle.std.proofs.lemmas.Bool.Decides.{nat_tests}
-use Rattle.gfx_bitmap_cache.specs.declared.TheConstants.{MOST_BYTES}
-use Rattle.gfx_bitmap_cache.specs.Slots.{Entry, Cached, IsCached, cached, total, is_slot, takes_slot, budget, stored}
+use Rattle.gfx_bitmap_cache.specs.declared.limits.TheConstants.{MOST_BYTES}
+use Rattle.gfx_bitmap_cache.specs.Slots.{Entry, Cached, IsCached, cached, total, is_slot, takes_slot, budget, has_room, stored}
 use Rattle.gfx_base.specs.declared.refusal.Refusal.TheVariants.{SlotRange, CacheBudget}
 use Rattle.gfx_base.specs.Results.{and_then, check}
 use Rattle.gfx_bitmap_cache.proofs.Maps.{keys-insert, keys-remove, keys-empty}
-use Rattle.gfx_bitmap_cache.proofs.Totals.{total-remove, total-empty}
+use Rattle.gfx_bitmap_cache.proofs.Totals.{total-remove, total-empty, total-with}
 
 -- a slot that a store takes is one
 slot_taken : (small : Bool) (slot : ℕ) → takes_slot small slot ≡ true → IsTrue (is_slot slot)
@@ -57,3 +57,12 @@ unfolding stored and_then
 stored-ok cache slot held taken within =
     let room : nat_le (total (insert cache.slots slot held)) (budget cache.small) ≡ true = grind (arith, nat_tests) in
     λ i. and_then (check SlotRange (taken i)) (λ _. and_then (check CacheBudget (room i)) (λ _. Ok (cached (insert cache.slots slot held) cache.small)))
+
+-- a slot that is taken and no room for the sides refuse a store, whatever else the entry holds
+pub stored-full : (cache : Cached) (slot : ℕ) (held : Entry) → takes_slot cache.small slot ≡ true
+    → has_room cache slot held.image.width held.image.height ≡ false → stored cache slot held ≡ Err CacheBudget
+unfolding stored and_then
+stored-full cache slot held taken full =
+    let over : nat_le (total (insert cache.slots slot held)) (budget cache.small) ≡ false =
+    ap (λ n. nat_le n (budget cache.small)) (total-with cache.slots slot held) ∙ full in
+    λ i. and_then (check SlotRange (taken i)) (λ _. and_then (check CacheBudget (over i)) (λ _. Ok (cached (insert cache.slots slot held) cache.small)))

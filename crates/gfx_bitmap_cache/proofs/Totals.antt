@@ -11,7 +11,7 @@ use Rattle.std.specs.FinMap.{FinMap, get, insert, remove, empty, entries, entrie
 use Rattle.std.specs.FinMap.Entries.{below_all, by_order}
 use Rattle.std.proofs.lemmas.Bool.Decides.{nat_tests}
 use Rattle.std.proofs.lemmas.List.Sums.{sum_by-cons}
-use Rattle.gfx_bitmap_cache.specs.Slots.{Entry, bytes_of, bytes_at, total}
+use Rattle.gfx_bitmap_cache.specs.Slots.{Entry, bytes_of, bytes_at, bytes_with, total}
 use Rattle.gfx_bitmap_cache.proofs.Maps.{remove_absent, insert-remove, get-removed}
 
 both_first : (a b : Bool) → T (a && b) → T a
@@ -78,6 +78,13 @@ total-remove m k = by (get m k) refl
         let put_back : total (insert (remove m k) k v) + bytes_at (get (remove m k) k) ≡ total (remove m k) + bytes_of v = total-insert (remove m k) k v in
         ap (λ o. total (remove m k) + bytes_at o) some
         ∙ sym put_back ∙ (λ i. total (insert-remove m k v some i) + bytes_at (get-removed m k i)) ∙ omega arith
+
+-- a store leaves the bytes of the other slots and its own
+pub total-with : (m : FinMap nat_cmp Entry) (k : ℕ) (v : Entry) → total (insert m k v) ≡ bytes_with m k v.image.width v.image.height
+total-with m k v =
+    let adds = total-insert m k v in
+    let gives = total-remove m k in
+    omega (arith, adds, gives)
 
 no_entries : (es : List (ℕ × Entry)) → length es ≡ 0 → es ≡ []
 no_entries [] none = refl

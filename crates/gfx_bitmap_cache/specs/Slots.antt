@@ -1,7 +1,7 @@
 -- The cache of bitmaps ([MS-RDPEGFX], RDPGFX_SURFACE_TO_CACHE_PDU, RDPGFX_CACHE_TO_SURFACE_PDU and
 -- RDPGFX_EVICT_CACHE_ENTRY_PDU; the limits as for RDPGFX_CAPS_FLAG_SMALL_CACHE and without it). The
 -- order of the checks is this project's own rule.
-use Rattle.std.specs.Prelude.{ℕ, ◌*◌, ◌≤◌, Bool, IsTrue, IsSome, ◌&&◌, nat_le, List, Option, Result, Ok, if◌then◌else◌}
+use Rattle.std.specs.Prelude.{ℕ, ◌+◌, ◌*◌, ◌≤◌, Bool, IsTrue, IsSome, ◌&&◌, nat_le, List, Option, Result, Ok, if◌then◌else◌}
 use Rattle.std.specs.List.{sum_by}
 use Rattle.std.specs.Option.{option_map_or, ok_or}
 use Rattle.std.specs.Ordering.{nat_cmp}
@@ -12,7 +12,7 @@ use Rattle.gfx_base.specs.declared.pixel.Pixel.{Pixel}
 use Rattle.gfx_base.specs.declared.refusal.Refusal.{Refusal}
 use Rattle.gfx_base.specs.declared.refusal.Refusal.TheVariants.{SlotRange, SlotEmpty, CacheBudget}
 use Rattle.gfx_base.specs.Results.{◌>>=◌, check}
-use Rattle.gfx_bitmap_cache.specs.declared.TheConstants.{BYTES_PER_PIXEL, MOST_SLOTS, MOST_SMALL_SLOTS, MOST_BYTES, MOST_SMALL_BYTES}
+use Rattle.gfx_bitmap_cache.specs.declared.limits.TheConstants.{BYTES_PER_PIXEL, MOST_SLOTS, MOST_SMALL_SLOTS, MOST_BYTES, MOST_SMALL_BYTES}
 
 -- what a bitmap shows: its sides, and its pixels row by row from the top
 pub record Image : Type 0 where
@@ -39,9 +39,13 @@ entry key image = record { key = key; image = image }
 abbrev pub cached : FinMap nat_cmp Entry → Bool → Cached
 cached slots small = record { slots = slots; small = small }
 
+-- how many bytes a bitmap of these sides takes
+abbrev pub bytes_for : ℕ → ℕ → ℕ
+bytes_for width height = BYTES_PER_PIXEL * (width * height)
+
 -- how many bytes a bitmap takes
 abbrev pub bytes_of : Entry → ℕ
-bytes_of held = BYTES_PER_PIXEL * (held.image.width * held.image.height)
+bytes_of held = bytes_for held.image.width held.image.height
 
 -- how many bytes a slot takes, which may be empty
 abbrev pub bytes_at : Option Entry → ℕ
@@ -50,6 +54,10 @@ bytes_at held = option_map_or bytes_of held 0
 -- how many bytes all bitmaps take together
 abbrev pub total : FinMap nat_cmp Entry → ℕ
 total slots = sum_by bytes_of (finmap.values slots)
+
+-- how many bytes all bitmaps take together once this slot holds one of these sides
+abbrev pub bytes_with : FinMap nat_cmp Entry → ℕ → ℕ → ℕ → ℕ
+bytes_with slots slot width height = total (finmap.remove slots slot) + bytes_for width height
 
 -- there is such a slot
 abbrev pub is_slot : ℕ → Bool
@@ -66,6 +74,10 @@ takes_slot small slot = nat_le 1 slot && nat_le slot (last_slot small)
 -- the most bytes that a store may leave
 abbrev pub budget : Bool → ℕ
 budget small = if small then MOST_SMALL_BYTES else MOST_BYTES
+
+-- a bitmap of these sides is within the budget in this slot
+abbrev pub has_room : Cached → ℕ → ℕ → ℕ → Bool
+has_room cache slot width height = nat_le (bytes_with cache.slots slot width height) (budget cache.small)
 
 -- what holds of every cache: its filled slots are slots, and its bytes are within the large limit
 pub record IsCached (cache : Cached) : Type 0 where

@@ -2,11 +2,11 @@ ghost use Rattle.std.specs.Prelude.{◌≡◌, ◌^◌, false, [], MatchResult, 
 ghost use Rattle.std.specs.Option.{option_map, option_copied};
 ghost use Rattle.std.specs.FinMap as map;
 ghost use Rattle.gfx_base.specs.Outcome.{Applies};
-ghost use Rattle.gfx_bitmap_cache.specs.Slots.{IsCached, entry, cached, image_of, is_slot, takes_slot, last_slot, budget, stored, shown, evicted, total, bytes_at};
+ghost use Rattle.gfx_bitmap_cache.specs.Slots.{IsCached, entry, cached, image_of, is_slot, takes_slot, has_room, stored, shown, evicted, bytes_at, bytes_with};
 ghost use Rattle.gfx_bitmap_cache.specs.Order.{from_slot, first_slot};
 
 use crate::held::Held;
-use crate::{MOST_BYTES, MOST_SLOTS, MOST_SMALL_BYTES, MOST_SMALL_SLOTS};
+use crate::limits::{MOST_SLOTS, budget, bytes_for, last_slot};
 use gfx_base::{Bitmap, Fault, Refusal};
 use std::alloc::Global;
 use std::collections::BTreeMap;
@@ -59,7 +59,15 @@ impl Cache {
     pub fn takes_slot(&self, slot: u16) -> bool
         ensures { result ≡ takes_slot self.now.small slot }
     {
-        (1..=self.last_slot()).contains(&slot)
+        (1..=last_slot(self.small)).contains(&slot)
+    }
+
+    /// Whether a bitmap of these sides is within the budget in this slot, in the place of what it
+    /// holds: where it isn't, a store that takes the slot is refused.
+    pub fn has_room(&self, slot: u16, width: u16, height: u16) -> bool
+        ensures { result ≡ has_room self.now slot width height }
+    {
+        self.bytes_with(slot, width, height) <= budget(self.small)
     }
 
     /// Puts a bitmap into a slot, in the place of what it held ([MS-RDPEGFX]
@@ -71,11 +79,11 @@ impl Cache {
         if !self.takes_slot(slot) {
             return Err(Fault::Refused(Refusal::SlotRange));
         }
-        let held = Held::new(key, bitmap);
-        let bytes = self.bytes_with(slot, &held);
-        if bytes > self.budget() {
+        let bytes = self.bytes_with(slot, bitmap.width, bitmap.height);
+        if bytes > budget(self.small) {
             return Err(Fault::Refused(Refusal::CacheBudget));
         }
+        let held = Held::new(key, bitmap);
         self.slots.insert(slot, held)?;
         self.bytes = bytes;
         Ok(())
@@ -136,28 +144,6 @@ impl Cache {
         }
     }
 
-    /// The last slot that a store takes.
-    fn last_slot(&self) -> u16
-        ensures { result ≡ last_slot self.now.small }
-    {
-        if self.small {
-            MOST_SMALL_SLOTS
-        } else {
-            MOST_SLOTS
-        }
-    }
-
-    /// The most bytes that a store may leave.
-    fn budget(&self) -> u64
-        ensures { result ≡ budget self.now.small }
-    {
-        if self.small {
-            MOST_SMALL_BYTES
-        } else {
-            MOST_BYTES
-        }
-    }
-
     /// What a slot holds.
     fn held(&self, slot: u16) -> Option<&Held>
         ensures { option_copied result ≡ map.get self.now.slots slot }
@@ -165,11 +151,11 @@ impl Cache {
         self.slots.get(&slot)
     }
 
-    /// How many bytes all bitmaps take once a slot holds this one.
-    fn bytes_with(&self, slot: u16, held: &Held) -> u64
-        ensures { result ≡ total (map.insert self.now.slots slot held.now) }
+    /// How many bytes all bitmaps take once a slot holds one of these sides.
+    fn bytes_with(&self, slot: u16, width: u16, height: u16) -> u64
+        ensures { result ≡ bytes_with self.now.slots slot width height }
     {
-        self.bytes - self.bytes_at(slot) + held.bytes()
+        self.bytes - self.bytes_at(slot) + bytes_for(width, height)
     }
 
     /// How many bytes a slot takes, which may be empty.

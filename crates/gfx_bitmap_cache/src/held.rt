@@ -2,7 +2,7 @@
 ghost use Rattle.std.specs.Prelude.{◌≡◌, ◌≤◌, ◌*◌};
 ghost use Rattle.gfx_bitmap_cache.specs.Slots.{entry, image_of, bytes_of};
 
-use crate::BYTES_PER_PIXEL;
+use crate::limits::bytes_for;
 use gfx_base::Bitmap;
 use std::marker::Model;
 
@@ -50,6 +50,6 @@ impl Held {
         ensures bytes { result ≡ bytes_of self.now }
         ensures small { result ≤ 4 * 65535 * 65535 }
     {
-        BYTES_PER_PIXEL * (u64::from(self.bitmap.width) * u64::from(self.bitmap.height))
+        bytes_for(self.bitmap.width, self.bitmap.height)
     }
 }

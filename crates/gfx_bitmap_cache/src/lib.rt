@@ -1,28 +1,19 @@
 //! The cache of bitmaps of a client or of a server, by slots, within the limits on their number and
 //! their bytes. Contracts see a finite map from slots to keys and images.
 //!
-//! It stands on `gfx_base`; the state of the client and of the planner above it hold one.
+//! It stands on `gfx_base`; the state of the client and of the planner above it hold one. The server's
+//! choice of slots keeps to the same limits.
 #![tactic(auto)]
 
 mod cache;
 mod held;
+mod limits;
 
 pub use cache::Cache;
-
-/// How many bytes of the budget a pixel takes.
-pub const BYTES_PER_PIXEL: u64 = 4;
-
-/// The last slot. The first is 1.
-pub const MOST_SLOTS: u16 = 25600;
-
-/// The last slot that a store takes under the small limits.
-pub const MOST_SMALL_SLOTS: u16 = 4096;
-
-/// The most bytes of all bitmaps together.
-pub const MOST_BYTES: u64 = 104857600;
-
-/// The most bytes of all bitmaps together after a store under the small limits.
-pub const MOST_SMALL_BYTES: u64 = 16777216;
+pub use limits::{
+    BYTES_PER_PIXEL, MOST_BYTES, MOST_SLOTS, MOST_SMALL_BYTES, MOST_SMALL_SLOTS, budget, bytes_for,
+    last_slot,
+};
 
 #[cfg(test)]
 mod tests;

@@ -93,3 +93,28 @@ fn the_small_budget_binds_later_stores(rt: HostRuntime) -> Result<(), Fail> {
     assert_eq!(rt; cache.store(3, 5, bitmap(rt.alloc(), 1, 1, 1)?), full);
     Ok(())
 }
+
+#[test]
+fn room_is_by_slot_and_sides(rt: HostRuntime) -> Result<(), Fail> {
+    let mut cache = Cache::new(rt.alloc());
+    assert!(rt; cache.has_room(1, 5120, 5120));
+    assert!(rt; !cache.has_room(1, 5120, 5121));
+    assert!(rt; !cache.has_room(1, 65535, 65535));
+    cache.set_small(true);
+    cache.store(7, 70, bitmap(rt.alloc(), 2, 1, 9)?)?;
+    for (slot, room) in [(7, true), (8, false)] {
+        assert_eq!(rt; cache.has_room(slot, 2048, 2048), room);
+        assert!(rt; !cache.has_room(slot, 2048, 2049));
+    }
+    Ok(())
+}
+
+#[test]
+fn limits_are_these_numbers(rt: HostRuntime) {
+    for (small, slot, bytes) in [(false, 25600, 104857600), (true, 4096, 16777216)] {
+        assert_eq!(rt; last_slot(small), slot);
+        assert_eq!(rt; budget(small), bytes);
+    }
+    assert_eq!(rt; bytes_for(3, 5), 60);
+    assert_eq!(rt; bytes_for(65535, 65535), 17179344900);
+}

@@ -2,6 +2,7 @@
 use Rattle.std.proofs.Common.{◌≡◌, ℕ, ◌+◌, ◌<◌, ◌^◌, true, false, cond, List, [], ◌∷◌, ◌++◌, Option, Some, None, is_some, Result, Ok, Err, refl, sym, ap, ◌∙◌, subst, append_assoc}
 use Rattle.gfx_base.specs.declared.answer.NoMemory.{NoMemory}
 use Rattle.gfx_pdu.specs.declared.pdu.Pdu.{Pdu}
+use Rattle.gfx_script.specs.declared.picture.Picture.{Picture as Source}
 use Rattle.gfx_script.specs.declared.step.Step.{Step}
 use Rattle.gfx_script.specs.declared.step.Step.TheVariants.{Frame}
 use Rattle.gfx_state.specs.Sending.{sent}
@@ -85,42 +86,42 @@ left_open planned out step fresh other = (is_ready planned fresh, same_out out)
 
 -- the whole ---------------------------------------------------------------------------------------
 
-pub front_fails : (e : NoMemory) (server : Server) (new : Planned) (before now : List ℕ) (step : Option Step) → IsAllowedStep server step
-    → PartSent new before now (opening server) → PutsInFrame (Err e) server new before now step
+pub front_fails : (pictures : List Source) (e : NoMemory) (server : Server) (new : Planned) (before now : List ℕ) (step : Option Step) → IsAllowedStep pictures server step
+    → PartSent new before now (opening server) → PutsInFrame pictures (Err e) server new before now step
 unfolding sends
-front_fails e server new before now None allowed s = absurd allowed
-front_fails e server new before now (Some step) allowed s = part_front new before now (opening server) _ s
+front_fails pictures e server new before now None allowed s = absurd allowed
+front_fails pictures e server new before now (Some step) allowed s = part_front new before now (opening server) _ s
 
-pub put_fails : (e f : NoMemory) (server : Server) (old new : Planned) (before mid now : List ℕ) (step : Option Step) → AllSent old before mid (opening server) (opened server)
-    → Puts (Err f) old new mid now step → PutsInFrame (Err e) server new before now step
+pub put_fails : (pictures : List Source) (e f : NoMemory) (server : Server) (old new : Planned) (before mid now : List ℕ) (step : Option Step) → AllSent old before mid (opening server) (opened server)
+    → Puts pictures (Err f) old new mid now step → PutsInFrame pictures (Err e) server new before now step
 unfolding sends
-put_fails e f server old new before mid now None first s = absurd s
-put_fails e f server old new before mid now (Some step) first s =
+put_fails pictures e f server old new before mid now None first s = absurd s
+put_fails pictures e f server old new before mid now (Some step) first s =
     let put = opened server in
-    let due : PartSent new mid now (messages put step) = (s.0, subst (λ p. PutsPart mid now (sent (messages p.server step))) first.0 s.1) in
-    part_both new before mid now (opening server) _ first.1 (part_front new mid now (messages put step) (closing (after_put put step) step) due)
+    let due : PartSent new mid now (messages pictures put step) = (s.0, subst (λ p. PutsPart mid now (sent (messages pictures p.server step))) first.0 s.1) in
+    part_both new before mid now (opening server) _ first.1 (part_front new mid now (messages pictures put step) (closing (after_put pictures put step) step) due)
 
-pub put_and_closed : (result : Result (Unit {0}) NoMemory) (server : Server) (old via new : Planned) (before mid late now : List ℕ) (step : Step) → AllSent old before mid (opening server) (opened server)
-    → Puts (Ok tt) old via mid late (Some step) → SendsOn result new late now (closing via.server step) (closed via.server step) → PutsInFrame result server new before now (Some step)
+pub put_and_closed : (pictures : List Source) (result : Result (Unit {0}) NoMemory) (server : Server) (old via new : Planned) (before mid late now : List ℕ) (step : Step) → AllSent old before mid (opening server) (opened server)
+    → Puts pictures (Ok tt) old via mid late (Some step) → SendsOn result new late now (closing via.server step) (closed via.server step) → PutsInFrame pictures result server new before now (Some step)
 unfolding sends served
-put_and_closed result server old via new before mid late now step first put close =
+put_and_closed pictures result server old via new before mid late now step first put close =
     let is = first.0 in
-    let ready_is : via ≡ ready (after_put (opened server) step) = put.0.1 ∙ ap (λ p. ready (after_put p.server step)) is in
-    let wrote : late ≡ mid ++ sent (messages (opened server) step) = put.0.2 ∙ ap (λ p. mid ++ sent (messages p.server step)) is in
+    let ready_is : via ≡ ready (after_put pictures (opened server) step) = put.0.1 ∙ ap (λ p. ready (after_put pictures p.server step)) is in
+    let wrote : late ≡ mid ++ sent (messages pictures (opened server) step) = put.0.2 ∙ ap (λ p. mid ++ sent (messages pictures p.server step)) is in
     let ended = subst (λ p. SendsOn result new late now (closing p.server step) (closed p.server step)) ready_is close in
     by result ended wrote
   where
-    by : (r : Result (Unit {0}) NoMemory) → SendsOn r new late now (closing (after_put (opened server) step) step) (closed (after_put (opened server) step) step)
-        → late ≡ mid ++ sent (messages (opened server) step) → PutsInFrame r server new before now (Some step)
-    by (Ok done) ended wrote = all_both new before mid now (opening server) _ _ first.1 (all_both new mid late now (messages (opened server) step) _ _ wrote ended)
-    by (Err e) ended wrote = part_both new before mid now (opening server) _ first.1 (part_both new mid late now (messages (opened server) step) _ wrote ended)
+    by : (r : Result (Unit {0}) NoMemory) → SendsOn r new late now (closing (after_put pictures (opened server) step) step) (closed (after_put pictures (opened server) step) step)
+        → late ≡ mid ++ sent (messages pictures (opened server) step) → PutsInFrame pictures r server new before now (Some step)
+    by (Ok done) ended wrote = all_both new before mid now (opening server) _ _ first.1 (all_both new mid late now (messages pictures (opened server) step) _ _ wrote ended)
+    by (Err e) ended wrote = part_both new before mid now (opening server) _ first.1 (part_both new mid late now (messages pictures (opened server) step) _ wrote ended)
 
 -- a step that may be put still may once its frame is open
-pub allowed_in_frame : (server : Server) (step : Option Step) → server.frames + 1 < 2 ^ 32 → KeepsFrame server → IsAllowedStep server step → IsAllowedStep (opened server) step
-allowed_in_frame server None few keeps allowed = absurd allowed
-allowed_in_frame server (Some step) few keeps allowed = allowed_opened server step few keeps allowed
+pub allowed_in_frame : (pictures : List Source) (server : Server) (step : Option Step) → server.frames + 1 < 2 ^ 32 → KeepsFrame server → IsAllowedStep pictures server step → IsAllowedStep pictures (opened server) step
+allowed_in_frame pictures server None few keeps allowed = absurd allowed
+allowed_in_frame pictures server (Some step) few keeps allowed = allowed_opened pictures server step few keeps allowed
 
 -- and leaves it open
-pub still_in_frame : (old new : Planned) (mid now : List ℕ) (step : Option Step) → IsInFrame old.server → IsAllowedStep old.server step → Puts (Ok tt) old new mid now step → IsInFrame new.server
-still_in_frame old new mid now None within allowed put = absurd allowed
-still_in_frame old new mid now (Some step) within allowed put = subst (λ p. IsInFrame p.server) (sym put.0.1) (put_in_frame old.server step within allowed)
+pub still_in_frame : (pictures : List Source) (old new : Planned) (mid now : List ℕ) (step : Option Step) → IsInFrame old.server → IsAllowedStep pictures old.server step → Puts pictures (Ok tt) old new mid now step → IsInFrame new.server
+still_in_frame pictures old new mid now None within allowed put = absurd allowed
+still_in_frame pictures old new mid now (Some step) within allowed put = subst (λ p. IsInFrame p.server) (sym put.0.1) (put_in_frame pictures old.server step within allowed)

@@ -1,6 +1,6 @@
 -- What a script's checks hold stays in step with the surfaces.
-use Rattle.std.proofs.Common.{◌≡◌, ◌≢◌, ◌⊎◌, ℕ, ◌+◌, ◌-◌, ◌<◌, ◌&&◌, Bool, true, false, cond, List, [], ◌∷◌, Option, Some, None, option_map, is_some, inl, inr, refl, sym, ap, ◌∙◌, arith}
-use Rattle.std.specs.Prelude.{T}
+use Rattle.std.proofs.Common.{◌≡◌, ◌≢◌, ◌⊎◌, ℕ, ◌+◌, ◌-◌, ◌<◌, ◌^◌, ◌&&◌, Bool, true, false, cond, List, [], ◌∷◌, Option, Some, None, option_map, is_some, inl, inr, refl, sym, ap, ◌∙◌, subst, arith}
+use Rattle.std.specs.Prelude.{T, IfSome}
 use Rattle.std.specs.Cmp.{nat_cmp_total}
 use Rattle.std.specs.declared.cmp.Ordering.{Ordering}
 use Rattle.std.specs.declared.cmp.Ordering.TheVariants.{Less, Equal, Greater}
@@ -16,8 +16,7 @@ use Rattle.std.proofs.lemmas.List.Sums.{sum_by-cons}
 use Rattle.gfx_surface.specs.Picture.{Picture}
 use Rattle.gfx_surface_map.specs.Surfaces.{Surfaces, cells, cells_of_picture}
 use Rattle.gfx_script.specs.declared.held.Sides.{Sides}
-use Rattle.gfx_script.specs.Checks.{Held, nothing_held}
-use Rattle.gfx_planner.specs.Agree.{sides_of, Holds}
+use Rattle.gfx_planner.specs.Agree.{sides_of, HoldsSurfaces}
 
 -- sums over the values of a map -------------------------------------------------------------------
 
@@ -99,37 +98,51 @@ option_map-cond : {X Y : Type 0} (f : X → Y) (b : Bool) (x : X) (o : Option X)
 option_map-cond f true x o = refl
 option_map-cond f false x o = refl
 
+-- sides, where they are there, fit their fields
+abbrev AreNarrow : Option Sides → Type 0
+AreNarrow o = IfSome o (λ sides. (sides.width < 2 ^ 16) × (sides.height < 2 ^ 16))
+
+narrow_or : (b : Bool) (s : Sides) (o : Option Sides) → AreNarrow (Some s) → AreNarrow o → AreNarrow (cond b (Some s) o)
+narrow_or true s o one other = one
+narrow_or false s o one other = other
+
+narrow_but : (b : Bool) (o : Option Sides) → AreNarrow o → AreNarrow (cond b None o)
+narrow_but true o one = tt
+narrow_but false o one = one
+
 -- nothing is held of no surfaces
-pub holds-nothing : Holds nothing_held empty
+pub holds-nothing : HoldsSurfaces empty 0 empty
 holds-nothing = record {
   sides = λ id. get-empty nat_cmp id ∙ ap (option_map sides_of) (sym (get-empty nat_cmp id));
   count = len-empty nat_cmp Sides ∙ sym (len-empty nat_cmp Picture);
-  cells = sym (sum_by-values-empty cells_of_picture);
+  total = sym (sum_by-values-empty cells_of_picture);
+  narrow = λ id. subst AreNarrow (sym (get-empty nat_cmp id)) tt;
 }
 
 -- one more surface
-pub holds-made : (held : Held) (surfaces : Surfaces) (id : ℕ) (picture : Picture) → Holds held surfaces → get surfaces id ≡ None
-    → Holds (record { sides = insert held.sides id (sides_of picture); cells = held.cells + cells picture.width picture.height }) (insert surfaces id picture)
-holds-made held surfaces id picture holds none =
+pub holds-made : (sides : FinMap nat_cmp Sides) (count : ℕ) (surfaces : Surfaces) (id : ℕ) (picture : Picture) → picture.width < 2 ^ 16 → picture.height < 2 ^ 16 → HoldsSurfaces sides count surfaces → get surfaces id ≡ None
+    → HoldsSurfaces (insert sides id (sides_of picture)) (count + cells picture.width picture.height) (insert surfaces id picture)
+holds-made sides count surfaces id picture wide high holds none =
     let absent : contains_key surfaces id ≡ false = ap is_some none in
-    let held_absent : contains_key held.sides id ≡ false = ap is_some (holds.sides id) ∙ ap (λ z. is_some (option_map sides_of z)) none in
+    let held_absent : contains_key sides id ≡ false = ap is_some (holds.sides id) ∙ ap (λ z. is_some (option_map sides_of z)) none in
     let sum = sum_by-values-insert cells_of_picture surfaces id picture in
     let old : share cells_of_picture (get surfaces id) ≡ 0 = ap (share cells_of_picture) none in
     record {
-      sides = λ q. get-insert nat_cmp_total held.sides id (sides_of picture) q
+      sides = λ q. get-insert nat_cmp_total sides id (sides_of picture) q
           ∙ ap (cond (eq_by_cmp nat_cmp q id) (Some (sides_of picture))) (holds.sides q)
           ∙ option_map-cond sides_of (eq_by_cmp nat_cmp q id) picture (get surfaces q)
           ∙ ap (option_map sides_of) (sym (get-insert nat_cmp_total surfaces id picture q));
-      count = len-insert nat_cmp_total held.sides id (sides_of picture) ∙ ap (λ b. cond b (len held.sides) (len held.sides + 1)) held_absent
+      count = len-insert nat_cmp_total sides id (sides_of picture) ∙ ap (λ b. cond b (len sides) (len sides + 1)) held_absent
           ∙ ap (λ n. n + 1) holds.count
           ∙ sym (len-insert nat_cmp_total surfaces id picture ∙ ap (λ b. cond b (len surfaces) (len surfaces + 1)) absent);
-      cells = omega (arith, sum, old, holds.cells);
+      total = omega (arith, sum, old, holds.total);
+      narrow = λ q. subst AreNarrow (sym (get-insert nat_cmp_total sides id (sides_of picture) q)) (narrow_or (eq_by_cmp nat_cmp q id) (sides_of picture) (get sides q) (wide, high) (holds.narrow q));
     }
 
 -- a surface that is drawn on
-pub holds-drawn : (held : Held) (surfaces : Surfaces) (id : ℕ) (old new : Picture) → Holds held surfaces → get surfaces id ≡ Some old
-    → sides_of new ≡ sides_of old → Holds held (insert surfaces id new)
-holds-drawn held surfaces id old new holds some same =
+pub holds-drawn : (sides : FinMap nat_cmp Sides) (count : ℕ) (surfaces : Surfaces) (id : ℕ) (old new : Picture) → HoldsSurfaces sides count surfaces → get surfaces id ≡ Some old
+    → sides_of new ≡ sides_of old → HoldsSurfaces sides count (insert surfaces id new)
+holds-drawn sides count surfaces id old new holds some same =
     let sum = sum_by-values-insert cells_of_picture surfaces id new in
     let before : share cells_of_picture (get surfaces id) ≡ cells_of_picture old = ap (share cells_of_picture) some in
     let alike : cells_of_picture new ≡ cells_of_picture old = ap (λ s. cells s.width s.height) same in
@@ -137,13 +150,14 @@ holds-drawn held surfaces id old new holds some same =
     record {
       sides = λ q. by q (cases_eq q id);
       count = holds.count ∙ sym (len-insert nat_cmp_total surfaces id new ∙ ap (λ b. cond b (len surfaces) (len surfaces + 1)) there);
-      cells = omega (arith, sum, before, alike, holds.cells);
+      total = omega (arith, sum, before, alike, holds.total);
+      narrow = holds.narrow;
     }
   where
-    by : (q : ℕ) → ((q ≡ id) ⊎ (q ≢ id)) → get held.sides q ≡ option_map sides_of (get (insert surfaces id new) q)
+    by : (q : ℕ) → ((q ≡ id) ⊎ (q ≢ id)) → get sides q ≡ option_map sides_of (get (insert surfaces id new) q)
     by q (inl at) =
         let yes : eq_by_cmp nat_cmp q id ≡ true = grind (arith, nat_tests) in
-        ap (get held.sides) at ∙ holds.sides id ∙ ap (option_map sides_of) some ∙ ap Some (sym same)
+        ap (get sides) at ∙ holds.sides id ∙ ap (option_map sides_of) some ∙ ap Some (sym same)
         ∙ ap (λ b. option_map sides_of (cond b (Some new) (get surfaces q))) (sym yes)
         ∙ ap (option_map sides_of) (sym (get-insert nat_cmp_total surfaces id new q))
     by q (inr apart) =
@@ -180,19 +194,20 @@ option_map-none : {X Y : Type 0} (f : X → Y) (b : Bool) (o : Option X) → con
 option_map-none f true o = refl
 option_map-none f false o = refl
 
-pub holds-deleted : (held : Held) (surfaces : Surfaces) (id : ℕ) (picture : Picture) → Holds held surfaces → get surfaces id ≡ Some picture
-    → Holds (record { sides = remove held.sides id; cells = held.cells - cells picture.width picture.height }) (remove surfaces id)
-holds-deleted held surfaces id picture holds there =
+pub holds-deleted : (sides : FinMap nat_cmp Sides) (count : ℕ) (surfaces : Surfaces) (id : ℕ) (picture : Picture) → HoldsSurfaces sides count surfaces → get surfaces id ≡ Some picture
+    → HoldsSurfaces (remove sides id) (count - cells picture.width picture.height) (remove surfaces id)
+holds-deleted sides count surfaces id picture holds there =
     let present : contains_key surfaces id ≡ true = ap is_some there in
-    let held_present : contains_key held.sides id ≡ true = ap is_some (holds.sides id) ∙ ap (λ z. is_some (option_map sides_of z)) there in
+    let held_present : contains_key sides id ≡ true = ap is_some (holds.sides id) ∙ ap (λ z. is_some (option_map sides_of z)) there in
     let sum = sum_by-values-remove cells_of_picture surfaces id picture there in
     record {
-      sides = λ q. get-remove nat_cmp_total held.sides id q
+      sides = λ q. get-remove nat_cmp_total sides id q
           ∙ ap (cond (eq_by_cmp nat_cmp q id) None) (holds.sides q)
           ∙ option_map-none sides_of (eq_by_cmp nat_cmp q id) (get surfaces q)
           ∙ ap (option_map sides_of) (sym (get-remove nat_cmp_total surfaces id q));
-      count = len-remove nat_cmp_total held.sides id ∙ ap (λ b. cond b (len held.sides - 1) (len held.sides)) held_present
+      count = len-remove nat_cmp_total sides id ∙ ap (λ b. cond b (len sides - 1) (len sides)) held_present
           ∙ ap (λ n. n - 1) holds.count
           ∙ sym (len-remove nat_cmp_total surfaces id ∙ ap (λ b. cond b (len surfaces - 1) (len surfaces)) present);
-      cells = omega (arith, sum, holds.cells);
+      total = omega (arith, sum, holds.total);
+      narrow = λ q. subst AreNarrow (sym (get-remove nat_cmp_total sides id q)) (narrow_but (eq_by_cmp nat_cmp q id) (get sides q) (holds.narrow q));
     }

@@ -1,6 +1,13 @@
 pub mod Carried
 pub mod Held
 pub mod Effects
+pub mod Paints
+pub mod Payloads
+pub mod Passing
+pub mod SlotLists
+pub mod Slots
+pub mod SurfaceSteps
+pub mod BitmapSteps
 pub mod Steps
 pub mod Streams
 pub mod Calls

@@ -4,7 +4,8 @@ use Rattle.std.specs.List.{AllByRecursion}
 use Rattle.gfx_base.specs.Results.{and_then}
 use Rattle.gfx_base.proofs.ResultLemmas.{and_then_at, and_then_ok}
 use Rattle.gfx_pdu.specs.declared.pdu.Pdu.{Pdu}
-use Rattle.gfx_script.specs.Checks.{Held, nothing_held, held_after, held_through}
+use Rattle.gfx_script.specs.declared.picture.Picture.{Picture as Source}
+use Rattle.gfx_script.specs.Checks.{Held, held_first, sides_of_all, held_after, held_through}
 use Rattle.gfx_script.specs.Script.{IsStep, IsAccepted}
 use Rattle.gfx_script.specs.Scripted.{Scripted}
 use Rattle.gfx_script.specs.declared.step.Step.{Step}
@@ -12,14 +13,16 @@ use Rattle.gfx_script.specs.declared.step.Step.TheVariants.{Frame}
 use Rattle.gfx_state.specs.State.{State, fresh}
 use Rattle.gfx_state.specs.Sending.{all_steps, sent, IsCarried, count_after}
 use Rattle.gfx_state.proofs.Sent.{all_steps-append, eats-sent, sent-append}
-use Rattle.gfx_planner.specs.Agree.{Agree, Holds, IsInFrame, KeepsFrame, IsAllowed}
-use Rattle.gfx_planner.specs.Stream.{opening, opened, closing, closed, sends, served, stream, serves}
+use Rattle.gfx_planner.specs.Agree.{Agree, HoldsSurfaces, HoldsBitmaps, Holds, IsInFrame, KeepsFrame, IsAllowed}
+use Rattle.gfx_planner.specs.Stream.{opening, opened, closing, closed, sends, served, stream, serves, end_after}
 use Rattle.gfx_planner.specs.Want.{Wanted, nothing_wanted, wanted_after, want}
 use Rattle.gfx_planner.specs.Shows.{ScriptsAreShown}
-use Rattle.gfx_planner.specs.Wire.{Server, at_start, messages, frame_start, frame_end, reached, after_messages, after_put, after_open, after_close}
+use Rattle.gfx_planner.specs.Wire.{Server, at_start, messages, frame_start, frame_end, reached, after_messages, plan_after, after_put, after_open, after_close}
 use Rattle.gfx_planner.proofs.Effects.{all_steps-one}
 use Rattle.gfx_planner.proofs.Held.{holds-nothing}
-use Rattle.gfx_planner.proofs.Steps.{starts, ends, step_fine}
+use Rattle.gfx_planner.proofs.Slots.{shelved-start}
+use Rattle.gfx_planner.proofs.SurfaceSteps.{starts, ends, going}
+use Rattle.gfx_planner.proofs.Steps.{step_fine}
 
 -- where messages are accepted, the server's end goes on from the state that they give
 pub after_messages-is : (server : Server) (pdus : List Pdu) (next : State) → all_steps server.state pdus ≡ Ok next → after_messages server pdus ≡ record server { state = next }
@@ -45,12 +48,14 @@ pub record Passed (server after : Server) (pdus : List Pdu) : Type 0 where
   pub accepted : all_steps server.state pdus ≡ Ok after.state
   pub carried : AllByRecursion IsCarried pdus
   pub shown : after.state.shown ≡ server.state.shown
+  pub cache : after.state.cache ≡ server.state.cache
+  pub plan : after.plan ≡ server.plan
 
 pub opens_frame : (server : Server) → server.frames + 1 < 2 ^ 32 → server.state.frame ≡ None
-    → after_open server ≡ record { state = record server.state { frame = Some (server.frames + 1) }; frames = server.frames + 1 }
+    → after_open server ≡ record server { state = record server.state { frame = Some (server.frames + 1) }; frames = server.frames + 1 }
 opens_frame server few none =
     let accepts = starts server.state (server.frames + 1) few none in
-    ap (λ z. record { state = z.state; frames = server.frames + 1 })
+    ap (λ (z : Server). record z { frames = server.frames + 1 })
     (after_messages-is server (frame_start server ∷ []) _ (all_steps-one server.state _ (frame_start server) accepts.stepped))
 
 pub opened_fine : (server : Server) → server.frames + 1 < 2 ^ 32 → KeepsFrame server
@@ -66,6 +71,8 @@ opened_fine server few (inl none) =
         accepted = ap (all_steps server.state) pdus ∙ all_steps-one server.state _ (frame_start server) accepts.stepped ∙ ap (λ z. Ok z.state) (sym is);
         carried = subst (AllByRecursion IsCarried) (sym pdus) (accepts.carried, tt);
         shown = ap (λ z. z.state.shown) is;
+        cache = ap (λ z. z.state.cache) is;
+        plan = ap (λ z. z.plan) is;
       },
       ap (λ z. z.state.frame) is ∙ ap (λ z. Some z.frames) (sym is),
       omega (arith, ap (λ z. z.frames) is),
@@ -77,6 +84,8 @@ opened_fine server few (inr within) =
         accepted = ap (all_steps server.state) pdus ∙ all_steps-none server.state ∙ ap (λ z. Ok z.state) (sym now);
         carried = subst (AllByRecursion IsCarried) (sym pdus) tt;
         shown = ap (λ z. z.state.shown) now;
+        cache = ap (λ z. z.state.cache) now;
+        plan = ap (λ z. z.plan) now;
       },
       ap (λ z. z.state.frame) now ∙ within ∙ ap (λ z. Some z.frames) (sym now),
       omega (arith, ap (λ z. z.frames) now),
@@ -98,53 +107,73 @@ closed_fine server Frame few within =
         accepted = all_steps-one server.state _ (frame_end server) accepts.stepped ∙ ap (λ z. Ok z.state) (sym is);
         carried = (accepts.carried, tt);
         shown = ap (λ z. z.state.shown) is;
+        cache = ap (λ z. z.state.cache) is;
+        plan = ap (λ z. z.plan) is;
       },
       inl (ap (λ z. z.state.frame) is),
       ap (λ z. z.frames) is,
     )
 closed_fine server step few within =
-    (record { accepted = all_steps-none server.state; carried = tt; shown = refl }, inr within, refl)
+    (record { accepted = all_steps-none server.state; carried = tt; shown = refl; cache = refl; plan = refl }, inr within, refl)
 
 -- a step of a script --------------------------------------------------------------------------------
 
 -- the server's end, in step with the script
-pub record Stands (server : Server) (held : Held) (wanted : Wanted) : Type 0 where
-  pub holds : Holds held server.state.shown.surfaces
-  pub agrees : Agree server.state wanted
+pub record Stands (pictures : List Source) (server : Server) (held : Held) (wanted : Wanted) : Type 0 where
+  pub holds : Holds pictures held server
+  pub agrees : Agree server wanted
   pub frame : KeepsFrame server
 
 -- it goes on by a step
-pub record Goes (server : Server) (step : Step) (after : Held) (wanted : Wanted) : Type 0 where
-  pub accepted : all_steps server.state (sends server step) ≡ Ok (served server step).state
-  pub carried : AllByRecursion IsCarried (sends server step)
-  pub stands : Stands (served server step) after wanted
-  pub frames : (served server step).frames ≤ server.frames + 1
+pub record Goes (pictures : List Source) (server : Server) (step : Step) (after : Held) (wanted : Wanted) : Type 0 where
+  pub accepted : all_steps server.state (sends pictures server step) ≡ Ok (served pictures server step).state
+  pub carried : AllByRecursion IsCarried (sends pictures server step)
+  pub stands : Stands pictures (served pictures server step) after wanted
+  pub frames : (served pictures server step).frames ≤ server.frames + 1
 
-agree_shown : (state next : State) (wanted : Wanted) → next.shown ≡ state.shown → Agree state wanted → Agree next wanted
-agree_shown state next wanted same agree = record { shown = same ∙ agree.shown }
+-- what a frame that is opened or ended leaves
+holds_passed : (pictures : List Source) (held : Held) (server after : Server) (pdus : List Pdu) → Passed server after pdus → Holds pictures held server → Holds pictures held after
+holds_passed pictures held server after pdus passed holds = record {
+  drawn = holds.drawn;
+  same = holds.same;
+  surfaces = subst (λ z. HoldsSurfaces held.sides held.cells z.surfaces) (sym passed.shown) holds.surfaces;
+  bitmaps = subst (λ p. HoldsBitmaps held.stock p after.state.cache) (sym passed.plan) (subst (HoldsBitmaps held.stock server.plan) (sym passed.cache) holds.bitmaps);
+}
 
-pub goes : (server : Server) (held after : Held) (wanted : Wanted) (step : Step) → server.frames + 1 < 2 ^ 32 → Stands server held wanted → IsStep step
-    → held_after held step ≡ Ok after → Goes server step after (wanted_after wanted step)
+agree_passed : (server after : Server) (wanted : Wanted) (pdus : List Pdu) → Passed server after pdus → Agree server wanted → Agree after wanted
+agree_passed server after wanted pdus passed agree = record {
+  shown = passed.shown ∙ agree.shown;
+  slots = ap (λ z. z.slots) passed.cache ∙ agree.slots;
+  plan = passed.plan ∙ agree.plan;
+}
+
+-- where the messages of a step are accepted, the server's end goes on from the state that they give
+pub after_put-is : (pictures : List Source) (server : Server) (step : Step) (next : State) → all_steps server.state (messages pictures server step) ≡ Ok next
+    → after_put pictures server step ≡ going server next (plan_after server.plan step)
+after_put-is pictures server step next accepted =
+    ap (λ (z : Server). record z { plan = plan_after server.plan step }) (after_messages-is server (messages pictures server step) next accepted)
+
+pub goes : (pictures : List Source) (server : Server) (held after : Held) (wanted : Wanted) (step : Step) → server.frames + 1 < 2 ^ 32 → Stands pictures server held wanted → IsStep step
+    → held_after held step ≡ Ok after → Goes pictures server step after (wanted_after pictures wanted step)
 unfolding sends served
-goes server held after wanted step few stands numbers checked =
+goes pictures server held after wanted step few stands numbers checked =
     let o = opened_fine server few stands.frame in
     let ready : Server = opened server in
-    let there = subst (λ z. Holds held z.surfaces) (sym o.0.shown) stands.holds in
-    let fine = step_fine ready held after step there numbers checked in
-    let put : Server = after_put ready step in
-    let put_is : put ≡ record ready { state = fine.next } = after_messages-is ready (messages ready step) fine.next fine.accepted in
+    let there = holds_passed pictures held server ready (opening server) o.0 stands.holds in
+    let fine = step_fine pictures ready held after step there numbers checked in
+    let put : Server = after_put pictures ready step in
+    let put_is : put ≡ going ready fine.next (plan_after ready.plan step) = after_put-is pictures ready step fine.next fine.accepted in
     let within : IsInFrame put = ap (λ z. z.state.frame) put_is ∙ fine.frame ∙ o.1 ∙ ap (λ z. Some z.frames) (sym put_is) in
     let frames : put.frames ≡ ready.frames = ap (λ z. z.frames) put_is in
     let c = closed_fine put step (omega (arith, frames, o.2)) within in
-    let agreed : Agree fine.next (wanted_after wanted step) = fine.agrees wanted (agree_shown server.state ready.state wanted o.0.shown stands.agrees) in
-    let shown = c.0.shown ∙ ap (λ z. z.state.shown) put_is in
+    let agreed = fine.agrees wanted (agree_passed server ready wanted (opening server) o.0 stands.agrees) in
     record {
       accepted = both server.state ready.state _ (opening server) _ o.0.accepted
-          (both ready.state put.state _ (messages ready step) (closing put step) (fine.accepted ∙ ap (λ z. Ok z.state) (sym put_is)) c.0.accepted);
-      carried = carried_both (opening server) _ o.0.carried (carried_both (messages ready step) (closing put step) fine.carried c.0.carried);
+          (both ready.state put.state _ (messages pictures ready step) (closing put step) (fine.accepted ∙ ap (λ z. Ok z.state) (sym put_is)) c.0.accepted);
+      carried = carried_both (opening server) _ o.0.carried (carried_both (messages pictures ready step) (closing put step) fine.carried c.0.carried);
       stands = record {
-        holds = subst (λ z. Holds after z.surfaces) (sym shown) fine.holds;
-        agrees = agree_shown fine.next _ _ shown agreed;
+        holds = holds_passed pictures after put _ (closing put step) c.0 (subst (Holds pictures after) (sym put_is) fine.holds);
+        agrees = agree_passed put _ _ (closing put step) c.0 (subst (λ z. Agree z (wanted_after pictures wanted step)) (sym put_is) agreed);
         frame = c.1;
       };
       frames = omega (arith, c.2, frames, o.2);
@@ -153,19 +182,19 @@ goes server held after wanted step few stands numbers checked =
 -- steps one after another ---------------------------------------------------------------------------
 
 -- the stream of steps is accepted, and the server's end stays in step with the script
-pub record Streams (server : Server) (steps : List Step) (after : Held) (wanted : Wanted) : Type 0 where
-  pub accepted : all_steps server.state (stream server steps) ≡ Ok (serves server steps).state
-  pub carried : AllByRecursion IsCarried (stream server steps)
-  pub stands : Stands (serves server steps) after wanted
-  pub frames : (serves server steps).frames ≤ server.frames + length steps
+pub record Streams (pictures : List Source) (server : Server) (steps : List Step) (after : Held) (wanted : Wanted) : Type 0 where
+  pub accepted : all_steps server.state (stream pictures server steps) ≡ Ok (serves pictures server steps).state
+  pub carried : AllByRecursion IsCarried (stream pictures server steps)
+  pub stands : Stands pictures (serves pictures server steps) after wanted
+  pub frames : (serves pictures server steps).frames ≤ server.frames + length steps
 
-pub stream-nil : (server : Server) → stream server [] ≡ []
+pub stream-nil : (pictures : List Source) (server : Server) → stream pictures server [] ≡ []
 unfolding stream
-stream-nil server = refl
+stream-nil pictures server = refl
 
-pub stream-cons : (server : Server) (step : Step) (steps : List Step) → stream server (step ∷ steps) ≡ sends server step ++ stream (served server step) steps
+pub stream-cons : (pictures : List Source) (server : Server) (step : Step) (steps : List Step) → stream pictures server (step ∷ steps) ≡ sends pictures server step ++ stream pictures (served pictures server step) steps
 unfolding stream
-stream-cons server step steps = refl
+stream-cons pictures server step steps = refl
 
 held_through-nil : (held after : Held) → held_through held [] ≡ Ok after → held ≡ after
 unfolding held_through
@@ -176,32 +205,33 @@ held_through-cons : (held after : Held) (step : Step) (steps : List Step) → he
 unfolding held_through
 held_through-cons held after step steps checked = and_then_ok (held_after held step) (λ next. held_through next steps) after checked
 
-pub streams : (server : Server) (held after : Held) (wanted : Wanted) (steps : List Step) → server.frames + length steps < 2 ^ 32 → Stands server held wanted
-    → AllByRecursion IsStep steps → held_through held steps ≡ Ok after → Streams server steps after (fold wanted_after wanted steps)
-streams server held after wanted [] few stands numbers checked = record {
-  accepted = ap (all_steps server.state) (stream-nil server) ∙ all_steps-none server.state;
-  carried = subst (AllByRecursion IsCarried) (sym (stream-nil server)) tt;
-  stands = subst (λ h. Stands server h wanted) (held_through-nil held after checked) stands;
+pub streams : (pictures : List Source) (server : Server) (held after : Held) (wanted : Wanted) (steps : List Step) → server.frames + length steps < 2 ^ 32 → Stands pictures server held wanted
+    → AllByRecursion IsStep steps → held_through held steps ≡ Ok after → Streams pictures server steps after (fold (wanted_after pictures) wanted steps)
+streams pictures server held after wanted [] few stands numbers checked = record {
+  accepted = ap (all_steps server.state) (stream-nil pictures server) ∙ all_steps-none server.state;
+  carried = subst (AllByRecursion IsCarried) (sym (stream-nil pictures server)) tt;
+  stands = subst (λ h. Stands pictures server h wanted) (held_through-nil held after checked) stands;
   frames = omega arith;
 }
-streams server held after wanted (step ∷ steps) few stands numbers checked =
+streams pictures server held after wanted (step ∷ steps) few stands numbers checked =
     let c = held_through-cons held after step steps checked in
-    let first = goes server held c.0 wanted step (omega arith) stands numbers.0 c.1 in
-    let next : Server = served server step in
-    let others = streams next c.0 after (wanted_after wanted step) steps (omega (arith, first.frames)) first.stands numbers.1 c.2 in
+    let first = goes pictures server held c.0 wanted step (omega arith) stands numbers.0 c.1 in
+    let next : Server = served pictures server step in
+    let others = streams pictures next c.0 after (wanted_after pictures wanted step) steps (omega (arith, first.frames)) first.stands numbers.1 c.2 in
     record {
-      accepted = ap (all_steps server.state) (stream-cons server step steps) ∙ both server.state next.state _ (sends server step) (stream next steps) first.accepted others.accepted;
-      carried = subst (AllByRecursion IsCarried) (sym (stream-cons server step steps)) (carried_both (sends server step) (stream next steps) first.carried others.carried);
+      accepted = ap (all_steps server.state) (stream-cons pictures server step steps) ∙ both server.state next.state _ (sends pictures server step) (stream pictures next steps) first.accepted others.accepted;
+      carried = subst (AllByRecursion IsCarried) (sym (stream-cons pictures server step steps)) (carried_both (sends pictures server step) (stream pictures next steps) first.carried others.carried);
       stands = others.stands;
       frames = omega (arith, first.frames, others.frames);
     }
 
 -- in two parts
-pub stream-append : (server : Server) (xs ys : List Step) → stream server (xs ++ ys) ≡ stream server xs ++ stream (serves server xs) ys
-stream-append server [] ys = ap (λ z. z ++ stream server ys) (sym (stream-nil server))
-stream-append server (x ∷ xs) ys =
-    stream-cons server x (xs ++ ys) ∙ ap (λ z. sends server x ++ z) (stream-append (served server x) xs ys)
-    ∙ sym (append_assoc (sends server x) (stream (served server x) xs) _) ∙ ap (λ z. z ++ stream (serves (served server x) xs) ys) (sym (stream-cons server x xs))
+pub stream-append : (pictures : List Source) (server : Server) (xs ys : List Step) → stream pictures server (xs ++ ys) ≡ stream pictures server xs ++ stream pictures (serves pictures server xs) ys
+stream-append pictures server [] ys = ap (λ z. z ++ stream pictures server ys) (sym (stream-nil pictures server))
+stream-append pictures server (x ∷ xs) ys =
+    stream-cons pictures server x (xs ++ ys) ∙ ap (λ z. sends pictures server x ++ z) (stream-append pictures (served pictures server x) xs ys)
+    ∙ sym (append_assoc (sends pictures server x) (stream pictures (served pictures server x) xs) _)
+    ∙ ap (λ z. z ++ stream pictures (serves pictures (served pictures server x) xs) ys) (sym (stream-cons pictures server x xs))
 
 -- a front of checked steps is checked
 pub held_through-append : (held after : Held) (xs ys : List Step) → held_through held (xs ++ ys) ≡ Ok after
@@ -221,26 +251,40 @@ pub all_behind : (xs ys : List Step) → AllByRecursion IsStep (xs ++ ys) → Al
 all_behind [] ys all = all
 all_behind (x ∷ xs) ys all = all_behind xs ys all.1
 
-stands_at_start : Stands at_start nothing_held nothing_wanted
-stands_at_start = record { holds = holds-nothing; agrees = record { shown = refl }; frame = inl refl }
+-- what is held before the first step
+abbrev pub first_held : Scripted → Held
+first_held script = held_first (sides_of_all script.pictures) script.small
+
+stands_at_start : (script : Scripted) → IsAccepted script → Stands script.pictures (at_start script.small) (first_held script) (nothing_wanted script.small)
+stands_at_start script good = record {
+  holds = record {
+    drawn = good.pictures;
+    same = refl;
+    surfaces = holds-nothing;
+    bitmaps = record { same = refl; large = refl; shelved = shelved-start script.small; sided = tt };
+  };
+  agrees = record { shown = refl; slots = refl; plan = refl };
+  frame = inl refl;
+}
 
 -- what holds after a front of an accepted script
-pub record Along (front rest : List Step) : Type 0 where
+pub record Along (script : Scripted) (front rest : List Step) : Type 0 where
   pub held : Held
-  pub streams : Streams at_start front held (want front)
+  pub streams : Streams script.pictures (at_start script.small) front held (want script front)
   pub numbers : AllByRecursion IsStep rest
   pub last : Held
   pub checked : held_through held rest ≡ Ok last
 
-pub along : (script : Scripted) (front rest : List Step) → IsAccepted script → script.steps ≡ front ++ rest → Along front rest
+pub along : (script : Scripted) (front rest : List Step) → IsAccepted script → script.steps ≡ front ++ rest → Along script front rest
 along script front rest good cut =
     let numbers = subst (AllByRecursion IsStep) cut good.numbers in
-    let checked = ap (held_through nothing_held) (sym cut) ∙ good.checked in
-    let c = held_through-append nothing_held good.held front rest checked in
+    let first = first_held script in
+    let checked = ap (held_through first) (sym cut) ∙ good.checked in
+    let c = held_through-append first good.held front rest checked in
     let many : length front + length rest ≡ length script.steps = sym (length-append front rest) ∙ ap length (sym cut) in
     record {
       held = c.0;
-      streams = streams at_start nothing_held c.0 nothing_wanted front (omega (arith, good.few, many)) stands_at_start (all_front front rest numbers) c.1;
+      streams = streams script.pictures (at_start script.small) first c.0 (nothing_wanted script.small) front (omega (arith, good.few, many)) (stands_at_start script good) (all_front front rest numbers) c.1;
       numbers = all_behind front rest numbers;
       last = good.held;
       checked = c.2;
@@ -250,24 +294,32 @@ along script front rest good cut =
 pub shown : ScriptsAreShown
 shown script front rest good cut =
     let a = along script front rest good cut in
-    let s = a.streams in (
+    let s = a.streams in
+    let start = at_start script.small in (
       record {
-        applied = count_after 0 (stream at_start front);
-        run = eats-sent fresh (serves at_start front).state 0 (stream at_start front) s.carried s.accepted;
+        applied = count_after 0 (stream script.pictures start front);
+        run = eats-sent fresh (end_after script front).state 0 (stream script.pictures start front) s.carried s.accepted;
         agrees = s.stands.agrees;
       },
-      ap (λ z. sent (stream at_start z)) cut ∙ ap sent (stream-append at_start front rest) ∙ sent-append (stream at_start front) (stream (serves at_start front) rest),
+      ap (λ z. sent (stream script.pictures start z)) cut ∙ ap sent (stream-append script.pictures start front rest)
+          ∙ sent-append (stream script.pictures start front) (stream script.pictures (end_after script front) rest),
     )
 
 -- a step that may be put still may once its frame is open
-pub allowed_opened : (server : Server) (step : Step) → server.frames + 1 < 2 ^ 32 → KeepsFrame server → IsAllowed server step → IsAllowed (opened server) step
-allowed_opened server step few keeps allowed =
+pub allowed_opened : (pictures : List Source) (server : Server) (step : Step) → server.frames + 1 < 2 ^ 32 → KeepsFrame server → IsAllowed pictures server step → IsAllowed pictures (opened server) step
+allowed_opened pictures server step few keeps allowed =
     let o = opened_fine server few keeps in
-    record { numbers = allowed.numbers; held = allowed.held; holds = subst (λ z. Holds allowed.held z.surfaces) (sym o.0.shown) allowed.holds; after = allowed.after; checked = allowed.checked }
+    record {
+      numbers = allowed.numbers;
+      held = allowed.held;
+      holds = holds_passed pictures allowed.held server (opened server) (opening server) o.0 allowed.holds;
+      after = allowed.after;
+      checked = allowed.checked;
+    }
 
 -- and leaves the frame open
-pub put_in_frame : (server : Server) (step : Step) → IsInFrame server → IsAllowed server step → IsInFrame (after_put server step)
-put_in_frame server step within allowed =
-    let fine = step_fine server allowed.held allowed.after step allowed.holds allowed.numbers allowed.checked in
-    let is = after_messages-is server (messages server step) fine.next fine.accepted in
+pub put_in_frame : (pictures : List Source) (server : Server) (step : Step) → IsInFrame server → IsAllowed pictures server step → IsInFrame (after_put pictures server step)
+put_in_frame pictures server step within allowed =
+    let fine = step_fine pictures server allowed.held allowed.after step allowed.holds allowed.numbers allowed.checked in
+    let is = after_put-is pictures server step fine.next fine.accepted in
     ap (λ z. z.state.frame) is ∙ fine.frame ∙ within ∙ ap (λ z. Some z.frames) (sym is)

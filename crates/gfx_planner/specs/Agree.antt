@@ -1,29 +1,55 @@
 -- When a state shows what a script wants, and when a step may be put: this project's own rule.
-use Rattle.std.specs.Prelude.{◌≡◌, ◌⊎◌, ℕ, Option, Some, None, option_map, Ok}
+use Rattle.std.specs.Prelude.{◌≡◌, ◌<◌, ◌^◌, ◌⊎◌, IfSome, ℕ, List, false, Option, Some, None, option_map, Ok}
 use Rattle.std.specs.FinMap as finmap
+use Rattle.std.specs.FinMap.{FinMap}
+use Rattle.std.specs.List.{AllByRecursion}
+use Rattle.std.specs.Ordering.{nat_cmp}
+use Rattle.gfx_bitmap_cache.specs.Slots.{Cached}
+use Rattle.gfx_slot_plan.specs.Plan.{Plan}
 use Rattle.gfx_surface.specs.Picture.{Picture}
 use Rattle.gfx_surface_map.specs.Surfaces.{Surfaces, cells_of}
 use Rattle.gfx_script.specs.declared.held.Sides.{Sides}
-use Rattle.gfx_script.specs.Checks.{Held, held_after}
+use Rattle.gfx_script.specs.declared.picture.Picture.{Picture as Source}
+use Rattle.gfx_script.specs.Checks.{Held, sides_of_all, held_after}
+use Rattle.gfx_script.specs.Pictures.{IsDrawn}
 use Rattle.gfx_script.specs.Script.{IsStep}
 use Rattle.gfx_script.specs.declared.step.Step.{Step}
-use Rattle.gfx_state.specs.State.{State}
+use Rattle.gfx_script.specs.Stock.{Stock}
+use Rattle.gfx_planner.specs.Shelves.{Shelved, Sided}
 use Rattle.gfx_planner.specs.Want.{Wanted}
 use Rattle.gfx_planner.specs.Wire.{Server}
 
--- the state shows what is wanted
-pub record Agree (state : State) (wanted : Wanted) : Type 0 where
-  pub shown : state.shown ≡ wanted.shown
+-- the server's end shows and holds what is wanted
+pub record Agree (server : Server) (wanted : Wanted) : Type 0 where
+  pub shown : server.state.shown ≡ wanted.shown
+  pub slots : server.state.cache.slots ≡ wanted.slots
+  pub plan : server.plan ≡ wanted.plan
 
 -- a picture's sides
 abbrev pub sides_of : Picture → Sides
 sides_of picture = record { width = picture.width; height = picture.height }
 
--- what a script's checks hold of these surfaces
-pub record Holds (held : Held) (surfaces : Surfaces) : Type 0 where
-  pub sides : (id : ℕ) → finmap.get held.sides id ≡ option_map sides_of (finmap.get surfaces id)
-  pub count : finmap.len held.sides ≡ finmap.len surfaces
-  pub cells : held.cells ≡ cells_of surfaces
+-- what a script's checks hold of these surfaces: their sides and how many cells they have
+pub record HoldsSurfaces (held : FinMap nat_cmp Sides) (cells : ℕ) (surfaces : Surfaces) : Type 0 where
+  pub sides : (id : ℕ) → finmap.get held id ≡ option_map sides_of (finmap.get surfaces id)
+  pub count : finmap.len held ≡ finmap.len surfaces
+  pub total : cells ≡ cells_of surfaces
+  -- and the sides fit their fields
+  pub narrow : (id : ℕ) → IfSome (finmap.get held id) (λ sides. (sides.width < 2 ^ 16) × (sides.height < 2 ^ 16))
+
+-- and of these bitmaps, on which a state's own small limits don't bind
+pub record HoldsBitmaps (stock : Stock) (plan : Plan) (cache : Cached) : Type 0 where
+  pub same : stock.plan ≡ plan
+  pub large : cache.small ≡ false
+  pub shelved : Shelved plan cache
+  pub sided : Sided plan.places stock.sides cache.slots
+
+-- what a script's checks hold of the server's end
+pub record Holds (pictures : List Source) (held : Held) (server : Server) : Type 0 where
+  pub drawn : AllByRecursion IsDrawn pictures
+  pub same : held.pictures ≡ sides_of_all pictures
+  pub surfaces : HoldsSurfaces held.sides held.cells server.state.shown.surfaces
+  pub bitmaps : HoldsBitmaps held.stock server.plan server.state.cache
 
 -- the frame that was opened last is open
 abbrev pub IsInFrame : Server → Type 0
@@ -33,15 +59,15 @@ IsInFrame server = server.state.frame ≡ Some server.frames
 abbrev pub KeepsFrame : Server → Type 0
 KeepsFrame server = (server.state.frame ≡ None) ⊎ IsInFrame server
 
--- the step's numbers are within their ranges, and its checks hold on the server's own surfaces
-pub record IsAllowed (server : Server) (step : Step) : Type 0 where
+-- the step's numbers are within their ranges, and its checks hold on what the server's end has
+pub record IsAllowed (pictures : List Source) (server : Server) (step : Step) : Type 0 where
   pub numbers : IsStep step
   pub held : Held
-  pub holds : Holds held server.state.shown.surfaces
+  pub holds : Holds pictures held server
   pub after : Held
   pub checked : held_after held step ≡ Ok after
 
 -- the same of a step that may be missing
-abbrev pub IsAllowedStep : Server → Option Step → Type 0
-IsAllowedStep server None = ⊥
-IsAllowedStep server (Some step) = IsAllowed server step
+abbrev pub IsAllowedStep : List Source → Server → Option Step → Type 0
+IsAllowedStep pictures server None = ⊥
+IsAllowedStep pictures server (Some step) = IsAllowed pictures server step

@@ -1,3 +1,4 @@
+pub mod Shelves
 pub mod Want
 pub mod Wire
 pub mod Agree

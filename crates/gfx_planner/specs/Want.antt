@@ -1,26 +1,43 @@
 -- What a script wants to be seen, in the script's own words: no message is named here. A step's effect
 -- is the formula of the surfaces ([MS-RDPEGFX] 3.3.5 leaves to the server what it draws; the steps are
 -- this project's own).
-use Rattle.std.specs.Prelude.{ℕ, nat_eq, List, fold, Option, Some, None}
-use Rattle.std.specs.FinMap.{get, remove}
+use Rattle.std.specs.Prelude.{ℕ, Bool, nat_eq, List, [], fold, Option, Some, None, Result, Ok}
+use Rattle.std.specs.List.{slice_get}
+use Rattle.std.specs.Ordering.{nat_cmp}
+use Rattle.std.specs.FinMap.{FinMap, empty, get, insert, remove}
 use Rattle.std.specs.Map.{remove_entry}
 use Rattle.indexmap.specs.IndexMap.{insert_entry}
 use Rattle.gfx_base.specs.declared.geometry.Point.{Point}
 use Rattle.gfx_base.specs.declared.geometry.Rect.{Rect}
-use Rattle.gfx_surface.specs.Picture.{Picture, blank}
-use Rattle.gfx_surface_map.specs.Shown.{Shown, nothing_shown, with_picture, copied_to}
+use Rattle.gfx_base.specs.declared.pixel.Pixel.{Pixel}
+use Rattle.gfx_base.specs.declared.refusal.Refusal.{Refusal}
+use Rattle.gfx_base.specs.Geometry.{width_of, height_of}
+use Rattle.gfx_bitmap_cache.specs.Slots.{Entry, entry}
+use Rattle.gfx_slot_plan.specs.declared.kept.Kept.{Kept}
+use Rattle.gfx_slot_plan.specs.Plan.{Plan, plan, keeps, slot_of, touched, forgotten}
+use Rattle.gfx_state.specs.Step.{image_in}
+use Rattle.gfx_surface.specs.Picture.{Picture, blank, drawn, moved, overlaid}
+use Rattle.gfx_surface_map.specs.Shown.{Shown, nothing_shown, with_picture, copied_to, sized, stamped}
 use Rattle.gfx_surface_map.specs.declared.place.Place.{Place}
 use Rattle.gfx_surface_map.specs.Surfaces.{painted}
+use Rattle.gfx_script.specs.declared.picture.Picture.{Picture as Source}
 use Rattle.gfx_script.specs.declared.step.Step.{Step}
-use Rattle.gfx_script.specs.declared.step.Step.TheVariants.{Surface, Delete, Reset, Map, Fill, Copy, Frame}
+use Rattle.gfx_script.specs.declared.step.Step.TheVariants.{Surface, Delete, Reset, Map, Fill, Copy, Keep, Show, Forget, Paint, Frame}
+use Rattle.gfx_script.specs.Patterns.{pixel_of}
+use Rattle.gfx_script.specs.Scripted.{Scripted}
+use Rattle.gfx_planner.specs.Shelves.{emptied}
 
 pub record Wanted : Type 0 where
   -- the surfaces, the output, and what is mapped to it
   pub shown : Shown
+  -- the keys of the bitmaps that are held, and their slots
+  pub plan : Plan
+  -- the bitmaps by their slots
+  pub slots : FinMap nat_cmp Entry
 
--- before the first step
-abbrev pub nothing_wanted : Wanted
-nothing_wanted = record { shown = nothing_shown }
+-- before the first step, under the small limits on bitmaps or the large ones
+abbrev pub nothing_wanted : Bool → Wanted
+nothing_wanted small = record { shown = nothing_shown; plan = plan [] small; slots = empty }
 
 -- one surface is drawn on, where it is there
 unfoldable pub drawn_on : Shown → ℕ → Option Picture → (Picture → Picture) → Shown
@@ -49,16 +66,61 @@ unfoldable pub with_copy : Wanted → Option Picture → ℕ → Rect → List P
 with_copy wanted None to rect points = wanted
 with_copy wanted (Some source) to rect points = drawing wanted to (copied_to source rect points)
 
--- after one more step
-unfoldable pub wanted_after : Wanted → Step → Wanted
-wanted_after wanted (Surface id width height format) = with_surface wanted id (blank width height format)
-wanted_after wanted (Delete id) = record wanted { shown = without_surface wanted.shown id }
-wanted_after wanted (Reset width height) = record wanted { shown = record wanted.shown { output = record { width = width; height = height } } }
-wanted_after wanted (Map id x y) = record wanted { shown = with_map wanted.shown id record { x = x; y = y } }
-wanted_after wanted (Fill id colour rects) = drawing wanted id (λ picture. painted picture rects colour)
-wanted_after wanted (Copy from to rect points) = with_copy wanted (get wanted.shown.surfaces from) to rect points
-wanted_after wanted Frame = wanted
+-- the pixels of a picture, row by row
+unfoldable pub pixels_in : Source → List Pixel
+pixels_in picture = drawn picture.width picture.height (pixel_of picture)
 
--- after these steps
-abbrev pub want : List Step → Wanted
-want steps = fold wanted_after nothing_wanted steps
+-- a picture lies on a surface, its top left corner at a place
+unfoldable pub with_painting : Wanted → Option Source → ℕ → Point → Wanted
+with_painting wanted None id at = wanted
+with_painting wanted (Some picture) id at =
+    drawing wanted id (λ surface. overlaid surface (moved (sized picture.width picture.height) at) (pixels_in picture))
+
+-- a rectangle of a surface, as it stands, is kept as the bitmap of a key, in the slot that is chosen
+-- for it; other bitmaps go for it
+unfoldable pub with_bitmap : Wanted → Option Picture → Result (Plan × Kept) Refusal → ℕ → Rect → Wanted
+with_bitmap wanted (Some picture) (Ok found) key rect = record wanted {
+  plan = found.0;
+  slots = insert (emptied wanted.slots found.1.dropped) found.1.slot (entry key (image_in picture rect));
+}
+with_bitmap wanted picture found key rect = wanted
+
+-- what a slot holds, which may be none
+abbrev pub bitmap_in : FinMap nat_cmp Entry → Option ℕ → Option Entry
+bitmap_in slots None = None
+bitmap_in slots (Some slot) = get slots slot
+
+-- a bitmap is put at points of a surface
+unfoldable pub with_stamps : Wanted → Option Entry → ℕ → List Point → Wanted
+with_stamps wanted None to points = wanted
+with_stamps wanted (Some held) to points =
+    drawing wanted to (stamped (sized held.image.width held.image.height) held.image.pixels points)
+
+-- a slot, which may be none, is emptied
+abbrev pub without_slot : FinMap nat_cmp Entry → Option ℕ → FinMap nat_cmp Entry
+without_slot slots None = slots
+without_slot slots (Some slot) = remove slots slot
+
+-- after one more step
+unfoldable pub wanted_after : List Source → Wanted → Step → Wanted
+wanted_after pictures wanted (Surface id width height format) = with_surface wanted id (blank width height format)
+wanted_after pictures wanted (Delete id) = record wanted { shown = without_surface wanted.shown id }
+wanted_after pictures wanted (Reset width height) = record wanted { shown = record wanted.shown { output = record { width = width; height = height } } }
+wanted_after pictures wanted (Map id x y) = record wanted { shown = with_map wanted.shown id record { x = x; y = y } }
+wanted_after pictures wanted (Fill id colour rects) = drawing wanted id (λ picture. painted picture rects colour)
+wanted_after pictures wanted (Copy from to rect points) = with_copy wanted (get wanted.shown.surfaces from) to rect points
+wanted_after pictures wanted (Keep id key rect) =
+    with_bitmap wanted (get wanted.shown.surfaces id) (keeps wanted.plan key (width_of rect) (height_of rect)) key rect
+wanted_after pictures wanted (Show key to points) = record
+    (with_stamps wanted (bitmap_in wanted.slots (slot_of key wanted.plan.places)) to points)
+    { plan = touched wanted.plan key }
+wanted_after pictures wanted (Forget key) = record wanted {
+  plan = forgotten wanted.plan key;
+  slots = without_slot wanted.slots (slot_of key wanted.plan.places);
+}
+wanted_after pictures wanted (Paint id picture at kind) = with_painting wanted (slice_get pictures picture) id at
+wanted_after pictures wanted Frame = wanted
+
+-- after these steps of a script
+abbrev pub want : Scripted → List Step → Wanted
+want script steps = fold (wanted_after script.pictures) (nothing_wanted script.small) steps

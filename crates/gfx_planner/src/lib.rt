@@ -6,6 +6,7 @@
 #![tactic(auto)]
 
 mod laws;
+mod paint;
 mod planner;
 mod streaming;
 

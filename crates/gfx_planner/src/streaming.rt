@@ -20,15 +20,15 @@ pub fn put_in_frame(
     requires fresh { planner.old.spent ≡ false }
     requires keeps { KeepsFrame planner.old.server }
     requires few { planner.old.server.frames < MOST_FRAMES }
-    requires allowed { IsAllowedStep planner.old.server (step_at script.now.steps step) }
-    ensures { PutsInFrame result planner.old.server planner.new out.old out.new (step_at script.now.steps step) }
+    requires allowed { IsAllowedStep script.now.pictures planner.old.server (step_at script.now.steps step) }
+    ensures { PutsInFrame script.now.pictures result planner.old.server planner.new out.old out.new (step_at script.now.steps step) }
 {
     open_where_none(planner, out)?;
-    planner.put(script, step, out)?;
-    match script.step(step) {
-        Some(step) => close_behind(planner, step, out),
-        None => Ok(()),
-    }
+    let Some(next) = script.step(step) else {
+        return Ok(());
+    };
+    planner.put(script, step, next.kind(), out)?;
+    close_behind(planner, next, out)
 }
 
 fn open_where_none(planner: &mut Planner, out: &mut Bytes) -> Result<(), NoMemory>

@@ -11,12 +11,13 @@ const OPENED: [u8; 22] = [
 
 #[test]
 fn a_frame_is_opened(rt: HostRuntime) -> Result<(), Fail> {
-    let mut planner = Planner::new(rt.alloc());
+    let mut planner = Planner::new(rt.alloc(), false)?;
     let mut out = Bytes::new(rt.alloc());
     assert!(rt; !planner.is_in_frame());
     assert_eq!(rt; planner.open_frame(&mut out)?, 1);
     assert!(rt; planner.is_in_frame());
     assert!(rt; !planner.surfaces().contains(1));
+    assert_eq!(rt; planner.cache().key(1), None);
     assert_eq!(rt; out.as_slice(), OPENED.as_slice());
     Ok(())
 }

@@ -1,17 +1,23 @@
 -- What each message does to the screen.
 use Rattle.std.proofs.Common.{◌≡◌, ℕ, true, false, Some, Result, Ok, Err, refl}
-use Rattle.std.specs.FinMap.{contains_key}
+use Rattle.std.specs.FinMap.{contains_key, get}
 use Rattle.gfx_base.specs.Format.{format_of}
+use Rattle.gfx_base.specs.Geometry.{lies_in, width_of, height_of}
 use Rattle.gfx_base.specs.Results.{and_then}
 use Rattle.gfx_base.specs.Outcome.{Applies}
 use Rattle.gfx_base.specs.declared.answer.Fault.{Fault}
 use Rattle.gfx_base.specs.declared.answer.Fault.TheVariants.{Refused, Memory}
 use Rattle.gfx_base.specs.declared.format.Format.{Format}
+use Rattle.gfx_base.specs.declared.geometry.Rect.{Rect}
 use Rattle.gfx_base.specs.declared.refusal.Refusal.{Refusal}
+use Rattle.gfx_base.specs.declared.refusal.Refusal.TheVariants.{CacheBudget}
+use Rattle.gfx_bitmap_cache.specs.Slots.{takes_slot, has_room, entry}
+use Rattle.gfx_bitmap_cache.proofs.Sound.{stored-full}
+use Rattle.gfx_surface.specs.Picture.{Picture}
 use Rattle.gfx_surface_map.specs.Surfaces.{is_size}
 use Rattle.gfx_surface_map.specs.Shown.{Shown, surface_made}
 use Rattle.gfx_state.specs.State.{State}
-use Rattle.gfx_state.specs.Step.{showing, surface_created}
+use Rattle.gfx_state.specs.Step.{showing, caching, surface_created, image_in, rect_stored}
 
 -- what a call did to what is shown it did to the state
 pub showing_applies : (result : Result (Unit {0}) Fault) (state : State) (shown : Shown) (due : Result Shown Refusal) → Applies result state.shown shown due → Applies result state (record state { shown = shown }) (showing state due)
@@ -25,3 +31,11 @@ pub surface_created_so : (state : State) (id width height byte : ℕ) (format : 
     → surface_created state id width height byte ≡ showing state (surface_made state.shown id width height format)
 unfolding surface_created and_then
 surface_created_so state id width height byte format fresh sides named = rw (fresh, sides, named) refl
+
+-- no room for a rectangle's sides refuses to store it
+pub rect_stored_full : (state : State) (id key slot : ℕ) (rect : Rect) (picture : Picture) → get state.shown.surfaces id ≡ Some picture → takes_slot state.cache.small slot ≡ true
+    → lies_in picture.width picture.height rect ≡ true → has_room state.cache slot (width_of rect) (height_of rect) ≡ false
+    → rect_stored state id key slot rect ≡ Err CacheBudget
+unfolding rect_stored caching and_then
+rect_stored_full state id key slot rect picture found taken inside full =
+    rw (found, taken, inside, stored-full state.cache slot (entry key (image_in picture rect)) taken full) refl

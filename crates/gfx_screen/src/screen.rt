@@ -270,6 +270,10 @@ impl Screen {
         if !lies_on(rect, surface) {
             return Err(Fault::Refused(Refusal::RectOutside));
         }
+        // Before the bitmap is built, as it may be larger than the whole budget.
+        if !self.cache.has_room(slot, rect.width(), rect.height()) {
+            return Err(Fault::Refused(Refusal::CacheBudget));
+        }
         let bitmap = bitmap_of(alloc, surface, rect)?;
         self.cache.store(slot, key, bitmap)
     }

@@ -1,7 +1,7 @@
 //! What no clause says: each public call once with ample memory; and the numbers of the versions.
 use super::*;
 use crate::flags::{has_small_cache, is_confirmed};
-use gfx_base::{Fault, Rect};
+use gfx_base::{Bytes, Fault, Rect, Refusal};
 use gfx_pdu::Pdu;
 use std::alloc::Global;
 use std::test::Fail;
@@ -44,6 +44,41 @@ fn a_frame_with_a_surface_and_a_bitmap(rt: HostRuntime) -> Result<(), Fail> {
     assert_eq!(rt; screen.frame(), Some(7));
     assert_eq!(rt; screen.cache().key(5), Some(77));
     assert!(rt; screen.surfaces().contains(1));
+    Ok(())
+}
+
+#[test]
+fn stores_above_the_budget_are_refused(rt: HostRuntime) -> Result<(), Fail> {
+    let mut screen = Screen::new(rt.alloc());
+    let pdus = [
+        Pdu::CapsConfirm {
+            version: 0x000A_0002,
+            payload: Bytes::from_vec(Vec::from_elem(rt.alloc(), 2, 4)?),
+        },
+        Pdu::CreateSurface {
+            id: 1,
+            width: 2048,
+            height: 2049,
+            format: 0x21,
+        },
+    ];
+    apply_all(&mut screen, rt.alloc(), &pdus)?;
+    let full = Err(Fault::Refused(Refusal::CacheBudget));
+    for (bottom, due) in [(2049, full), (2048, Ok(()))] {
+        let rect = Rect {
+            left: 0,
+            top: 0,
+            right: 2048,
+            bottom,
+        };
+        let store = Pdu::SurfaceToCache {
+            surface: 1,
+            key: 77,
+            slot: 5,
+            rect,
+        };
+        assert_eq!(rt; screen.apply(rt.alloc(), &store), due);
+    }
     Ok(())
 }
 

@@ -2,7 +2,7 @@
 use Rattle.std.proofs.Common.{◌≡◌, suc, ◌-◌, Bool, true, false, List, [], ◌∷◌, length, Option, Some, None, refl, sym, ap, ◌∙◌, arith}
 use Rattle.std.specs.List.{slice_get}
 use Rattle.gfx_script.specs.declared.step.Step.{Step}
-use Rattle.gfx_script.specs.declared.step.Step.TheVariants.{Surface, Delete, Reset, Map, Fill, Copy, Frame}
+use Rattle.gfx_script.specs.declared.step.Step.TheVariants.{Surface, Delete, Reset, Map, Fill, Copy, Keep, Show, Forget, Paint, Frame}
 use Rattle.gfx_script.specs.Script.{is_framed}
 
 -- a last step, where there is one, is a frame
@@ -15,6 +15,10 @@ ends_framed (Some (Reset width height)) = false
 ends_framed (Some (Map id x y)) = false
 ends_framed (Some (Fill id colour rects)) = false
 ends_framed (Some (Copy from to rect points)) = false
+ends_framed (Some (Keep id key rect)) = false
+ends_framed (Some (Show key to points)) = false
+ends_framed (Some (Forget key)) = false
+ends_framed (Some (Paint id picture at kind)) = false
 
 more_steps : (step next : Step) (steps : List Step) → is_framed (step ∷ next ∷ steps) ≡ is_framed (next ∷ steps)
 more_steps (Surface id width height format) next steps = refl
@@ -23,6 +27,10 @@ more_steps (Reset width height) next steps = refl
 more_steps (Map id x y) next steps = refl
 more_steps (Fill id colour rects) next steps = refl
 more_steps (Copy from to rect points) next steps = refl
+more_steps (Keep id key rect) next steps = refl
+more_steps (Show key to points) next steps = refl
+more_steps (Forget key) next steps = refl
+more_steps (Paint id picture at kind) next steps = refl
 more_steps Frame next steps = refl
 
 pub framed_by_last : (steps : List Step) → is_framed steps ≡ ends_framed (slice_get steps (length steps - 1))
@@ -33,6 +41,10 @@ framed_by_last (Reset width height ∷ []) = refl
 framed_by_last (Map id x y ∷ []) = refl
 framed_by_last (Fill id colour rects ∷ []) = refl
 framed_by_last (Copy from to rect points ∷ []) = refl
+framed_by_last (Keep id key rect ∷ []) = refl
+framed_by_last (Show key to points ∷ []) = refl
+framed_by_last (Forget key ∷ []) = refl
+framed_by_last (Paint id picture at kind ∷ []) = refl
 framed_by_last (Frame ∷ []) = refl
 framed_by_last (step ∷ next ∷ steps) =
     let place : length (step ∷ next ∷ steps) - 1 ≡ suc (length (next ∷ steps) - 1) = omega arith in
@@ -48,4 +60,8 @@ not_frame (Reset width height) other = refl
 not_frame (Map id x y) other = refl
 not_frame (Fill id colour rects) other = refl
 not_frame (Copy from to rect points) other = refl
+not_frame (Keep id key rect) other = refl
+not_frame (Show key to points) other = refl
+not_frame (Forget key) other = refl
+not_frame (Paint id picture at kind) other = refl
 not_frame Frame other = absurd (other refl)

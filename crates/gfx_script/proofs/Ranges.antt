@@ -1,5 +1,5 @@
 -- Within which ranges the numbers of a step lie that was read.
-use Rattle.std.proofs.Common.{◌≡◌, ℕ, ◌≤◌, ◌<◌, ◌^◌, Bool, true, false, ◌&&◌, nat_le, if◌then◌else◌, List, [], ◌∷◌, length, Result, Ok, Err, ℤ, pos, negsuc, refl, sym, ◌∙◌, subst, arith}
+use Rattle.std.proofs.Common.{◌≡◌, ℕ, ◌≤◌, ◌<◌, ◌^◌, Bool, true, false, ◌&&◌, nat_le, if◌then◌else◌, List, [], ◌∷◌, length, Some, Result, Ok, Err, ℤ, pos, negsuc, refl, sym, ◌∙◌, subst, arith}
 use Rattle.std.proofs.lemmas.Bool.{and_parts, leb-true}
 use Rattle.std.specs.List.{AllByRecursion}
 use Rattle.std.specs.Option.{ok_or}
@@ -13,12 +13,14 @@ use Rattle.gfx_base.specs.Results.{each, Has}
 use Rattle.gfx_base.proofs.ResultLemmas.{and_then_ok, chain, gives, never, check_ok, length-each}
 use Rattle.gfx_surface.specs.declared.TheConstants.{MOST_SIDE}
 use Rattle.gfx_surface_map.specs.declared.place.TheConstants.{MOST_OUTPUT_SIDE}
-use Rattle.gfx_script.specs.declared.TheConstants.{MOST_RECTS, MOST_NUMBER}
+use Rattle.gfx_script.specs.declared.TheConstants.{MOST_RECTS, MOST_NUMBER, MOST_KEY}
 use Rattle.gfx_script.specs.declared.error.ScriptKind.TheVariants.{Range}
-use Rattle.gfx_script.specs.declared.step.Step.TheVariants.{Surface, Delete, Reset, Map, Fill, Copy, Frame}
+use Rattle.gfx_script.specs.declared.step.Step.TheVariants.{Surface, Delete, Reset, Map, Fill, Copy, Keep, Show, Forget, Paint, Frame}
+use Rattle.gfx_script.specs.Colour.{colour_of}
 use Rattle.gfx_script.specs.Members.{within}
+use Rattle.gfx_script.specs.Pictures.{number_of}
 use Rattle.gfx_script.specs.Places.{coordinate_at, rect_of, rect_in, point_of, point_in, points_of}
-use Rattle.gfx_script.specs.Words.{surface_of, delete_of, reset_of, map_of, colour_of, fill_of, copy_between, copy_of, frame_of, worded, step_of}
+use Rattle.gfx_script.specs.Words.{surface_of, delete_of, reset_of, map_of, fill_of, copy_between, copy_of, keep_of, show_of, forget_of, paint_of, frame_of, worded, step_of}
 use Rattle.gfx_script.specs.Script.{IsStep}
 
 -- both tests passed
@@ -220,6 +222,65 @@ copy_of-fits table =
     chain _ _ IsStep (λ corners found_corners.
     chain _ _ IsStep (λ values found_values. copy_between-fits from to corners values)))))
 
+within_key : (z : ℤ) → Has (within 0 MOST_KEY z) (λ key. key ≤ MOST_KEY)
+within_key z = record { each = λ key is. (within_ok 0 MOST_KEY z key is).1 }
+
+keep_of-fits : (table : Members) → Has (keep_of table) IsStep
+unfolding keep_of
+keep_of-fits table =
+    chain _ _ IsStep (λ known passed.
+    chain _ _ IsStep (λ id found_id.
+    chain _ _ IsStep (λ key found_key.
+    chain _ _ IsStep (λ corners found_corners.
+    chain _ _ IsStep (λ id_in id_fits.
+    chain _ _ IsStep (λ key_in key_fits.
+    chain _ _ IsStep (λ rect rect_fits.
+    gives (Keep id_in key_in rect) IsStep (
+      (within-fits id).each id_in id_fits,
+      (within_key key).each key_in key_fits,
+      (rect_of-fits corners).each rect rect_fits,
+    ))))))))
+
+show_of-fits : (table : Members) → Has (show_of table) IsStep
+unfolding show_of
+show_of-fits table =
+    chain _ _ IsStep (λ known passed.
+    chain _ _ IsStep (λ key found_key.
+    chain _ _ IsStep (λ to found_to.
+    chain _ _ IsStep (λ values found_values.
+    chain _ _ IsStep (λ key_in key_fits.
+    chain _ _ IsStep (λ to_in to_fits.
+    chain _ _ IsStep (λ points points_fit.
+    let fit : ArePoints points = (points_of-fit values).each points points_fit in
+    gives (Show key_in to_in points) IsStep (
+      (within_key key).each key_in key_fits,
+      (within-fits to).each to_in to_fits,
+      fit.0,
+      fit.1,
+      fit.2,
+    ))))))))
+
+forget_of-fits : (table : Members) → Has (forget_of table) IsStep
+unfolding forget_of
+forget_of-fits table =
+    chain _ _ IsStep (λ known passed.
+    chain _ _ IsStep (λ key found_key.
+    chain _ _ IsStep (λ key_in key_fits. gives (Forget key_in) IsStep ((within_key key).each key_in key_fits))))
+
+paint_of-fits : (names : List (List ℕ)) (table : Members) → Has (paint_of names table) IsStep
+unfolding paint_of
+paint_of-fits names table =
+    chain _ _ IsStep (λ known passed.
+    chain _ _ IsStep (λ id found_id.
+    chain _ _ IsStep (λ name found_name.
+    chain _ _ IsStep (λ place found_place.
+    chain _ _ IsStep (λ word found_word.
+    chain _ _ IsStep (λ kind found_kind.
+    chain _ _ IsStep (λ id_in id_fits.
+    chain _ _ IsStep (λ at at_fits.
+    gives (Paint id_in (number_of names name) at (Some kind)) IsStep
+    ((within-fits id).each id_in id_fits, (point_of-fits place).each at at_fits, refl)))))))))
+
 frame_of-fits : (table : Members) → Has (frame_of table) IsStep
 unfolding frame_of
 frame_of-fits table = chain _ _ IsStep (λ known passed. gives Frame IsStep tt)
@@ -228,16 +289,21 @@ if_has : {A E : Type 0} (b : Bool) (x y : Result A E) (P : A → Type 0) → Has
 if_has true x y P one other = one
 if_has false x y P one other = other
 
-worded-fits : (word : List ℕ) (table : Members) → Has (worded word table) IsStep
+worded-fits : (names : List (List ℕ)) (word : List ℕ) (table : Members) → Has (worded names word table) IsStep
 unfolding worded
-worded-fits word table =
+worded-fits names word table =
     if_has _ _ _ IsStep (surface_of-fits table)
     (if_has _ _ _ IsStep (delete_of-fits table)
     (if_has _ _ _ IsStep (reset_of-fits table)
     (if_has _ _ _ IsStep (map_of-fits table)
     (if_has _ _ _ IsStep (fill_of-fits table)
-    (if_has _ _ _ IsStep (copy_of-fits table) (if_has _ _ _ IsStep (frame_of-fits table) (never _ IsStep)))))))
+    (if_has _ _ _ IsStep (copy_of-fits table)
+    (if_has _ _ _ IsStep (keep_of-fits table)
+    (if_has _ _ _ IsStep (show_of-fits table)
+    (if_has _ _ _ IsStep (forget_of-fits table)
+    (if_has _ _ _ IsStep (paint_of-fits names table) (if_has _ _ _ IsStep (frame_of-fits table) (never _ IsStep)))))))))))
 
-pub step_of-fits : (value : Data) → Has (step_of value) IsStep
+-- the numbers of a step that was read are within their ranges
+pub step_of-fits : (names : List (List ℕ)) (value : Data) → Has (step_of names value) IsStep
 unfolding step_of
-step_of-fits value = chain _ _ IsStep (λ table found. chain _ _ IsStep (λ word found_word. worded-fits word table))
+step_of-fits names value = chain _ _ IsStep (λ table found. chain _ _ IsStep (λ word found_word. worded-fits names word table))

@@ -16,13 +16,13 @@ after_these done (Ok rest) = Ok (done ++ rest)
 after_these done (Err e) = Err e
 
 -- one more of what is done
-after_one : {A E : Type 0} (done : List A) (x : A) (r : Result (List A) E) → after_these done (and_then r (λ xs. Ok (x ∷ xs))) ≡ after_these (done ++ x ∷ []) r
+pub after_one : {A E : Type 0} (done : List A) (x : A) (r : Result (List A) E) → after_these done (and_then r (λ xs. Ok (x ∷ xs))) ≡ after_these (done ++ x ∷ []) r
 unfolding and_then
 after_one done x (Ok rest) = ap Ok (sym (append_assoc done (x ∷ []) rest))
 after_one done x (Err e) = refl
 
 -- what stands from a place on
-from_place : {V : Type 0} (vs : List V) (at : ℕ) (v : V) → at < length vs → v ≡ get_or vs at v → drop at vs ≡ v ∷ drop (at + 1) vs
+pub from_place : {V : Type 0} (vs : List V) (at : ℕ) (v : V) → at < length vs → v ≡ get_or vs at v → drop at vs ≡ v ∷ drop (at + 1) vs
 from_place vs at v lt is = drop_more vs at v lt ∙ ap (λ w. w ∷ drop (at + 1) vs) (sym is)
 
 -- a test of each item
@@ -70,39 +70,39 @@ module _ {D A E : Type 0} (f : D → Result A E) where
     each-stop vs at v done r due lt is e so_far =
         so_far ∙ ap (λ ws. after_these done (each f (map view ws))) (from_place vs at v lt is) ∙ each-refused done (view v) (map view (drop (at + 1) vs)) r e
 
-steps-found : (number : ℕ) (held after : Held) (done : List Step) (d : Data) (ds : List Data) (step : Step) → next_step held d ≡ Ok (step, after)
-    → after_these done (steps_of number held (d ∷ ds)) ≡ after_these (done ++ step ∷ []) (steps_of (number + 1) after ds)
+steps-found : (names : List (List ℕ)) (number : ℕ) (held after : Held) (done : List Step) (d : Data) (ds : List Data) (step : Step) → next_step names held d ≡ Ok (step, after)
+    → after_these done (steps_of names number held (d ∷ ds)) ≡ after_these (done ++ step ∷ []) (steps_of names (number + 1) after ds)
 unfolding steps_of
-steps-found number held after done d ds step e =
-    ap (after_these done) (and_then_at (at_step number (next_step held d)) (step, after) _ (ap (at_step number) e))
-    ∙ after_one done step (steps_of (number + 1) after ds)
+steps-found names number held after done d ds step e =
+    ap (after_these done) (and_then_at (at_step number (next_step names held d)) (step, after) _ (ap (at_step number) e))
+    ∙ after_one done step (steps_of names (number + 1) after ds)
 
-steps-none : (number : ℕ) (held : Held) (done : List Step) → after_these done (steps_of number held []) ≡ Ok done
+steps-none : (names : List (List ℕ)) (number : ℕ) (held : Held) (done : List Step) → after_these done (steps_of names number held []) ≡ Ok done
 unfolding steps_of
-steps-none number held done = ap Ok (append-nil done)
+steps-none names number held done = ap Ok (append-nil done)
 
-steps-refused : (number : ℕ) (held : Held) (done : List Step) (d : Data) (ds : List Data) (kind : ScriptKind) → next_step held d ≡ Err kind
-    → after_these done (steps_of number held (d ∷ ds)) ≡ Err record { step = number; kind = kind }
+steps-refused : (names : List (List ℕ)) (number : ℕ) (held : Held) (done : List Step) (d : Data) (ds : List Data) (kind : ScriptKind) → next_step names held d ≡ Err kind
+    → after_these done (steps_of names number held (d ∷ ds)) ≡ Err record { step = number; kind = kind }
 unfolding steps_of
-steps-refused number held done d ds kind e =
-    ap (after_these done) (and_then_refused (at_step number (next_step held d)) record { step = number; kind = kind } _ (ap (at_step number) e))
+steps-refused names number held done d ds kind e =
+    ap (after_these done) (and_then_refused (at_step number (next_step names held d)) record { step = number; kind = kind } _ (ap (at_step number) e))
 
-module _ {V : Type 0} (view : V → Data) where
+module _ {V : Type 0} (view : V → Data) (names : List (List ℕ)) where
   pub steps-next : (vs : List V) (at : ℕ) (v : V) (number : ℕ) (held after : Held) (done : List Step) (step : Step) (due : Result (List Step) Wrong)
-      → at < length vs → v ≡ get_or vs at v → next_step held (view v) ≡ Ok (step, after)
-      → due ≡ after_these done (steps_of number held (map view (drop at vs))) → due ≡ after_these (done ++ step ∷ []) (steps_of (number + 1) after (map view (drop (at + 1) vs)))
+      → at < length vs → v ≡ get_or vs at v → next_step names held (view v) ≡ Ok (step, after)
+      → due ≡ after_these done (steps_of names number held (map view (drop at vs))) → due ≡ after_these (done ++ step ∷ []) (steps_of names (number + 1) after (map view (drop (at + 1) vs)))
   steps-next vs at v number held after done step due lt is e so_far =
-      so_far ∙ ap (λ ws. after_these done (steps_of number held (map view ws))) (from_place vs at v lt is)
-      ∙ steps-found number held after done (view v) (map view (drop (at + 1) vs)) step e
+      so_far ∙ ap (λ ws. after_these done (steps_of names number held (map view ws))) (from_place vs at v lt is)
+      ∙ steps-found names number held after done (view v) (map view (drop (at + 1) vs)) step e
 
   pub steps-end : (vs : List V) (at : ℕ) (number : ℕ) (held : Held) (done : List Step) (due : Result (List Step) Wrong) → length vs ≤ at
-      → due ≡ after_these done (steps_of number held (map view (drop at vs))) → due ≡ Ok done
+      → due ≡ after_these done (steps_of names number held (map view (drop at vs))) → due ≡ Ok done
   steps-end vs at number held done due past so_far =
-      so_far ∙ ap (λ ws. after_these done (steps_of number held (map view ws))) (drop_all at vs past) ∙ steps-none number held done
+      so_far ∙ ap (λ ws. after_these done (steps_of names number held (map view ws))) (drop_all at vs past) ∙ steps-none names number held done
 
   pub steps-stop : (vs : List V) (at : ℕ) (v : V) (number : ℕ) (held : Held) (done : List Step) (kind : ScriptKind) (due : Result (List Step) Wrong)
-      → at < length vs → v ≡ get_or vs at v → next_step held (view v) ≡ Err kind
-      → due ≡ after_these done (steps_of number held (map view (drop at vs))) → due ≡ Err record { step = number; kind = kind }
+      → at < length vs → v ≡ get_or vs at v → next_step names held (view v) ≡ Err kind
+      → due ≡ after_these done (steps_of names number held (map view (drop at vs))) → due ≡ Err record { step = number; kind = kind }
   steps-stop vs at v number held done kind due lt is e so_far =
-      so_far ∙ ap (λ ws. after_these done (steps_of number held (map view ws))) (from_place vs at v lt is)
-      ∙ steps-refused number held done (view v) (map view (drop (at + 1) vs)) kind e
+      so_far ∙ ap (λ ws. after_these done (steps_of names number held (map view ws))) (from_place vs at v lt is)
+      ∙ steps-refused names number held done (view v) (map view (drop (at + 1) vs)) kind e

@@ -3,7 +3,7 @@ use Rattle.std.specs.Prelude.{◌≡◌, ℕ, List, Ok}
 use Rattle.gfx_script.specs.Script.{script_of, IsAccepted}
 use Rattle.gfx_script.specs.Scripted.{Scripted}
 
--- an accepted script has at most so many steps, its numbers lie within their ranges, each step passes its
+-- an accepted script has at most so many pictures and steps, its numbers lie within their ranges, each step passes its
 -- checks, and the last is a frame
 abbrev pub AcceptedIsGood : Type 0
 AcceptedIsGood = (text : List ℕ) (script : Scripted) → script_of text ≡ Ok script → IsAccepted script

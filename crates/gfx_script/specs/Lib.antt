@@ -1,5 +1,10 @@
 pub mod Scripted
 pub mod Kind
+pub mod Patterns
+pub mod Colour
+pub mod Pictures
+pub mod Clients
+pub mod Stock
 pub mod Checks
 pub mod Codes
 pub mod Members

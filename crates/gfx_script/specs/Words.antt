@@ -1,25 +1,26 @@
 -- The tables of the steps of a script: this project's own rule. All faults of kind Key come before
 -- those of kind Range, and both before Pixels.
-use Rattle.std.specs.Prelude.{ℕ, ℤ, ◌&&◌, nat_le, if◌then◌else◌, List, [], ◌∷◌, length, slice_index, Option, Some, None, Result, Ok, Err, codes}
+use Rattle.std.specs.Prelude.{ℕ, ℤ, ◌&&◌, nat_le, if◌then◌else◌, List, [], ◌∷◌, length, Option, Some, None, Result, Ok, Err, codes}
 use Rattle.std.specs.List.{list_all}
 use Rattle.std.specs.Option.{ok_or}
-use Rattle.std.specs.Result.{result_ok}
 use Rattle.std.specs.Str.{bytes_eq}
-use Rattle.hex.specs.Hex.{decode_sized}
 use Rattle.toml.specs.Data.{Data, Members, get_member, as_str, as_table}
 use Rattle.gfx_base.specs.declared.format.Format.{Format}
 use Rattle.gfx_base.specs.declared.format.Format.TheVariants.{Xrgb, Argb}
-use Rattle.gfx_base.specs.declared.pixel.Pixel.{Pixel}
 use Rattle.gfx_base.specs.Results.{◌>>=◌, check, each}
 use Rattle.gfx_surface.specs.declared.TheConstants.{MOST_SIDE}
 use Rattle.gfx_surface_map.specs.declared.place.TheConstants.{MOST_OUTPUT_SIDE}
-use Rattle.gfx_script.specs.declared.TheConstants.{MOST_RECTS, MOST_NUMBER}
+use Rattle.gfx_script.specs.declared.TheConstants.{MOST_RECTS, MOST_NUMBER, MOST_KEY}
 use Rattle.gfx_script.specs.declared.error.ScriptKind.{ScriptKind}
-use Rattle.gfx_script.specs.declared.error.ScriptKind.TheVariants.{Key, Range, Pixels}
+use Rattle.gfx_script.specs.declared.error.ScriptKind.TheVariants.{Key, Range}
+use Rattle.gfx_script.specs.declared.step.Kind.{Kind}
+use Rattle.gfx_script.specs.declared.step.Kind.TheVariants.{Raw}
 use Rattle.gfx_script.specs.declared.step.Step.{Step}
-use Rattle.gfx_script.specs.declared.step.Step.TheVariants.{Surface, Delete, Reset, Map, Fill, Copy, Frame}
+use Rattle.gfx_script.specs.declared.step.Step.TheVariants.{Surface, Delete, Reset, Map, Fill, Copy, Keep, Show, Forget, Paint, Frame}
+use Rattle.gfx_script.specs.Colour.{colour_of}
 use Rattle.gfx_script.specs.Members.{has_only, whole, text, list, within}
-use Rattle.gfx_script.specs.Places.{are_whole, numbers_at, arrays_at, rect_of, rect_in, points_of}
+use Rattle.gfx_script.specs.Pictures.{number_of}
+use Rattle.gfx_script.specs.Places.{are_whole, numbers_at, arrays_at, point_of, rect_of, rect_in, points_of}
 
 -- the format that a word names
 abbrev pub format_named : List ℕ → Result Format ScriptKind
@@ -78,12 +79,6 @@ map_of table = do
   y ← within 0 MOST_OUTPUT_SIDE y
   Ok (Map id x y)
 
--- a colour as eight hexadecimal digits B, G, R, A
-unfoldable pub colour_of : List ℕ → Result Pixel ScriptKind
-colour_of digits = do
-  bytes ← ok_or (result_ok (decode_sized digits 4)) Pixels
-  Ok record { b = slice_index bytes 0; g = slice_index bytes 1; r = slice_index bytes 2; a = slice_index bytes 3 }
-
 -- `fill`
 unfoldable pub fill_of : Members → Result Step ScriptKind
 fill_of table = do
@@ -117,6 +112,55 @@ copy_of table = do
   points ← arrays_at (codes "points") table
   copy_between from to corners points
 
+-- `keep`
+unfoldable pub keep_of : Members → Result Step ScriptKind
+keep_of table = do
+  known ← check Key (has_only (codes "do" ∷ codes "id" ∷ codes "key" ∷ codes "rect" ∷ []) table)
+  id ← whole (codes "id") table
+  key ← whole (codes "key") table
+  corners ← numbers_at (codes "rect") table
+  id ← within 0 MOST_NUMBER id
+  key ← within 0 MOST_KEY key
+  rect ← rect_of corners
+  Ok (Keep id key rect)
+
+-- `show`
+unfoldable pub show_of : Members → Result Step ScriptKind
+show_of table = do
+  known ← check Key (has_only (codes "do" ∷ codes "key" ∷ codes "to" ∷ codes "points" ∷ []) table)
+  key ← whole (codes "key") table
+  to ← whole (codes "to") table
+  points ← arrays_at (codes "points") table
+  key ← within 0 MOST_KEY key
+  to ← within 0 MOST_NUMBER to
+  points ← points_of points
+  Ok (Show key to points)
+
+-- `forget`
+unfoldable pub forget_of : Members → Result Step ScriptKind
+forget_of table = do
+  known ← check Key (has_only (codes "do" ∷ codes "key" ∷ []) table)
+  key ← whole (codes "key") table
+  key ← within 0 MOST_KEY key
+  Ok (Forget key)
+
+-- the kind that a word names: the others aren't built yet
+abbrev pub kind_named : List ℕ → Result Kind ScriptKind
+kind_named word = if bytes_eq word (codes "raw") then Ok Raw else Err Key
+
+-- `paint`, where the pictures have these names
+unfoldable pub paint_of : List (List ℕ) → Members → Result Step ScriptKind
+paint_of names table = do
+  known ← check Key (has_only (codes "do" ∷ codes "id" ∷ codes "picture" ∷ codes "at" ∷ codes "kind" ∷ []) table)
+  id ← whole (codes "id") table
+  name ← text (codes "picture") table
+  place ← numbers_at (codes "at") table
+  word ← text (codes "kind") table
+  kind ← kind_named word
+  id ← within 0 MOST_NUMBER id
+  at ← point_of place
+  Ok (Paint id (number_of names name) at (Some kind))
+
 -- `frame`
 unfoldable pub frame_of : Members → Result Step ScriptKind
 frame_of table = do
@@ -124,20 +168,24 @@ frame_of table = do
   Ok Frame
 
 -- the step of a table with this word
-unfoldable pub worded : List ℕ → Members → Result Step ScriptKind
-worded word table =
+unfoldable pub worded : List (List ℕ) → List ℕ → Members → Result Step ScriptKind
+worded names word table =
     if bytes_eq word (codes "surface") then surface_of table
     else if bytes_eq word (codes "delete") then delete_of table
     else if bytes_eq word (codes "reset") then reset_of table
     else if bytes_eq word (codes "map") then map_of table
     else if bytes_eq word (codes "fill") then fill_of table
     else if bytes_eq word (codes "copy") then copy_of table
+    else if bytes_eq word (codes "keep") then keep_of table
+    else if bytes_eq word (codes "show") then show_of table
+    else if bytes_eq word (codes "forget") then forget_of table
+    else if bytes_eq word (codes "paint") then paint_of names table
     else if bytes_eq word (codes "frame") then frame_of table
     else Err Key
 
--- the step that a value is
-unfoldable pub step_of : Data → Result Step ScriptKind
-step_of value = do
+-- the step that a value is, where the pictures have these names
+unfoldable pub step_of : List (List ℕ) → Data → Result Step ScriptKind
+step_of names value = do
   table ← ok_or (as_table value) Key
   word ← text (codes "do") table
-  worded word table
+  worded names word table

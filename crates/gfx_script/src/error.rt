@@ -13,6 +13,8 @@ pub enum ScriptKind {
     Key,
     /// A number or a length is out of its range.
     Range,
+    /// A picture's name is given twice, or no picture has it.
+    Name,
     /// Hexadecimal text has other digits or another length.
     Pixels,
     /// The surface is there already.
@@ -23,6 +25,10 @@ pub enum ScriptKind {
     SurfaceAbsent,
     /// A rectangle doesn't lie on its surface.
     Outside,
+    /// No bitmap is held under this key.
+    KeyAbsent,
+    /// A bitmap alone is over the budget of all bitmaps.
+    BitmapSize,
     /// The last step is no frame.
     Unframed,
 }
@@ -36,11 +42,14 @@ impl ScriptKind {
             ScriptKind::Toml => "Toml",
             ScriptKind::Key => "Key",
             ScriptKind::Range => "Range",
+            ScriptKind::Name => "Name",
             ScriptKind::Pixels => "Pixels",
             ScriptKind::SurfacePresent => "SurfacePresent",
             ScriptKind::CellBudget => "CellBudget",
             ScriptKind::SurfaceAbsent => "SurfaceAbsent",
             ScriptKind::Outside => "Outside",
+            ScriptKind::KeyAbsent => "KeyAbsent",
+            ScriptKind::BitmapSize => "BitmapSize",
             ScriptKind::Unframed => "Unframed",
         }
     }

@@ -1,18 +1,16 @@
 //! The steps that fill rectangles.
 
-ghost use Rattle.std.specs.Prelude.{◌≡◌};
 ghost use Rattle.toml.specs.View.{table_view};
 ghost use Rattle.gfx_script.specs.Found.{Finds};
-ghost use Rattle.gfx_script.specs.Words.{fill_of, colour_of};
+ghost use Rattle.gfx_script.specs.Words.{fill_of};
 
+use crate::colour::read_colour;
 use crate::error::ScriptKind;
 use crate::flaw::Flaw;
 use crate::members::{check_keys, list, text, whole, within};
 use crate::places::{all_are_whole, read_rects};
 use crate::step::Step;
 use crate::{MOST_NUMBER, MOST_RECTS};
-use gfx_base::Pixel;
-use hex::FromHex;
 use std::alloc::Global;
 use toml::Table;
 
@@ -35,20 +33,4 @@ pub fn read_fill(alloc: Global, table: &Table) -> Result<Step, Flaw>
     let rects = read_rects(alloc, rects)?;
     let colour = read_colour(digits)?;
     Ok(Step::Fill { id, colour, rects })
-}
-
-/// Reads a colour as eight hexadecimal digits B, G, R, A.
-#[tactic(auto, unfolding(crate::specs::Words::colour_of, gfx_base::specs::Results::and_then))]
-fn read_colour(digits: &str) -> Result<Pixel, ScriptKind>
-    ensures { result ≡ colour_of digits.now }
-{
-    match <[u8; 4] as FromHex>::from_hex(digits) {
-        Ok(bytes) => Ok(Pixel {
-            b: bytes[0],
-            g: bytes[1],
-            r: bytes[2],
-            a: bytes[3],
-        }),
-        Err(_) => Err(ScriptKind::Pixels),
-    }
 }

@@ -1,17 +1,17 @@
 //! What the steps so far have left, as far as later ones are checked against it.
 
-ghost use Rattle.std.specs.Prelude.{◌≡◌, ◌-◌, IsTrue, OnOk};
+ghost use Rattle.std.specs.Prelude.{◌≡◌, IsTrue, IfOk, OnOk, slice_get};
 ghost use Rattle.std.specs.FinMap as map;
 ghost use Rattle.std.specs.List.{list_all};
 ghost use Rattle.gfx_base.specs.Geometry.{lies_in};
-ghost use Rattle.gfx_surface_map.specs.Shown.{fit_all};
-ghost use Rattle.gfx_surface_map.specs.Surfaces.{cells};
-ghost use Rattle.gfx_script.specs.Checks.{nothing_held, has_room, with_surface, surface_made, surface_deleted, surface_mapped, rects_filled, rect_copied, held_after};
+ghost use Rattle.gfx_surface_map.specs.Shown.{fit_all, sized};
+ghost use Rattle.gfx_script.specs.Checks.{held_first, has_room, with_surface, without_surface, surface_made, surface_deleted, surface_mapped, rects_filled, rect_copied, rect_kept, key_shown, key_forgotten, picture_painted, held_after};
 ghost use Rattle.gfx_script.specs.Found.{Finds, Shows};
 
 use crate::error::ScriptKind;
 use crate::flaw::Flaw;
 use crate::step::Step;
+use crate::stock::Stock;
 use gfx_base::{NoMemory, Point, Rect};
 use gfx_surface::fits_at;
 use gfx_surface_map::{MOST_CELLS, MOST_SURFACES, count_cells};
@@ -19,18 +19,21 @@ use indexmap::IndexMap;
 use std::alloc::Global;
 use std::marker::Model;
 
-/// The sides of a surface.
+/// The sides of a surface, a picture or a bitmap.
 #[derive(Clone, Copy, Debug, PartialEq, Eq)]
 pub struct Sides {
     pub width: u16,
     pub height: u16,
 }
 
-/// The sides of the surfaces by their ids, and how many cells they have together.
+/// The sides of the pictures, those of the surfaces by their ids, how many cells these have
+/// together, and the bitmaps.
 #[derive(Drop)]
 pub struct Holding {
+    pictures: Vec<Sides>,
     sides: IndexMap<u16, Sides>,
     cells: u32,
+    stock: Stock,
 }
 
 impl Model for Holding {
@@ -49,19 +52,22 @@ impl Model for Holding {
 }
 
 impl Holding {
-    /// What is held before the first step. It takes no memory.
-    pub fn new(alloc: Global) -> Holding
-        ensures { result ≡ nothing_held }
+    /// What is held before the first step, with pictures of these sides.
+    pub fn new(alloc: Global, pictures: Vec<Sides>, small: bool) -> Result<Holding, NoMemory>
+        ensures { IfOk result (λ held. held ≡ held_first pictures.items small) }
     {
-        Holding {
+        let stock = Stock::new(alloc, small)?;
+        Ok(Holding {
+            pictures,
             sides: IndexMap::new(alloc),
             cells: 0,
-        }
+            stock,
+        })
     }
 
     /// Goes on to what is held after a step.
     #[tactic(auto, unfolding(crate::specs::Checks::held_after))]
-    pub fn take(&mut self, step: &Step) -> Result<(), Flaw>
+    pub fn take(&mut self, alloc: Global, step: &Step) -> Result<(), Flaw>
         ensures { Finds (λ _. self.new) result (held_after self.old step.now) }
     {
         match step {
@@ -81,6 +87,15 @@ impl Holding {
                 rect,
                 points,
             } => Ok(self.check_copy(*from, *to, *rect, points.as_slice())?),
+            Step::Keep { id, key, rect } => self.keep_rect(alloc, *id, *key, *rect),
+            Step::Show { key, to, points } => Ok(self.show_key(*key, *to, points.as_slice())?),
+            Step::Forget { key } => Ok(self.forget_key(*key)?),
+            Step::Paint {
+                id,
+                picture,
+                at,
+                ..
+            } => Ok(self.check_paint(*id, *picture, *at)?),
             Step::Frame => Ok(()),
         }
     }
@@ -155,6 +170,68 @@ impl Holding {
         Ok(())
     }
 
+    /// Keeps a rectangle that lies on its surface as the bitmap of a key.
+    #[tactic(auto, unfolding(crate::specs::Checks::rect_kept, gfx_base::specs::Results::and_then))]
+    fn keep_rect(&mut self, alloc: Global, id: u16, key: u64, rect: Rect) -> Result<(), Flaw>
+        ensures { Finds (λ _. self.new) result (rect_kept self.old id key rect) }
+    {
+        let Some(sides) = self.sides_of(id) else {
+            return Err(Flaw::Wrong(ScriptKind::SurfaceAbsent));
+        };
+        if !rect.lies_in(sides.width, sides.height) {
+            return Err(Flaw::Wrong(ScriptKind::Outside));
+        }
+        self.stock.keep(alloc, key, rect.width(), rect.height())
+    }
+
+    /// Shows the bitmap of a key at points that it fits at.
+    #[tactic(auto, unfolding(crate::specs::Checks::key_shown, gfx_base::specs::Results::and_then))]
+    fn show_key(&mut self, key: u64, to: u16, points: &[Point]) -> Result<(), ScriptKind>
+        ensures { Shows (λ _. self.new) result (key_shown self.old key to points.now) }
+    {
+        let bitmap = self.stock.sides_of(key)?;
+        let Some(target) = self.sides_of(to) else {
+            return Err(ScriptKind::SurfaceAbsent);
+        };
+        if !fits_at_all(whole_of(bitmap), points, target.width, target.height) {
+            return Err(ScriptKind::Outside);
+        }
+        self.stock.show(key);
+        Ok(())
+    }
+
+    /// Lets a key go.
+    #[tactic(auto, unfolding(crate::specs::Checks::key_forgotten, gfx_base::specs::Results::and_then))]
+    fn forget_key(&mut self, key: u64) -> Result<(), ScriptKind>
+        ensures { Shows (λ _. self.new) result (key_forgotten self.old key) }
+    {
+        self.stock.forget(key)
+    }
+
+    /// Refuses a picture that doesn't lie on the surface of this id.
+    #[tactic(auto, unfolding(crate::specs::Checks::picture_painted, gfx_base::specs::Results::and_then))]
+    fn check_paint(&self, id: u16, picture: u32, at: Point) -> Result<(), ScriptKind>
+        ensures { Shows (λ _. self.now) result (picture_painted self.now id picture at) }
+    {
+        let Some(sides) = self.sides_of(id) else {
+            return Err(ScriptKind::SurfaceAbsent);
+        };
+        let Some(drawn) = self.picture_sides(picture) else {
+            return Err(ScriptKind::Name);
+        };
+        if !fits_at(whole_of(drawn), at, sides.width, sides.height) {
+            return Err(ScriptKind::Outside);
+        }
+        Ok(())
+    }
+
+    /// The sides of the picture of this number, if there is one.
+    fn picture_sides(&self, picture: u32) -> Option<Sides>
+        ensures { result ≡ slice_get self.now.pictures picture }
+    {
+        self.pictures.get(picture as usize).copied()
+    }
+
     /// Whether a surface has this id.
     fn contains(&self, id: u16) -> bool
         ensures { result ≡ map.contains_key self.now.sides id }
@@ -188,12 +265,24 @@ impl Holding {
 
     /// One surface less, with these sides.
     fn remove(&mut self, id: u16, sides: Sides)
-        ensures { self.new ≡ record { sides = map.remove self.old.sides id; cells = self.old.cells - cells sides.width sides.height } }
+        ensures { self.new ≡ without_surface self.old id sides }
     {
         self.sides.shift_remove(&id);
         self.cells = self
             .cells
             .saturating_sub(count_cells(sides.width, sides.height));
+    }
+}
+
+/// The rectangle of these sides that begins at the top left.
+fn whole_of(sides: Sides) -> Rect
+    ensures { result ≡ sized sides.width sides.height }
+{
+    Rect {
+        left: 0,
+        top: 0,
+        right: sides.width,
+        bottom: sides.height,
     }
 }
 

@@ -6,10 +6,12 @@ ghost use Rattle.std.specs.Str.{bytes_eq};
 ghost use Rattle.gfx_base.specs.Results.{check};
 ghost use Rattle.toml.specs.Data.{get_member};
 ghost use Rattle.toml.specs.View.{table_view, view};
+ghost use Rattle.gfx_script.specs.declared.TheConstants.{MOST_KEY};
 ghost use Rattle.gfx_script.specs.declared.error.ScriptKind.TheVariants.{Key};
 ghost use Rattle.gfx_script.specs.Members as members;
 ghost use Rattle.gfx_script.specs.Found.{Shows};
 
+use crate::MOST_KEY;
 use crate::error::ScriptKind;
 use toml::{Table, Value};
 
@@ -100,6 +102,17 @@ pub fn within(number: i64, least: u16, most: u16) -> Result<u16, ScriptKind>
 {
     match u16::try_from(number) {
         Ok(number) if least <= number && number <= most => Ok(number),
+        _ => Err(ScriptKind::Range),
+    }
+}
+
+/// The key of a bitmap.
+#[tactic(auto, unfolding(crate::specs::Members::within))]
+pub fn key_number(number: i64) -> Result<u64, ScriptKind>
+    ensures { result ≡ members.within 0 MOST_KEY number }
+{
+    match u64::try_from(number) {
+        Ok(number) if number <= MOST_KEY => Ok(number),
         _ => Err(ScriptKind::Range),
     }
 }

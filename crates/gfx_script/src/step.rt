@@ -1,4 +1,14 @@
-use gfx_base::{Format, Pixel, Points, Rect, Rects};
+ghost use Rattle.std.specs.Prelude.{◌≡◌};
+ghost use Rattle.gfx_script.specs.Script.{kind_of};
+
+use gfx_base::{Format, Pixel, Point, Points, Rect, Rects};
+
+/// How a picture is sent.
+#[derive(Clone, Copy, Debug, PartialEq, Eq)]
+pub enum Kind {
+    /// Uncompressed.
+    Raw,
+}
 
 /// One step of a script.
 #[derive(Debug, Drop)]
@@ -38,6 +48,42 @@ pub enum Step {
         rect: Rect,
         points: Points,
     },
+    /// A rectangle of a surface is kept as the bitmap of a key.
+    Keep {
+        id: u16,
+        key: u64,
+        rect: Rect,
+    },
+    /// The bitmap of a key is put at points of a surface.
+    Show {
+        key: u64,
+        to: u16,
+        points: Points,
+    },
+    /// The bitmap of a key is held no more.
+    Forget {
+        key: u64,
+    },
+    /// The picture of this number, counted from 0, is painted with its top left corner at a place.
+    Paint {
+        id: u16,
+        picture: u32,
+        at: Point,
+        kind: Option<Kind>,
+    },
     /// The steps since the last frame are shown.
     Frame,
+}
+
+impl Step {
+    /// The kind of a paint; none of another step.
+    #[tactic(auto, unfolding(crate::specs::Script::kind_of))]
+    pub fn kind(&self) -> Option<Kind>
+        ensures { result ≡ kind_of self.now }
+    {
+        match self {
+            Step::Paint { kind, .. } => *kind,
+            _ => None,
+        }
+    }
 }

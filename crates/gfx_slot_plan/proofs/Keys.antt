@@ -5,7 +5,8 @@ use Rattle.std.specs.Option.{option_map_or}
 use Rattle.std.proofs.lemmas.Bool.Decides.{nat_tests}
 use Rattle.lru.specs.LruCache.{promoted}
 use Rattle.gfx_slot_plan.specs.declared.place.Place.{Place}
-use Rattle.gfx_slot_plan.specs.Plan.{Places, AreKeys, AreSlots, IsPlan, without, left_for, staying, budget}
+use Rattle.gfx_bitmap_cache.specs.Slots.{budget}
+use Rattle.gfx_slot_plan.specs.Plan.{Places, AreKeys, AreSlots, IsPlan, without, left_for, staying}
 use Rattle.gfx_slot_plan.specs.declared.plan.SlotPlan.TheInside.{Inside}
 use Rattle.gfx_slot_plan.specs.Inside.{plan_of, IsSound}
 use Rattle.gfx_slot_plan.proofs.Order.{found_entry}

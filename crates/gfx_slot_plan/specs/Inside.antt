@@ -1,7 +1,8 @@
 -- How a plan is kept.
 use Rattle.std.specs.Prelude.{◌≡◌, ◌-◌, ◌^◌, ◌≤◌}
 use Rattle.gfx_slot_plan.specs.declared.plan.SlotPlan.TheInside.{Inside}
-use Rattle.gfx_slot_plan.specs.Plan.{Plan, AreKeys, plan, last_slot, budget}
+use Rattle.gfx_bitmap_cache.specs.Slots.{last_slot, budget}
+use Rattle.gfx_slot_plan.specs.Plan.{Plan, AreKeys, plan}
 use Rattle.gfx_slot_plan.specs.Tied.{IsTied}
 
 -- the plan of the fields

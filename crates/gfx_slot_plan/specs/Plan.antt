@@ -1,8 +1,7 @@
 -- Which slots the server's keys take, and which keys go for them: this project's own rule, as
 -- [MS-RDPEGFX] leaves the choice to the server (RDPGFX_SURFACE_TO_CACHE_PDU and
--- RDPGFX_EVICT_CACHE_ENTRY_PDU carry it out). The limits are those with and without
--- RDPGFX_CAPS_FLAG_SMALL_CACHE.
-use Rattle.std.specs.Prelude.{◌≡◌, ℕ, zero, suc, ◌+◌, ◌*◌, ◌≤◌, Bool, false, ◌&&◌, not, nat_eq, nat_le, List, [], ◌∷◌, ◌++◌, map, filter, length, take, drop, reverse, slice_index, Option, None, ⊤, Result, Ok, Err, if◌then◌else◌}
+-- RDPGFX_EVICT_CACHE_ENTRY_PDU carry it out). The limits are those of the cache of bitmaps.
+use Rattle.std.specs.Prelude.{◌≡◌, ℕ, zero, suc, ◌+◌, ◌≤◌, Bool, false, ◌&&◌, not, nat_eq, nat_le, List, [], ◌∷◌, ◌++◌, map, filter, length, take, drop, reverse, slice_index, Option, None, ⊤, Result, Ok, Err, if◌then◌else◌}
 use Rattle.std.specs.List.{list_any, sum_by, range_with_len}
 use Rattle.std.specs.Map.{lookup, lookup_entry, remove_entry}
 use Rattle.std.specs.Option.{option_map, option_map_or, option_to_list}
@@ -11,7 +10,7 @@ use Rattle.gfx_base.specs.declared.answer.Fault.TheVariants.{Refused, Memory}
 use Rattle.gfx_base.specs.declared.refusal.Refusal.{Refusal}
 use Rattle.gfx_base.specs.declared.refusal.Refusal.TheVariants.{CacheBudget}
 use Rattle.gfx_base.specs.Results.{◌>>=◌, check}
-use Rattle.gfx_slot_plan.specs.declared.TheConstants.{BYTES_PER_PIXEL, MOST_SLOTS, MOST_SMALL_SLOTS, MOST_BYTES, MOST_SMALL_BYTES}
+use Rattle.gfx_bitmap_cache.specs.Slots.{last_slot, budget, bytes_for}
 use Rattle.gfx_slot_plan.specs.declared.kept.Kept.{Kept}
 use Rattle.gfx_slot_plan.specs.declared.place.Place.{Place}
 use Rattle.gfx_slot_plan.specs.Pool.{is_none}
@@ -29,18 +28,6 @@ plan places small = record { places = places; small = small }
 
 abbrev pub place : ℕ → ℕ → Place
 place slot bytes = record { slot = slot; bytes = bytes }
-
--- the last slot
-abbrev pub last_slot : Bool → ℕ
-last_slot small = if small then MOST_SMALL_SLOTS else MOST_SLOTS
-
--- the most bytes of all bitmaps together
-abbrev pub budget : Bool → ℕ
-budget small = if small then MOST_SMALL_BYTES else MOST_BYTES
-
--- how many bytes a bitmap of these sides takes
-abbrev pub bytes_of : ℕ → ℕ → ℕ
-bytes_of width height = BYTES_PER_PIXEL * (width * height)
 
 -- how many bytes all bitmaps take together
 abbrev pub total : Places → ℕ
@@ -104,8 +91,8 @@ chosen old key bytes =
 -- the same, or the reason against it: the bitmap alone is over the budget
 unfoldable pub keeps : Plan → ℕ → ℕ → ℕ → Result (Plan × Kept) Refusal
 keeps old key width height = do
-  alone ← check CacheBudget (nat_le (bytes_of width height) (budget old.small))
-  Ok (chosen old key (bytes_of width height))
+  alone ← check CacheBudget (nat_le (bytes_for width height) (budget old.small))
+  Ok (chosen old key (bytes_for width height))
 
 -- a held key is the most recently used
 abbrev pub touched : Plan → ℕ → Plan

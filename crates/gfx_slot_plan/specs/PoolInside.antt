@@ -3,7 +3,7 @@ use Rattle.std.specs.Prelude.{◌≡◌, ℕ, ◌+◌, ◌<◌, ◌≤◌, true,
 use Rattle.std.specs.List.{list_any, IsDistinct}
 use Rattle.std.specs.Ordering.{nat_cmp}
 use Rattle.std.specs.BinaryHeap.{heap_items, heap_len, heap_capacity, IsHeap}
-use Rattle.gfx_slot_plan.specs.declared.TheConstants.{MOST_SLOTS}
+use Rattle.gfx_bitmap_cache.specs.declared.limits.TheConstants.{MOST_SLOTS}
 use Rattle.gfx_slot_plan.specs.declared.pool.FreeSlots.TheInside.{Inside}
 use Rattle.gfx_slot_plan.specs.Pool.{Pool, pool}
 

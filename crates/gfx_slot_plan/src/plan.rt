@@ -1,11 +1,11 @@
 ghost use Rattle.std.specs.Prelude.{◌≡◌, [], IfOk};
-ghost use Rattle.gfx_slot_plan.specs.Plan.{plan, IsPlan, keeps, slot_of, touched, forgotten, Chooses, last_slot, budget, bytes_of};
+ghost use Rattle.gfx_slot_plan.specs.Plan.{plan, IsPlan, keeps, slot_of, touched, forgotten, Chooses};
 
 use crate::kept::{Kept, Slots};
 use crate::pool::FreeSlots;
 use crate::shelf::Shelf;
-use crate::{BYTES_PER_PIXEL, MOST_BYTES, MOST_SLOTS, MOST_SMALL_BYTES, MOST_SMALL_SLOTS};
 use gfx_base::{Fault, NoMemory, Refusal};
+use gfx_bitmap_cache::{budget, bytes_for, last_slot};
 use lru::LruCache;
 use std::alloc::Global;
 use std::marker::Model;
@@ -55,7 +55,7 @@ impl SlotPlan {
         ensures chosen { Chooses result self.old self.new (keeps self.old key width height) }
         ensures plan { IsPlan self.new }
     {
-        let bytes = bytes_of(width, height);
+        let bytes = bytes_for(width, height);
         let most = budget(self.small);
         if bytes > most {
             return Err(Fault::Refused(Refusal::CacheBudget));
@@ -68,6 +68,16 @@ impl SlotPlan {
             dropped: Slots::from_vec(dropped),
             slot,
         })
+    }
+
+    /// The slot of a key, if it is held. The order of use stays.
+    pub fn slot(&self, key: u64) -> Option<u16>
+        ensures { result ≡ slot_of key self.now.places }
+    {
+        match self.shelf.places.peek(&key) {
+            Some(place) => Some(place.slot),
+            None => None,
+        }
     }
 
     /// The slot of a key that is shown, which becomes the most recently used. It takes no memory.
@@ -91,25 +101,4 @@ impl SlotPlan {
         self.shelf.release(place);
         Some(place.slot)
     }
-}
-
-/// The last slot.
-fn last_slot(small: bool) -> u16
-    ensures { result ≡ last_slot small }
-{
-    if small { MOST_SMALL_SLOTS } else { MOST_SLOTS }
-}
-
-/// The most bytes of all bitmaps together.
-fn budget(small: bool) -> u64
-    ensures { result ≡ budget small }
-{
-    if small { MOST_SMALL_BYTES } else { MOST_BYTES }
-}
-
-/// How many bytes a bitmap of these sides takes.
-fn bytes_of(width: u16, height: u16) -> u64
-    ensures { result ≡ bytes_of width height }
-{
-    BYTES_PER_PIXEL * (u64::from(width) * u64::from(height))
 }

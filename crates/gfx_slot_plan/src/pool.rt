@@ -2,8 +2,8 @@
 ghost use Rattle.std.specs.Prelude.{◌≡◌, ◌≤◌, ℕ, [], Some, true, false, ◌||◌, ◌&&◌, not, nat_eq, slice_get, IfOk};
 ghost use Rattle.gfx_slot_plan.specs.Pool.{pool, has_free, pool_slots, is_none};
 
-use crate::MOST_SLOTS;
 use gfx_base::NoMemory;
+use gfx_bitmap_cache::MOST_SLOTS;
 use std::alloc::Global;
 use std::cmp::Reverse;
 use std::collections::BinaryHeap;

@@ -14,6 +14,7 @@ fn slot_budget(rt: HostRuntime) -> Result<(), Fail> {
     assert_eq!(rt; second.dropped.as_slice(), [1].as_slice());
     let third = plan.keep(rt.alloc(), 3, 2049, 2048);
     assert!(rt; matches!(&third, Err(Fault::Refused(Refusal::CacheBudget))));
+    assert_eq!(rt; (plan.slot(2), plan.slot(1)), (Some(1), None));
     assert_eq!(rt; plan.touch(2), Some(1));
     Ok(())
 }

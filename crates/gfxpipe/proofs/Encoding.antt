@@ -63,14 +63,14 @@ unread limit m i held text (error.Fault step k) t is =
 unread limit m i held text error.Memory t is = (t.0, (t.3, refl, nothing_gained m held _))
 
 -- the stream was written
-pub written : (limit : ℕ) (i o : Change) (text : List ℕ) (script : Scripted) → TakesText (Ok (Some text)) limit i → script_of text ≡ Ok script → Gains o (stream_of script.steps)
+pub written : (limit : ℕ) (i o : Change) (text : List ℕ) (script : Scripted) → TakesText (Ok (Some text)) limit i → script_of text ≡ Ok script → Gains o (stream_of script script.steps)
     → Encoded (Ok (Judged verdict.Accepted)) limit i o
 written limit i o text script t is gains =
     let f = found limit text (text_of t.0) (Ok script) t.1 t.2 is in
     (t.0, (f.0, t.3, t.4, subst (Gains o) (sym f.1) gains))
 
 -- it was not
-pub not_written : (fault : Trouble) (limit : ℕ) (i o : Change) (text : List ℕ) (script : Scripted) → TakesText (Ok (Some text)) limit i → script_of text ≡ Ok script → WritesStream (Err fault) o (stream_of script.steps)
+pub not_written : (fault : Trouble) (limit : ℕ) (i o : Change) (text : List ℕ) (script : Scripted) → TakesText (Ok (Some text)) limit i → script_of text ≡ Ok script → WritesStream (Err fault) o (stream_of script script.steps)
     → Encoded (Err fault) limit i o
 not_written trouble.Read limit i o text script t is w = absurd w
 not_written trouble.Write limit i o text script t is w =

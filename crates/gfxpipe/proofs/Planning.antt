@@ -11,13 +11,14 @@ use Rattle.gfx_base.proofs.Streams.{Gains_none, Gains-append, FailsAfter-append,
 use Rattle.gfx_base.proofs.ResultLemmas.{and_then_ok}
 use Rattle.gfx_planner.specs.Agree.{KeepsFrame, IsAllowedStep}
 use Rattle.gfx_planner.specs.Planned.{Planned, ready}
-use Rattle.gfx_planner.specs.Stream.{stream, sends, served, serves, stream_of, PutsInFrame}
+use Rattle.gfx_planner.specs.Stream.{stream, sends, served, end_after, stream_of, PutsInFrame}
 use Rattle.gfx_planner.specs.Wire.{Server, at_start}
 use Rattle.gfx_planner.specs.declared.planner.TheConstants.{MOST_FRAMES}
 use Rattle.gfx_planner.proofs.Streams.{along, stream-cons, stream-nil, stream-append}
 use Rattle.gfx_script.specs.Checks.{Held, held_after, held_through}
 use Rattle.gfx_script.specs.Script.{IsAccepted, step_at}
 use Rattle.gfx_script.specs.Scripted.{Scripted}
+use Rattle.gfx_script.specs.declared.picture.Picture.{Picture as Source}
 use Rattle.gfx_script.specs.declared.step.Step.{Step}
 use Rattle.gfx_state.specs.Sending.{sent}
 use Rattle.gfx_state.proofs.Sent.{sent-append}
@@ -72,22 +73,22 @@ is_at steps number step found =
 -- planning ------------------------------------------------------------------------------------------
 
 -- the steps from the first number on, up to this one, are planned
-pub record Planning (steps : List Step) (first number : ℕ) (planned : Planned) (before now : List ℕ) : Type 0 where
+pub record Planning (script : Scripted) (first number : ℕ) (planned : Planned) (before now : List ℕ) : Type 0 where
   pub further : first ≤ number
-  pub within : number ≤ length steps + 1
-  pub planner : planned ≡ ready (serves at_start (take (number - 1) steps))
+  pub within : number ≤ length script.steps + 1
+  pub planner : planned ≡ ready (end_after script (take (number - 1) script.steps))
   pub bytes : List ℕ
   pub gained : now ≡ before ++ bytes
-  pub due : stream_of (take (number - 1) steps) ≡ stream_of (take (first - 1) steps) ++ bytes
+  pub due : stream_of script (take (number - 1) script.steps) ≡ stream_of script (take (first - 1) script.steps) ++ bytes
 
-pub planning_none : (steps : List Step) (first : ℕ) (planned : Planned) (before : List ℕ) → first ≤ length steps → planned ≡ ready (serves at_start (take (first - 1) steps)) → Planning steps first first planned before before
-planning_none steps first planned before there is = record {
+pub planning_none : (script : Scripted) (first : ℕ) (planned : Planned) (before : List ℕ) → first ≤ length script.steps → planned ≡ ready (end_after script (take (first - 1) script.steps)) → Planning script first first planned before before
+planning_none script first planned before there is = record {
   further = omega arith;
   within = omega arith;
   planner = is;
   bytes = [];
   gained = sym (append-nil before);
-  due = sym (append-nil (stream_of (take (first - 1) steps)));
+  due = sym (append-nil (stream_of script (take (first - 1) script.steps)));
 }
 
 held_through_first : (held after : Held) (step : Step) (steps : List Step) → held_through held (step ∷ steps) ≡ Ok after → (next : Held) × (held_after held step ≡ Ok next)
@@ -99,83 +100,87 @@ length-take-most : (n : ℕ) (steps : List Step) → length (take n steps) ≤ n
 length-take-most n steps = omega (arith, length-take n steps)
 
 -- what the planner needs to put the next step
-pub record MayPut (server : Server) (step : Option Step) : Type 0 where
+pub record MayPut (pictures : List Source) (server : Server) (step : Option Step) : Type 0 where
   pub keeps : KeepsFrame server
   pub few : server.frames < MOST_FRAMES
-  pub allowed : IsAllowedStep server step
+  pub allowed : IsAllowedStep pictures server step
 
 pub may_put : (script : Scripted) (number : ℕ) (step : Step) → IsAccepted script → step_at script.steps number ≡ Some step
-    → MayPut (serves at_start (take (number - 1) script.steps)) (step_at script.steps number)
+    → MayPut script.pictures (end_after script (take (number - 1) script.steps)) (step_at script.steps number)
 may_put script number step good found =
     let steps = script.steps in
     let place = is_at steps number step found in
-    let front = take (number - 1) steps in
-    let a = along script front (step ∷ drop number steps) good (sym (take-append-drop (number - 1) steps) ∙ ap (λ z. front ++ z) place.behind) in
-    let c = held_through_first a.held a.last step (drop number steps) a.checked in
+    let front = take (number - 1) script.steps in
+    let a = along script front (step ∷ drop number script.steps) good (sym (take-append-drop (number - 1) steps) ∙ ap (λ z. front ++ z) place.behind) in
+    let c = held_through_first a.held a.last step (drop number script.steps) a.checked in
     let stands = a.streams.stands in
     record {
       keeps = stands.frame;
       few = let most = a.streams.frames in let short = length-take-most (number - 1) steps in let some = place.from in let all = place.within in let limit = good.few in omega arith;
-      allowed = subst (IsAllowedStep (serves at_start front)) (sym found)
+      allowed = subst (IsAllowedStep script.pictures (end_after script front)) (sym found)
           (record { numbers = a.numbers.0; held = a.held; holds = stands.holds; after = c.0; checked = c.1 });
     }
 
-serves-one : (server : Server) (xs : List Step) (step : Step) → serves server (xs ++ step ∷ []) ≡ served (serves server xs) step
-serves-one server xs step = fold-append served server xs (step ∷ [])
+end_after-one : (script : Scripted) (xs : List Step) (step : Step) → end_after script (xs ++ step ∷ []) ≡ served script.pictures (end_after script xs) step
+end_after-one script xs step = fold-append (served script.pictures) (at_start script.small) xs (step ∷ [])
 
-stream-one : (server : Server) (step : Step) → stream server (step ∷ []) ≡ sends server step
-stream-one server step = stream-cons server step [] ∙ ap (λ z. sends server step ++ z) (stream-nil (served server step)) ∙ append-nil (sends server step)
+stream-one : (pictures : List Source) (server : Server) (step : Step) → stream pictures server (step ∷ []) ≡ sends pictures server step
+stream-one pictures server step =
+    stream-cons pictures server step [] ∙ ap (λ z. sends pictures server step ++ z) (stream-nil pictures (served pictures server step)) ∙ append-nil (sends pictures server step)
 
-stream_of-one : (xs : List Step) (step : Step) → stream_of (xs ++ step ∷ []) ≡ stream_of xs ++ sent (sends (serves at_start xs) step)
-stream_of-one xs step =
-    ap sent (stream-append at_start xs (step ∷ []) ∙ ap (λ z. stream at_start xs ++ z) (stream-one (serves at_start xs) step))
-    ∙ sent-append (stream at_start xs) (sends (serves at_start xs) step)
+stream_of-one : (script : Scripted) (xs : List Step) (step : Step) → stream_of script (xs ++ step ∷ []) ≡ stream_of script xs ++ sent (sends script.pictures (end_after script xs) step)
+stream_of-one script xs step =
+    let start = at_start script.small in
+    ap sent (stream-append script.pictures start xs (step ∷ []) ∙ ap (λ z. stream script.pictures start xs ++ z) (stream-one script.pictures (end_after script xs) step))
+    ∙ sent-append (stream script.pictures start xs) (sends script.pictures (end_after script xs) step)
 
-pub planning_more : (steps : List Step) (first number : ℕ) (old new : Planned) (before mid now : List ℕ) (step : Step) (p : Planning steps first number old before mid)
-    → step_at steps number ≡ Some step → PutsInFrame (Ok tt) old.server new mid now (step_at steps number) → Planning steps first (number + 1) new before now
-planning_more steps first number old new before mid now step p found put =
-    let place = is_at steps number step found in
-    let front = take (number - 1) steps in
-    let server = serves at_start front in
-    let did = subst (λ o. PutsInFrame (Ok tt) old.server new mid now o) found put in
+pub planning_more : (script : Scripted) (first number : ℕ) (old new : Planned) (before mid now : List ℕ) (step : Step) (p : Planning script first number old before mid)
+    → step_at script.steps number ≡ Some step → PutsInFrame script.pictures (Ok tt) old.server new mid now (step_at script.steps number) → Planning script first (number + 1) new before now
+planning_more script first number old new before mid now step p found put =
+    let place = is_at script.steps number step found in
+    let front = take (number - 1) script.steps in
+    let server = end_after script front in
+    let did = subst (λ o. PutsInFrame script.pictures (Ok tt) old.server new mid now o) found put in
     let next : number + 1 - 1 ≡ number = omega arith in
-    let grown : take (number + 1 - 1) steps ≡ front ++ step ∷ [] = ap (λ n. take n steps) next ∙ place.front in
+    let grown : take (number + 1 - 1) script.steps ≡ front ++ step ∷ [] = ap (λ n. take n script.steps) next ∙ place.front in
     record {
       further = let low = p.further in omega arith;
       within = let all = place.within in omega arith;
-      planner = did.0 ∙ ap (λ z. ready (served z.server step)) p.planner ∙ ap ready (sym (serves-one at_start front step) ∙ ap (serves at_start) (sym grown));
-      bytes = p.bytes ++ sent (sends server step);
-      gained = did.1 ∙ (λ i. p.gained i ++ sent (sends ((p.planner i).server) step)) ∙ append_assoc before p.bytes (sent (sends server step));
-      due = ap stream_of grown ∙ stream_of-one front step ∙ ap (λ z. z ++ sent (sends server step)) p.due ∙ append_assoc (stream_of (take (first - 1) steps)) p.bytes (sent (sends server step));
+      planner = did.0 ∙ ap (λ z. ready (served script.pictures z.server step)) p.planner ∙ ap ready (sym (end_after-one script front step) ∙ ap (end_after script) (sym grown));
+      bytes = p.bytes ++ sent (sends script.pictures server step);
+      gained = did.1 ∙ (λ i. p.gained i ++ sent (sends script.pictures ((p.planner i).server) step)) ∙ append_assoc before p.bytes (sent (sends script.pictures server step));
+      due = ap (stream_of script) grown ∙ stream_of-one script front step ∙ ap (λ z. z ++ sent (sends script.pictures server step)) p.due ∙ append_assoc (stream_of script (take (first - 1) script.steps)) p.bytes (sent (sends script.pictures server step));
     }
 
-pub planned_to : (steps : List Step) (first number : ℕ) (planned : Planned) (before now : List ℕ) → Planning steps first number planned before now → first < number → Plans steps first number planned before now
-planned_to steps first number planned before now p further = record { further = further; within = p.within; planner = p.planner; bytes = p.bytes; gained = p.gained; due = p.due }
+pub planned_to : (script : Scripted) (first number : ℕ) (planned : Planned) (before now : List ℕ) → Planning script first number planned before now → first < number → Plans script first number planned before now
+planned_to script first number planned before now p further = record { further = further; within = p.within; planner = p.planner; bytes = p.bytes; gained = p.gained; due = p.due }
 
 -- writing -------------------------------------------------------------------------------------------
 
 -- the stream of the steps before a number is written
-pub record Streaming (steps : List Step) (next : ℕ) (planned : Planned) (frame : List ℕ) (o : Change) : Type 0 where
+pub record Streaming (script : Scripted) (next : ℕ) (planned : Planned) (frame : List ℕ) (o : Change) : Type 0 where
   pub from : 1 ≤ next
-  pub within : next ≤ length steps + 1
-  pub planner : planned ≡ ready (serves at_start (take (next - 1) steps))
+  pub within : next ≤ length script.steps + 1
+  pub planner : planned ≡ ready (end_after script (take (next - 1) script.steps))
   pub empty : frame ≡ []
-  pub gains : Gains o (stream_of (take (next - 1) steps))
+  pub gains : Gains o (stream_of script (take (next - 1) script.steps))
 
-pub streaming_none : (steps : List Step) (m : ℕ) (held : Option (List ℕ)) → Streaming steps 1 (ready at_start) [] (change m m held held)
+pub streaming_none : (script : Scripted) (m : ℕ) (held : Option (List ℕ)) → Streaming script 1 (ready (at_start script.small)) [] (change m m held held)
 unfolding stream sent
-streaming_none steps m held = record { from = omega arith; within = omega arith; planner = refl; empty = refl; gains = Gains_none m held }
+streaming_none script m held = record { from = omega arith; within = omega arith; planner = refl; empty = refl; gains = Gains_none m held }
 
 -- the stream of a front, and what follows
-due_behind : (steps : List Step) (k : ℕ) → stream_of steps ≡ stream_of (take k steps) ++ sent (stream (serves at_start (take k steps)) (drop k steps))
-due_behind steps k =
-    ap stream_of (sym (take-append-drop k steps)) ∙ ap sent (stream-append at_start (take k steps) (drop k steps))
-    ∙ sent-append (stream at_start (take k steps)) (stream (serves at_start (take k steps)) (drop k steps))
+due_behind : (script : Scripted) (k : ℕ) → stream_of script script.steps
+    ≡ stream_of script (take k script.steps) ++ sent (stream script.pictures (end_after script (take k script.steps)) (drop k script.steps))
+due_behind script k =
+    let start = at_start script.small in
+    ap (stream_of script) (sym (take-append-drop k script.steps)) ∙ ap sent (stream-append script.pictures start (take k script.steps) (drop k script.steps))
+    ∙ sent-append (stream script.pictures start (take k script.steps)) (stream script.pictures (end_after script (take k script.steps)) (drop k script.steps))
 
 -- a frame was planned and written
-pub streaming_more : (steps : List Step) (next further : ℕ) (old new : Planned) (frame bytes : List ℕ) (x y z : ℕ) (a b d : Option (List ℕ)) → Streaming steps next old frame (change x y a b)
-    → Plans steps next further new frame bytes → Gains (change y z b d) bytes → Streaming steps further new [] (change x z a d)
-streaming_more steps next further old new frame bytes x y z a b d s p g =
+pub streaming_more : (script : Scripted) (next further : ℕ) (old new : Planned) (frame bytes : List ℕ) (x y z : ℕ) (a b d : Option (List ℕ)) → Streaming script next old frame (change x y a b)
+    → Plans script next further new frame bytes → Gains (change y z b d) bytes → Streaming script further new [] (change x z a d)
+streaming_more script next further old new frame bytes x y z a b d s p g =
     let wrote : bytes ≡ p.bytes = p.gained ∙ ap (λ f. f ++ p.bytes) s.empty in
     record {
       from = let up = p.further in let low = s.from in omega arith;
@@ -183,36 +188,36 @@ streaming_more steps next further old new frame bytes x y z a b d s p g =
       planner = p.planner;
       empty = refl;
       gains = subst (Gains (change x z a d)) (sym p.due)
-          (Gains-append x y z a b d (stream_of (take (next - 1) steps)) p.bytes s.gains (subst (Gains (change y z b d)) wrote g));
+          (Gains-append x y z a b d (stream_of script (take (next - 1) script.steps)) p.bytes s.gains (subst (Gains (change y z b d)) wrote g));
     }
 
 -- a frame was planned, and could not be written whole
-pub streaming_fails : (steps : List Step) (next further : ℕ) (old new : Planned) (frame bytes : List ℕ) (x y z : ℕ) (a b d : Option (List ℕ)) → Streaming steps next old frame (change x y a b)
-    → Plans steps next further new frame bytes → FailsAfter (change y z b d) bytes → FailsAfter (change x z a d) (stream_of steps)
-streaming_fails steps next further old new frame bytes x y z a b d s p f =
+pub streaming_fails : (script : Scripted) (next further : ℕ) (old new : Planned) (frame bytes : List ℕ) (x y z : ℕ) (a b d : Option (List ℕ)) → Streaming script next old frame (change x y a b)
+    → Plans script next further new frame bytes → FailsAfter (change y z b d) bytes → FailsAfter (change x z a d) (stream_of script script.steps)
+streaming_fails script next further old new frame bytes x y z a b d s p f =
     let wrote : bytes ≡ p.bytes = p.gained ∙ ap (λ h. h ++ p.bytes) s.empty in
-    let front : FailsAfter (change x z a d) (stream_of (take (further - 1) steps)) = subst (FailsAfter (change x z a d)) (sym p.due)
-    (FailsAfter-append x y z a b d (stream_of (take (next - 1) steps)) p.bytes s.gains (subst (FailsAfter (change y z b d)) wrote f)) in
-    subst (FailsAfter (change x z a d)) (sym (due_behind steps (further - 1)))
-    (FailsAfter_more (change x z a d) (stream_of (take (further - 1) steps)) (sent (stream (serves at_start (take (further - 1) steps)) (drop (further - 1) steps))) front)
+    let front : FailsAfter (change x z a d) (stream_of script (take (further - 1) script.steps)) = subst (FailsAfter (change x z a d)) (sym p.due)
+    (FailsAfter-append x y z a b d (stream_of script (take (next - 1) script.steps)) p.bytes s.gains (subst (FailsAfter (change y z b d)) wrote f)) in
+    subst (FailsAfter (change x z a d)) (sym (due_behind script (further - 1)))
+    (FailsAfter_more (change x z a d) (stream_of script (take (further - 1) script.steps)) (sent (stream script.pictures (end_after script (take (further - 1) script.steps)) (drop (further - 1) script.steps))) front)
 
 -- no memory is left for the next frame
-pub streaming_starved : (steps : List Step) (next : ℕ) (old : Planned) (frame : List ℕ) (o : Change) → Streaming steps next old frame o → (o.now ≡ o.before) × GainsPart o (stream_of steps)
-streaming_starved steps next old frame o s = (
+pub streaming_starved : (script : Scripted) (next : ℕ) (old : Planned) (frame : List ℕ) (o : Change) → Streaming script next old frame o → (o.now ≡ o.before) × GainsPart o (stream_of script script.steps)
+streaming_starved script next old frame o s = (
   s.gains.count,
   record {
-    sent = stream_of (take (next - 1) steps);
-    rest = sent (stream (serves at_start (take (next - 1) steps)) (drop (next - 1) steps));
-    cut = due_behind steps (next - 1);
+    sent = stream_of script (take (next - 1) script.steps);
+    rest = sent (stream script.pictures (end_after script (take (next - 1) script.steps)) (drop (next - 1) script.steps));
+    cut = due_behind script (next - 1);
     gained = s.gains.gained;
   },
 )
 
 -- all frames are written
-pub streaming_ends : (steps : List Step) (next : ℕ) (old : Planned) (frame : List ℕ) (o : Change) → Streaming steps next old frame o → step_at steps next ≡ None → Gains o (stream_of steps)
-streaming_ends steps next old frame o s none =
-    let past = is_past steps next s.from none in
-    subst (λ z. Gains o (stream_of z)) (take_all (next - 1) steps (omega arith)) s.gains
+pub streaming_ends : (script : Scripted) (next : ℕ) (old : Planned) (frame : List ℕ) (o : Change) → Streaming script next old frame o → step_at script.steps next ≡ None → Gains o (stream_of script script.steps)
+streaming_ends script next old frame o s none =
+    let past = is_past script.steps next s.from none in
+    subst (λ z. Gains o (stream_of script z)) (take_all (next - 1) script.steps (omega arith)) s.gains
 
 -- a step that is there
 pub is_there : (steps : List Step) (number : ℕ) → is_some (step_at steps number) ≡ true → number ≤ length steps

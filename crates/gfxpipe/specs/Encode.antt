@@ -3,9 +3,7 @@ use Rattle.std.specs.Prelude.{◌≡◌, ℕ, ◌+◌, ◌-◌, ◌<◌, ◌≤�
 use Rattle.gfx_base.specs.Stream.{Change, Gains, GainsPart, FailsAfter}
 use Rattle.gfx_base.specs.declared.answer.NoMemory.{NoMemory}
 use Rattle.gfx_planner.specs.Planned.{Planned, ready}
-use Rattle.gfx_planner.specs.Stream.{serves, stream_of}
-use Rattle.gfx_planner.specs.Wire.{at_start}
-use Rattle.gfx_script.specs.declared.step.Step.{Step}
+use Rattle.gfx_planner.specs.Stream.{end_after, stream_of}
 use Rattle.gfx_script.specs.Script.{Wrong, script_of}
 use Rattle.gfx_script.specs.Scripted.{Scripted}
 use Rattle.gfx_script.specs.declared.error.ScriptError.{ScriptError}
@@ -27,7 +25,7 @@ verdict_of limit bytes = if nat_le (length bytes) limit then verdict_by (script_
 
 -- the stream that is written for it: none unless it is accepted
 abbrev pub stream_by : Result Scripted Wrong → List ℕ
-stream_by (Ok script) = stream_of script.steps
+stream_by (Ok script) = stream_of script script.steps
 stream_by (Err wrong) = []
 
 unfoldable pub encoded : ℕ → List ℕ → List ℕ
@@ -46,15 +44,15 @@ WritesStream (Err trouble.Memory) o due = (o.now ≡ o.before) × GainsPart o du
 WritesStream (Err trouble.Read) o due = ⊥
 
 -- the planner has gone on by the steps from one number up to another, and their stream was put out
-pub record Plans (steps : List Step) (first next : ℕ) (planned : Planned) (before now : List ℕ) : Type 0 where
+pub record Plans (script : Scripted) (first next : ℕ) (planned : Planned) (before now : List ℕ) : Type 0 where
   pub further : first < next
-  pub within : next ≤ length steps + 1
-  pub planner : planned ≡ ready (serves at_start (take (next - 1) steps))
+  pub within : next ≤ length script.steps + 1
+  pub planner : planned ≡ ready (end_after script (take (next - 1) script.steps))
   pub bytes : List ℕ
   pub gained : now ≡ before ++ bytes
-  pub due : stream_of (take (next - 1) steps) ≡ stream_of (take (first - 1) steps) ++ bytes
+  pub due : stream_of script (take (next - 1) script.steps) ≡ stream_of script (take (first - 1) script.steps) ++ bytes
 
 -- what planning a frame answers
-abbrev pub PlansFrame : Result ℕ NoMemory → List Step → ℕ → Planned → List ℕ → List ℕ → Type 0
-PlansFrame (Ok next) steps first planned before now = Plans steps first next planned before now
-PlansFrame (Err e) steps first planned before now = Unit {0}
+abbrev pub PlansFrame : Result ℕ NoMemory → Scripted → ℕ → Planned → List ℕ → List ℕ → Type 0
+PlansFrame (Ok next) script first planned before now = Plans script first next planned before now
+PlansFrame (Err e) script first planned before now = Unit {0}

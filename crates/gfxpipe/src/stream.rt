@@ -2,8 +2,7 @@
 ghost use Rattle.std.specs.Prelude.{◌≡◌, ◌-◌, ◌≤◌, length, take};
 ghost use Rattle.gfx_base.specs.Stream.{change};
 ghost use Rattle.gfx_planner.specs.Planned.{ready};
-ghost use Rattle.gfx_planner.specs.Stream.{serves, stream_of};
-ghost use Rattle.gfx_planner.specs.Wire.{at_start};
+ghost use Rattle.gfx_planner.specs.Stream.{end_after, stream_of};
 ghost use Rattle.gfx_script.specs.Script.{IsAccepted};
 ghost use Rattle.gfxpipe.specs.Encode.{WritesStream, PlansFrame};
 
@@ -17,9 +16,9 @@ use std::alloc::Global;
 pub fn write_stream<O: Sink>(alloc: Global, script: &Script, out: &mut O) -> Result<(), Trouble>
     requires { IsAccepted script.now }
     ensures { WritesStream result (change (O.faults out.old) (O.faults out.new) (O.held out.old) (O.held out.new))
-        (stream_of script.now.steps) }
+        (stream_of script.now script.now.steps) }
 {
-    let mut planner = Planner::new(alloc);
+    let mut planner = Planner::new(alloc, script.small())?;
     let mut frame = Bytes::new(alloc);
     let mut next = 1;
     'frames: while script.step(next).is_some() {
@@ -42,8 +41,8 @@ fn plan_frame(
     requires accepted { IsAccepted script.now }
     requires from { 1 ≤ first }
     requires there { first ≤ length script.now.steps }
-    requires planned { planner.old ≡ ready (serves at_start (take (first - 1) script.now.steps)) }
-    ensures { PlansFrame result script.now.steps first planner.new out.old out.new }
+    requires planned { planner.old ≡ ready (end_after script.now (take (first - 1) script.now.steps)) }
+    ensures { PlansFrame result script.now first planner.new out.old out.new }
 {
     let mut number = first;
     'steps: while let Some(step) = script.step(number) {

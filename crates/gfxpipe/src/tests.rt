@@ -326,3 +326,122 @@ fn frames_are_written_one_by_one(rt: HostRuntime) -> Result<(), Fail> {
     }
     Ok(())
 }
+
+/// A bitmap that is kept and shown.
+const KEPT: [u8; 119] = [
+    // StartFrame 1.
+    0x12, 0, 0, 0, 0xe0, 4, 0xb, 0, 0, 0, 0x10, 0, 0, 0, 0, 0, 0, 0, 1, 0, 0, 0,
+    // CreateSurface 1 of 2 by 1, XRGB.
+    0x11, 0, 0, 0, 0xe0, 4, 9, 0, 0, 0, 0xf, 0, 0, 0, 1, 0, 2, 0, 1, 0, 0x20,
+    // SurfaceToCache: all of it is key 5 in slot 1.
+    0x1e, 0, 0, 0, 0xe0, 4, 6, 0, 0, 0, 0x1c, 0, 0, 0, 1, 0, 5, 0, 0, 0, 0, 0, 0, 0, 1, 0, 0, 0, 0,
+    0, 2, 0, 1, 0,
+    // CacheToSurface: slot 1 at (0, 0).
+    0x14, 0, 0, 0, 0xe0, 4, 7, 0, 0, 0, 0x12, 0, 0, 0, 1, 0, 1, 0, 1, 0, 0, 0, 0, 0,
+    // EndFrame 1.
+    0xe, 0, 0, 0, 0xe0, 4, 0xc, 0, 0, 0, 0xc, 0, 0, 0, 1, 0, 0, 0,
+];
+
+/// The script of that stream.
+const KEPT_SCRIPT: &str = r#"step = [
+    { do = "surface", id = 1, width = 2, height = 1 },
+    { do = "keep", id = 1, key = 5, rect = [0, 0, 2, 1] },
+    { do = "show", key = 5, to = 1, points = [[0, 0]] },
+    { do = "frame" },
+]"#;
+
+/// A picture that is painted.
+const PAINTED: [u8; 100] = [
+    // StartFrame 1.
+    0x12, 0, 0, 0, 0xe0, 4, 0xb, 0, 0, 0, 0x10, 0, 0, 0, 0, 0, 0, 0, 1, 0, 0, 0,
+    // CreateSurface 1 of 3 by 1, ARGB.
+    0x11, 0, 0, 0, 0xe0, 4, 9, 0, 0, 0, 0xf, 0, 0, 0, 1, 0, 3, 0, 1, 0, 0x21,
+    // WireToSurface1: two pixels at (1, 0), uncompressed, alpha as it is.
+    0x23, 0, 0, 0, 0xe0, 4, 1, 0, 0, 0, 0x21, 0, 0, 0, 1, 0, 0, 0, 0x21, 1, 0, 0, 0, 3, 0, 1, 0, 8,
+    0, 0, 0, 1, 2, 3, 4, 5, 6, 7, 8,
+    // EndFrame 1.
+    0xe, 0, 0, 0, 0xe0, 4, 0xc, 0, 0, 0, 0xc, 0, 0, 0, 1, 0, 0, 0,
+];
+
+/// The script of that stream.
+const PAINTED_SCRIPT: &str =
+    r#"picture = [{ name = "two", width = 2, height = 1, pattern = "hex", pixels = "0102030405060708" }]
+step = [
+    { do = "surface", id = 1, width = 3, height = 1, format = "argb" },
+    { do = "paint", id = 1, picture = "two", at = [1, 0], kind = "raw" },
+    { do = "frame" },
+]"#;
+
+/// The picture's alpha stays on a surface that keeps it.
+#[test]
+fn bitmaps_and_pictures(rt: HostRuntime) -> Result<(), Fail> {
+    let table: [(&str, &[u8], &str); 2] = [
+        (KEPT_SCRIPT, &KEPT, BLACK),
+        (
+            PAINTED_SCRIPT,
+            &PAINTED,
+            "surface 1 3x1 argb\n000000000102030405060708\n",
+        ),
+    ];
+    for (script, stream, text) in table {
+        let encoded = run_on(rt.alloc(), "encode", script.as_bytes(), &[], &[])?;
+        assert_eq!(rt; encoded.out.held(), stream);
+        let rendered = render(rt.alloc(), stream, &[], &[])?;
+        assert_eq!(rt; rendered.out.held(), text.as_bytes());
+    }
+    Ok(())
+}
+
+/// What keeping one pixel under key 2 sends where slot 1 goes for it, and the end of the frame.
+const KEPT_IN_SLOT_1: [u8; 68] = [
+    // EvictCacheEntry 1.
+    0xc, 0, 0, 0, 0xe0, 4, 8, 0, 0, 0, 0xa, 0, 0, 0, 1, 0,
+    // SurfaceToCache: one pixel is key 2 in slot 1.
+    0x1e, 0, 0, 0, 0xe0, 4, 6, 0, 0, 0, 0x1c, 0, 0, 0, 1, 0, 2, 0, 0, 0, 0, 0, 0, 0, 1, 0, 0, 0, 0,
+    0, 1, 0, 1, 0,
+    // EndFrame 1.
+    0xe, 0, 0, 0, 0xe0, 4, 0xc, 0, 0, 0, 0xc, 0, 0, 0, 1, 0, 0, 0,
+];
+
+const SMALL_CLIENT: &str = "client = [{ version = \"10\", small = true }]\n";
+
+/// The largest bitmap that a small cache holds, and one more.
+const BYTES_SCRIPT: &str = r#"step = [
+    { do = "surface", id = 1, width = 2048, height = 2048 },
+    { do = "keep", id = 1, key = 1, rect = [0, 0, 2048, 2048] },
+    { do = "keep", id = 1, key = 2, rect = [0, 0, 1, 1] },
+    { do = "frame" },
+]"#;
+
+/// A script that fills all slots of a small cache, and keeps one bitmap more.
+fn slots_script(alloc: Global) -> Result<String, Fail> {
+    let mut script = String::from_str(
+        alloc,
+        "step = [{ do = \"surface\", id = 1, width = 1, height = 1 },",
+    )?;
+    for number in 0..4097u16 {
+        let key = if number < 4096 { number + 3 } else { 2 };
+        script.push_str("{ do = \"keep\", id = 1, rect = [0, 0, 1, 1], key = ")?;
+        script.push_str(itoa::Buffer::new().format(key))?;
+        script.push_str(" },")?;
+    }
+    script.push_str("{ do = \"frame\" }]")?;
+    Ok(script)
+}
+
+#[test]
+fn a_full_small_cache_drops_its_first_bitmap(rt: HostRuntime) -> Result<(), Fail> {
+    let alloc = rt.alloc();
+    let slots = slots_script(alloc)?;
+    for steps in [BYTES_SCRIPT, slots.as_str()] {
+        let mut script = String::from_str(alloc, SMALL_CLIENT)?;
+        script.push_str(steps)?;
+        let mut input = SliceSource::new(script.as_bytes(), &[]);
+        let mut out = VecSink::new(alloc, 200_000, &[])?;
+        let mut err = VecSink::new(alloc, 64, &[])?;
+        let status = run(alloc, &["encode"], &mut input, &mut out, &mut err);
+        assert_eq!(rt; status, Status::Done);
+        assert!(rt; out.held().ends_with(&KEPT_IN_SLOT_1));
+    }
+    Ok(())
+}

@@ -11,7 +11,7 @@ use Rattle.gfx_planner.proofs.streaming.put_in_frame.Goals as goal
 pub returns-in_err-open_where_none : goal.returns-in_err-open_where_none
 returns-in_err-open_where_none c =
     let p = err_from_is_err_and c.from_residual.result c.from_residual.ensures.1 in
-    rw p.1 (front_fails p.0 c.args.planner.now.server c.open_where_none.new.planner c.args.out.now c.open_where_none.new.out _ c.requires.allowed c.in_err-open_where_none.ensures)
+    rw p.1 (front_fails c.args.script.now.pictures p.0 c.args.planner.now.server c.open_where_none.new.planner c.args.out.now c.open_where_none.new.out _ c.requires.allowed c.in_err-open_where_none.ensures)
 
 pub put-requires-clause-inside : goal.put-requires-clause-inside
 put-requires-clause-inside c =
@@ -21,12 +21,12 @@ put-requires-clause-inside c =
 pub put-requires-clause-allowed : goal.put-requires-clause-allowed
 put-requires-clause-allowed c =
     let few : c.args.planner.now.server.frames + 1 < 2 ^ 32 = search rules in
-    subst (λ p. IsAllowedStep p.server (step_at c.args.script.now.steps c.args.step)) (sym c.in_ok-open_where_none.ensures.0) (allowed_in_frame c.args.planner.now.server (step_at c.args.script.now.steps c.args.step) few c.requires.keeps c.requires.allowed)
+    subst (λ p. IsAllowedStep c.args.script.now.pictures p.server (step_at c.args.script.now.steps c.args.step)) (sym c.in_ok-open_where_none.ensures.0) (allowed_in_frame c.args.script.now.pictures c.args.planner.now.server (step_at c.args.script.now.steps c.args.step) few c.requires.keeps c.requires.allowed)
 
 pub returns-in_err-put : goal.returns-in_err-put
 returns-in_err-put c =
     let p = err_from_is_err_and c.from_residual-in_err-put.result c.from_residual-in_err-put.ensures.1 in
-    rw p.1 (put_fails p.0 c.in_err-put.field-0.0 c.args.planner.now.server c.open_where_none.new.planner c.put.new.self c.args.out.now c.open_where_none.new.out c.put.new.out _
+    rw p.1 (put_fails c.args.script.now.pictures p.0 c.in_err-put.field-0.0 c.args.planner.now.server c.open_where_none.new.planner c.put.new.self c.args.out.now c.open_where_none.new.out c.put.new.out _
     c.in_ok-open_where_none.ensures c.in_err-put.ensures)
 
 pub close_behind-requires-clause-inside : goal.close_behind-requires-clause-inside
@@ -35,13 +35,13 @@ close_behind-requires-clause-inside c =
     let old = c.open_where_none.new.planner in
     let step = step_at c.args.script.now.steps c.args.step in
     let within = subst (λ p. IsInFrame p.server) (sym c.in_ok-open_where_none.ensures.0) (opened_fine c.args.planner.now.server few c.requires.keeps).1 in
-    let allowed = subst (λ p. IsAllowedStep p.server step) (sym c.in_ok-open_where_none.ensures.0) (allowed_in_frame c.args.planner.now.server step few c.requires.keeps c.requires.allowed) in
-    still_in_frame old c.put.new.self c.open_where_none.new.out c.put.new.out step within allowed c.in_ok-put.ensures
+    let allowed = subst (λ p. IsAllowedStep c.args.script.now.pictures p.server step) (sym c.in_ok-open_where_none.ensures.0) (allowed_in_frame c.args.script.now.pictures c.args.planner.now.server step few c.requires.keeps c.requires.allowed) in
+    still_in_frame c.args.script.now.pictures old c.put.new.self c.open_where_none.new.out c.put.new.out step within allowed c.in_ok-put.ensures
 
-pub returns-in-Some : goal.returns-in-Some
-returns-in-Some c =
-    let step : Step = c.in-Some.step.now in
+pub returns : goal.returns
+returns c =
+    let step : Step = c.in-Some.next.now in
     let found : Some step ≡ step_at c.args.script.now.steps c.args.step = rw c.in-Some.is at c.step.ensures in
-    let put = subst (Puts (Ok tt) c.open_where_none.new.planner c.put.new.self c.open_where_none.new.out c.put.new.out) (sym found) c.in_ok-put.ensures in
-    rw (← found) (put_and_closed c.close_behind.result c.args.planner.now.server c.open_where_none.new.planner c.put.new.self c.close_behind.new.planner
+    let put = subst (Puts c.args.script.now.pictures (Ok tt) c.open_where_none.new.planner c.put.new.self c.open_where_none.new.out c.put.new.out) (sym found) c.in_ok-put.ensures in
+    rw (← found) (put_and_closed c.args.script.now.pictures c.close_behind.result c.args.planner.now.server c.open_where_none.new.planner c.put.new.self c.close_behind.new.planner
     c.args.out.now c.open_where_none.new.out c.put.new.out c.close_behind.new.out step c.in_ok-open_where_none.ensures put c.close_behind.ensures)

@@ -1,6 +1,5 @@
 use Rattle.std.proofs.Common.{◌≡◌, ◌+◌, map, drop}
 use Rattle.toml.specs.View.{view}
-use Rattle.gfx_script.specs.Checks.{nothing_held}
 use Rattle.gfx_script.specs.Script.{steps_of}
 use Rattle.gfx_script.proofs.Runs.{after_these}
 use Rattle.gfx_script.proofs.script.read_steps.Given as goal
@@ -8,5 +7,5 @@ use Rattle.gfx_script.proofs.script.read_steps.Given as goal
 abbrev pub invariant-values : goal.invariant-values
 invariant-values l = record {
   number : l.number ≡ l.value-index + 1;
-  so_far : steps_of 1 nothing_held (map view l.values) ≡ after_these l.steps.items (steps_of l.number l.held (map view (drop l.value-index l.values)));
+  so_far : steps_of l.names 1 l.fn.held (map view l.values) ≡ after_these l.steps.items (steps_of l.names l.number l.held (map view (drop l.value-index l.values)));
 }

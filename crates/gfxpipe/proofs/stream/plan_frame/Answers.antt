@@ -18,7 +18,7 @@ put_in_frame-requires-clause-few c =
 pub put_in_frame-requires-clause-allowed : goal.put_in_frame-requires-clause-allowed
 put_in_frame-requires-clause-allowed c =
     let found = sym (rw c.in-Some.is at c.step.ensures) in
-    subst (λ p. IsAllowedStep p.server (step_at c.args.script.now.steps c.steps.number)) (sym c.steps.invariant.planner)
+    subst (λ p. IsAllowedStep c.args.script.now.pictures p.server (step_at c.args.script.now.steps c.steps.number)) (sym c.steps.invariant.planner)
     (may_put c.args.script.now c.steps.number c.in-Some.step.now c.requires.accepted found).allowed
 
 pub steps-smaller : goal.steps-smaller
@@ -30,19 +30,19 @@ steps-smaller c =
 pub steps-preserved : goal.steps-preserved
 steps-preserved c =
     let found = sym (rw c.in-Some.is at c.step.ensures) in
-    planning_more c.args.script.now.steps c.args.first c.steps.number c.steps.planner c.put_in_frame.new.planner c.args.out.now c.steps.out c.put_in_frame.new.out c.in-Some.step.now
+    planning_more c.args.script.now c.args.first c.steps.number c.steps.planner c.put_in_frame.new.planner c.args.out.now c.steps.out c.put_in_frame.new.out c.in-Some.step.now
     c.steps.invariant found c.in_ok-put_in_frame.ensures
 
 pub returns-then-matches : goal.returns-then-matches
 returns-then-matches c =
     let found = sym (rw c.in-Some.is at c.step.ensures) in
-    let p = planning_more c.args.script.now.steps c.args.first c.steps.number c.steps.planner c.put_in_frame.new.planner c.args.out.now c.steps.out c.put_in_frame.new.out c.in-Some.step.now
+    let p = planning_more c.args.script.now c.args.first c.steps.number c.steps.planner c.put_in_frame.new.planner c.args.out.now c.steps.out c.put_in_frame.new.out c.in-Some.step.now
     c.steps.invariant found c.in_ok-put_in_frame.ensures in
-    planned_to c.args.script.now.steps c.args.first (c.steps.number + 1) c.put_in_frame.new.planner c.args.out.now c.put_in_frame.new.out p (let low = c.steps.invariant.further in omega arith)
+    planned_to c.args.script.now c.args.first (c.steps.number + 1) c.put_in_frame.new.planner c.args.out.now c.put_in_frame.new.out p (let low = c.steps.invariant.further in omega arith)
 
 pub returns-in_default : goal.returns-in_default
 returns-in_default c =
     let none = sym (rw c.in_default.is at c.step.ensures) in
     let low = c.steps.invariant.further in
     let past = is_past c.args.script.now.steps c.steps.number (let from = c.requires.from in omega arith) none in
-    planned_to c.args.script.now.steps c.args.first c.steps.number c.steps.planner c.args.out.now c.steps.out c.steps.invariant (let there = c.requires.there in omega arith)
+    planned_to c.args.script.now c.args.first c.steps.number c.steps.planner c.args.out.now c.steps.out c.steps.invariant (let there = c.requires.there in omega arith)

@@ -5,7 +5,7 @@ use Rattle.gfxpipe.proofs.Planning.{streaming_none, streaming_more, streaming_fa
 use Rattle.gfxpipe.proofs.stream.write_stream.Goals as goal
 
 pub frames-init : goal.frames-init
-frames-init g c = rw (c.new-planner.ensures, c.new-frame.ensures) (streaming_none c.args.script.now.steps _ _)
+frames-init g c = rw (c.in_ok-planner.ensures, c.small.ensures, c.new-frame.ensures) (streaming_none c.args.script.now _ _)
 
 pub plan_frame-requires-clause-there : goal.plan_frame-requires-clause-there
 plan_frame-requires-clause-there g c =
@@ -14,20 +14,20 @@ plan_frame-requires-clause-there g c =
 
 pub returns-in_err-next : goal.returns-in_err-next
 returns-in_err-next g c =
-    let p = err_from_is_err_and c.from_residual.result c.from_residual.ensures.1 in
-    rw (p.1, p.2) (streaming_starved c.args.script.now.steps c.frames.next c.frames.planner c.frames.frame _ c.frames.invariant)
+    let p = err_from_is_err_and c.from_residual-in_err-next.result c.from_residual-in_err-next.ensures.1 in
+    rw (p.1, p.2) (streaming_starved c.args.script.now c.frames.next c.frames.planner c.frames.frame _ c.frames.invariant)
 
 pub returns-in_default : goal.returns-in_default
 returns-in_default g c =
-    streaming_fails c.args.script.now.steps c.frames.next c.in_ok-next.next c.frames.planner c.plan_frame.new.planner c.frames.frame c.plan_frame.new.out _ _ _ _ _ _
+    streaming_fails c.args.script.now c.frames.next c.in_ok-next.next c.frames.planner c.plan_frame.new.planner c.frames.frame c.plan_frame.new.out _ _ _ _ _ _
     c.frames.invariant c.in_ok-next.ensures (rw c.as_slice.ensures at c.in_default.ensures)
 
 pub frames-preserved : goal.frames-preserved
 frames-preserved g c =
-    rw c.truncate.ensures (streaming_more c.args.script.now.steps c.frames.next c.in_ok-next.next c.frames.planner c.plan_frame.new.planner c.frames.frame c.plan_frame.new.out _ _ _ _ _ _
+    rw c.truncate.ensures (streaming_more c.args.script.now c.frames.next c.in_ok-next.next c.frames.planner c.plan_frame.new.planner c.frames.frame c.plan_frame.new.out _ _ _ _ _ _
     c.frames.invariant c.in_ok-next.ensures (rw c.as_slice.ensures at c.in-Ok.ensures))
 
 pub returns : goal.returns
 returns g c =
     let none : is_some (step_at c.args.script.now.steps c.frames.next) ≡ false = search rules in
-    streaming_ends c.args.script.now.steps c.frames.next c.frames.planner c.frames.frame _ c.frames.invariant (is_absent (step_at c.args.script.now.steps c.frames.next) none)
+    streaming_ends c.args.script.now c.frames.next c.frames.planner c.frames.frame _ c.frames.invariant (is_absent (step_at c.args.script.now.steps c.frames.next) none)

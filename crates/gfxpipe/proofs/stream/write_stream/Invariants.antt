@@ -5,7 +5,7 @@ use Rattle.gfxpipe.proofs.stream.write_stream.Given as goal
 
 abbrev pub invariant-frames : goal.invariant-frames
 invariant-frames g l =
-    Streaming l.script.steps l.next l.planner l.frame (change (g.O.Sink.faults l.fn.out) (g.O.Sink.faults l.out) (g.O.Sink.held l.fn.out) (g.O.Sink.held l.out))
+    Streaming l.script l.next l.planner l.frame (change (g.O.Sink.faults l.fn.out) (g.O.Sink.faults l.out) (g.O.Sink.held l.fn.out) (g.O.Sink.held l.out))
 
 abbrev pub decreases-frames : goal.decreases-frames
 decreases-frames g l = length l.script.steps + 1 - l.next

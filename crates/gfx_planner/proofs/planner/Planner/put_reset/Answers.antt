@@ -1,6 +1,4 @@
-use Rattle.std.proofs.Common.{◌≡◌, [], ◌∷◌, ap, sym, subst, rules}
-use Rattle.gfx_pdu.specs.declared.pdu.Pdu.TheVariants.{ResetGraphics}
-use Rattle.gfx_planner.specs.Planned.{Passes}
+use Rattle.std.proofs.Common.{◌≡◌, [], ◌∷◌, rules}
 use Rattle.gfx_planner.specs.Wire.{one_monitor}
 use Rattle.gfx_planner.proofs.Steps.{may_reset}
 use Rattle.gfx_planner.proofs.planner.Planner.put_reset.Goals as goal

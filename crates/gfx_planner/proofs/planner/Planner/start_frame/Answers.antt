@@ -1,6 +1,6 @@
 use Rattle.std.proofs.Common.{◌≡◌, ◌+◌, ◌<◌, ◌^◌, None, ap, rules}
 use Rattle.std.specs.Result.{is_ok}
-use Rattle.gfx_planner.proofs.Steps.{starts}
+use Rattle.gfx_planner.proofs.SurfaceSteps.{starts}
 use Rattle.gfx_planner.proofs.planner.Planner.start_frame.Goals as goal
 
 pub pass-requires-clause-carried : goal.pass-requires-clause-carried

@@ -7,7 +7,7 @@ pub invariant_of-self-2 : goal.invariant_of-self-2
 invariant_of-self-2 c = record {
   tied = c.in_ok-slot.ensures.tied;
   keys = subst (λ l. AreKeys l.entries) (sym c.in_ok-slot.ensures.places)
-      (keys_kept c.args.key (place c.in_ok-slot.slot c.bytes_of-bytes.result) c.self.inside.shelf.pool.last c.budget-most.result c.bytes_of-bytes.result
+      (keys_kept c.args.key (place c.in_ok-slot.slot c.bytes_for-bytes.result) c.self.inside.shelf.pool.last c.budget-most.result c.bytes_for-bytes.result
       c.self.inside.shelf.places.entries c.self.invariant.keys);
   last = c.in_ok-slot.ensures.last ∙ c.self.invariant.last;
   within = subst (λ n. c.keep.new.self.bytes ≤ n) c.budget-most.ensures c.in_ok-slot.ensures.within;

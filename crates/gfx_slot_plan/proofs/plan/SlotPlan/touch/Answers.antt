@@ -1,7 +1,8 @@
 use Rattle.std.proofs.Common.{◌≡◌, ◌≤◌, ◌∙◌, ap, sym, subst, nat_eq, ◌∷◌, Some, None}
 use Rattle.std.specs.Map.{lookup}
 use Rattle.std.specs.Option.{option_map_or, option_copied}
-use Rattle.gfx_slot_plan.specs.Plan.{Plan, AreKeys, budget, plan, touched, without}
+use Rattle.gfx_bitmap_cache.specs.Slots.{budget}
+use Rattle.gfx_slot_plan.specs.Plan.{Plan, AreKeys, plan, touched, without}
 use Rattle.gfx_slot_plan.specs.Tied.{IsTied}
 use Rattle.gfx_slot_plan.proofs.Ties.{tied_same}
 use Rattle.gfx_slot_plan.proofs.Order.{not_among, held_first}

@@ -1,0 +1,524 @@
+-- The messages of frames, and of the steps that draw on surfaces, are accepted by the server's own state,
+-- and show what is wanted.
+use Rattle.std.proofs.Common.{ℕ, ◌≡◌, zero, suc, ◌+◌, ◌*◌, ◌-◌, ◌%◌, ◌≤◌, ◌<◌, ◌^◌, ◌&&◌, nat_lt, nat_le, Bool, true, false, not, List, [], ◌∷◌, length, Option, Some, None, option_map, is_some, Ok, refl, sym, ap, ◌∙◌, subst, arith, eq-eqb}
+use Rattle.std.specs.List.{AllByRecursion, list_all, slice_get}
+use Rattle.std.specs.Ordering.{nat_cmp}
+use Rattle.std.specs.Prelude.{IfSome}
+use Rattle.std.proofs.lemmas.Option.{slice_get-map}
+use Rattle.std.specs.Option.{ok_or}
+use Rattle.std.specs.FinMap.{FinMap, get, insert, remove, contains_key}
+use Rattle.std.proofs.lemmas.Bool.Decides.{nat_tests}
+use Rattle.gfx_base.specs.Format.{byte_of, format_of}
+use Rattle.gfx_base.specs.Geometry.{IsPoint, IsRect, lies_in}
+use Rattle.gfx_base.specs.Results.{and_then, check}
+use Rattle.gfx_base.proofs.ResultLemmas.{and_then_ok, and_then_at, check_ok}
+use Rattle.gfx_base.specs.declared.format.Format.{Format}
+use Rattle.gfx_base.specs.declared.format.Format.TheVariants.{Xrgb, Argb}
+use Rattle.gfx_base.specs.declared.geometry.Point.{Point}
+use Rattle.gfx_base.specs.declared.geometry.Rect.{Rect}
+use Rattle.gfx_base.specs.declared.pixel.Pixel.{Pixel}
+use Rattle.gfx_base.specs.declared.refusal.Refusal.TheVariants as refusal
+use Rattle.gfx_pdu.specs.declared.pdu.Pdu.{Pdu}
+use Rattle.gfx_pdu.specs.declared.pdu.Pdu.TheVariants.{SolidFill, SurfaceToSurface, CreateSurface, DeleteSurface, StartFrame, EndFrame, ResetGraphics, MapSurfaceToOutput}
+use Rattle.gfx_pdu.specs.declared.pdu.Monitor.{Monitor}
+use Rattle.gfx_surface.specs.declared.TheConstants.{MOST_SIDE}
+use Rattle.gfx_surface.specs.Picture.{Picture, blank, moved, overlaid}
+use Rattle.gfx_surface.proofs.PictureLemmas.{overlaid-width, overlaid-height}
+use Rattle.gfx_surface_map.specs.declared.TheConstants.{MOST_SURFACES, MOST_CELLS}
+use Rattle.gfx_surface_map.specs.Shown.{Shown, with_picture, surface_made, surface_deleted, output_reset, is_output_side, output_mapped, surface_copied, copied_to, fit_all, sized}
+use Rattle.gfx_surface_map.specs.declared.place.TheConstants.{MOST_OUTPUT_SIDE}
+use Rattle.gfx_surface_map.proofs.RoomLemmas.{copied_to-width, copied_to-height}
+use Rattle.gfx_surface_map.specs.Surfaces as map
+use Rattle.gfx_surface_map.specs.Surfaces.{Surfaces, cells, created, is_size, painted}
+use Rattle.gfx_surface_map.proofs.CreatedLemmas.{created-ok}
+use Rattle.gfx_surface_map.proofs.PaintedLemmas.{painted-width, painted-height}
+use Rattle.gfx_script.specs.declared.TheConstants.{MOST_AREA}
+use Rattle.gfx_script.specs.declared.held.Sides.{Sides}
+use Rattle.gfx_script.specs.declared.picture.Picture.{Picture as Source}
+use Rattle.gfx_script.specs.declared.step.Kind.{Kind}
+use Rattle.gfx_script.specs.declared.step.Kind.TheVariants.{Raw}
+use Rattle.gfx_script.specs.Pictures.{IsDrawn}
+use Rattle.gfx_slot_plan.specs.Plan.{Plan}
+use Rattle.gfx_script.specs.Checks as check_of
+use Rattle.gfx_script.specs.Checks.{Held, has_room, with_surface, rects_filled, surface_mapped, rect_copied, picture_painted, sides_of_all, held_after}
+use Rattle.gfx_script.specs.Script.{IsStep}
+use Rattle.gfx_script.specs.declared.error.ScriptKind.{ScriptKind}
+use Rattle.gfx_script.specs.declared.error.ScriptKind.TheVariants as kind
+use Rattle.gfx_script.specs.declared.step.Step.{Step}
+use Rattle.gfx_script.specs.declared.step.Step.TheVariants.{Surface, Delete, Reset, Map, Fill, Copy, Paint, Frame}
+use Rattle.gfx_state.specs.State.{State}
+use Rattle.gfx_state.specs.Step as message
+use Rattle.gfx_state.specs.Step.{UNCOMPRESSED, frame_started, frame_ended, is_open, surface_created, showing}
+use Rattle.gfx_state.specs.Sending.{all_steps, IsCarried}
+use Rattle.gfx_planner.specs.Agree.{Agree, sides_of, HoldsSurfaces, Holds}
+use Rattle.gfx_planner.specs.Want.{Wanted, drawn_on, drawing, without_surface, with_map, with_copy, pixels_in, with_painting, wanted_after}
+use Rattle.gfx_planner.specs.Wire.{Server, one_monitor, raw_bytes, plan_after, messages}
+use Rattle.gfx_planner.proofs.Carried.{carried-create, carried-delete, carried-reset, carried-map, carried-fill, carried-copy, carried-wire, carried-start, carried-end}
+use Rattle.gfx_planner.proofs.Effects.{all_steps-one}
+use Rattle.gfx_planner.proofs.Paints.{place_of, length-raw_bytes, length-pixels_in, painted_raw}
+use Rattle.gfx_planner.proofs.Passing.{painting_raw}
+use Rattle.gfx_planner.proofs.Held.{holds-made, holds-drawn, holds-deleted}
+
+-- one message that the state accepts
+pub record Accepts (state : State) (pdu : Pdu) (next : State) : Type 0 where
+  pub carried : IsCarried pdu
+  pub stepped : message.step state pdu ≡ Ok next
+
+-- frames ------------------------------------------------------------------------------------------
+
+pub starts : (state : State) (frame : ℕ) → frame < 2 ^ 32 → state.frame ≡ None → Accepts state (StartFrame 0 frame) (record state { frame = Some frame })
+unfolding message.step frame_started and_then
+starts state frame fits none = record { carried = carried-start frame fits; stepped = rw none refl }
+
+pub ends : (state : State) (frame : ℕ) → frame < 2 ^ 32 → state.frame ≡ Some frame → Accepts state (EndFrame frame) (record state { frame = None; decoded = (state.decoded + 1) % 2 ^ 32 })
+unfolding message.step frame_ended
+ends state frame fits some = record {
+  carried = carried-end frame fits;
+  stepped = and_then_at (check refusal.FrameMismatch (is_open state.frame frame)) tt (λ ended. Ok (record state { frame = None; decoded = (state.decoded + 1) % 2 ^ 32 }))
+      (ap (λ o. check refusal.FrameMismatch (is_open o frame)) some ∙ ap (check refusal.FrameMismatch) (eq-eqb frame frame refl));
+}
+
+-- surfaces ----------------------------------------------------------------------------------------
+
+-- what a script's checks of a surface say
+pub record MayMake (surfaces : Surfaces) (id width height : ℕ) : Type 0 where
+  pub absent : get surfaces id ≡ None
+  pub sides : is_size width height ≡ true
+  pub room : map.has_room surfaces width height ≡ true
+
+none_of : (o : Option Picture) → is_some (option_map sides_of o) ≡ false → o ≡ None
+none_of None e = refl
+none_of (Some picture) e = absurd cc
+
+not_true : (b : Bool) → not b ≡ true → b ≡ false
+not_true true e = absurd cc
+not_true false e = refl
+
+sides_sized : (width height : ℕ) → 1 ≤ width → width ≤ MOST_SIDE → 1 ≤ height → height ≤ MOST_SIDE → is_size width height ≡ true
+sides_sized width height w_from w_most h_from h_most = grind (arith, nat_tests)
+
+pub may_make : (held after : Held) (surfaces : Surfaces) (id width height : ℕ) (format : Format) → HoldsSurfaces held.sides held.cells surfaces → IsStep (Surface id width height format)
+    → check_of.surface_made held id width height ≡ Ok after → MayMake surfaces id width height × (after ≡ with_surface held id width height)
+unfolding check_of.surface_made
+may_make held after surfaces id width height format holds numbers checked =
+    let first = and_then_ok (check kind.SurfacePresent (not (contains_key held.sides id))) _ after checked in
+    let second = and_then_ok (check kind.CellBudget (has_room held width height)) _ after first.2 in
+    let fresh : contains_key held.sides id ≡ false = not_true _ (check_ok kind.SurfacePresent (not (contains_key held.sides id)) first.1) in
+    let room : has_room held width height ≡ true = check_ok kind.CellBudget (has_room held width height) second.1 in
+    let count = sym holds.count in
+    let total = sym holds.total in (
+      record {
+        absent = none_of (get surfaces id) (ap is_some (sym (holds.sides id)) ∙ fresh);
+        sides = sides_sized width height numbers.1 numbers.2 numbers.3 numbers.4;
+        room = (λ i. nat_lt (count i) MOST_SURFACES && nat_le (total i + cells width height) MOST_CELLS) ∙ room;
+      },
+      (let same = second.2 in cc),
+    )
+
+format_back : (format : Format) → format_of (byte_of format) ≡ Some format
+format_back Xrgb = refl
+format_back Argb = refl
+
+pub made : (state : State) (id width height : ℕ) (format : Format) → MayMake state.shown.surfaces id width height
+    → message.step state (CreateSurface id width height (byte_of format)) ≡ Ok (record state { shown = with_picture state.shown id (blank width height format) })
+unfolding message.step surface_created showing surface_made
+made state id width height format may =
+    let absent : contains_key state.shown.surfaces id ≡ false = ap is_some may.absent in
+    and_then_at (check refusal.SurfaceExists (not (contains_key state.shown.surfaces id))) tt _ (ap (λ b. check refusal.SurfaceExists (not b)) absent)
+    ∙ and_then_at (check refusal.SurfaceSize (is_size width height)) tt _ (ap (check refusal.SurfaceSize) may.sides)
+    ∙ and_then_at (ok_or (format_of (byte_of format)) refusal.PixelFormat) format _ (ap (λ o. ok_or o refusal.PixelFormat) (format_back format))
+    ∙ and_then_at (surface_made state.shown id width height format) (with_picture state.shown id (blank width height format)) (λ shown. Ok (record state { shown = shown }))
+    (and_then_at (created state.shown.surfaces id width height format) (insert state.shown.surfaces id (blank width height format)) (λ surfaces. Ok (record state.shown { surfaces = surfaces }))
+    (created-ok state.shown.surfaces id width height format absent may.sides may.room))
+
+-- fills -------------------------------------------------------------------------------------------
+
+-- what a script's checks of a fill say
+pub record MayFill (surfaces : Surfaces) (id : ℕ) (rects : List Rect) : Type 0 where
+  pub picture : Picture
+  pub there : get surfaces id ≡ Some picture
+  pub inside : list_all (lies_in picture.width picture.height) rects ≡ true
+
+some_of : (o : Option Picture) (sides : Sides) → option_map sides_of o ≡ Some sides → (picture : Picture) × (o ≡ Some picture) × (sides_of picture ≡ sides)
+some_of None sides e = absurd cc
+some_of (Some picture) sides e = (picture, refl, cc)
+
+pub ok_or_some : {X : Type 0} (o : Option X) (k : ScriptKind) (x : X) → ok_or o k ≡ Ok x → o ≡ Some x
+ok_or_some None k x e = absurd cc
+ok_or_some (Some y) k x e = ap Some cc
+
+pub may_fill : (held after : Held) (surfaces : Surfaces) (id : ℕ) (rects : List Rect) → HoldsSurfaces held.sides held.cells surfaces → rects_filled held id rects ≡ Ok after
+    → MayFill surfaces id rects × (after ≡ held)
+unfolding rects_filled
+may_fill held after surfaces id rects holds checked =
+    let first = and_then_ok (ok_or (get held.sides id) kind.SurfaceAbsent) _ after checked in
+    let sides : Sides = first.0 in
+    let second = and_then_ok (check kind.Outside (list_all (lies_in sides.width sides.height) rects)) _ after first.2 in
+    let found = some_of (get surfaces id) sides (sym (holds.sides id) ∙ ok_or_some (get held.sides id) kind.SurfaceAbsent sides first.1) in (
+      record {
+        picture = found.0;
+        there = found.1;
+        inside = ap (λ s. list_all (lies_in s.width s.height) rects) found.2 ∙ check_ok kind.Outside (list_all (lies_in sides.width sides.height) rects) second.1;
+      },
+      (let same = second.2 in cc),
+    )
+
+pub filled : (state : State) (id : ℕ) (colour : Pixel) (rects : List Rect) (may : MayFill state.shown.surfaces id rects)
+    → message.step state (SolidFill id colour rects) ≡ Ok (record state { shown = with_picture state.shown id (painted may.picture rects colour) })
+unfolding message.step message.rects_filled
+filled state id colour rects may =
+    and_then_at (ok_or (get state.shown.surfaces id) refusal.NoSurface) may.picture _ (ap (λ o. ok_or o refusal.NoSurface) may.there)
+    ∙ and_then_at (check refusal.RectOutside (list_all (lies_in may.picture.width may.picture.height) rects)) tt _ (ap (check refusal.RectOutside) may.inside)
+
+-- steps -------------------------------------------------------------------------------------------
+
+-- the server's end in another state, with another choice of slots
+abbrev pub going : Server → State → Plan → Server
+going server state plan = record server { state = state; plan = plan }
+
+-- the messages of a step are accepted, and the server's end goes on to show what is wanted
+pub record Fine (pictures : List Source) (server : Server) (step : Step) (after : Held) : Type 0 where
+  pub next : State
+  pub accepted : all_steps server.state (messages pictures server step) ≡ Ok next
+  pub carried : AllByRecursion IsCarried (messages pictures server step)
+  pub holds : Holds pictures after (going server next (plan_after server.plan step))
+  pub frame : next.frame ≡ server.state.frame
+  pub agrees : (wanted : Wanted) → Agree server wanted → Agree (going server next (plan_after server.plan step)) (wanted_after pictures wanted step)
+
+-- only what is shown changes ------------------------------------------------------------------------
+
+-- the server's end, which shows something else
+abbrev pub shows : Server → Shown → Server
+shows server shown = record server { state = record server.state { shown = shown } }
+
+holds_shown : (pictures : List Source) (held : Held) (server : Server) (sides : FinMap nat_cmp Sides) (count : ℕ) (shown : Shown) → Holds pictures held server
+    → HoldsSurfaces sides count shown.surfaces → Holds pictures (record held { sides = sides; cells = count }) (shows server shown)
+holds_shown pictures held server sides count shown holds new = record { drawn = holds.drawn; same = holds.same; surfaces = new; bitmaps = holds.bitmaps }
+
+agree_shown : (server : Server) (wanted : Wanted) (shown wants : Shown) → Agree server wanted → shown ≡ wants → Agree (shows server shown) (record wanted { shown = wants })
+agree_shown server wanted shown wants agree same = record { shown = same; slots = agree.slots; plan = agree.plan }
+
+drawn_on_there : (shown : Shown) (id : ℕ) (o : Option Picture) (picture : Picture) (draw : Picture → Picture) → o ≡ Some picture
+    → drawn_on shown id o draw ≡ with_picture shown id (draw picture)
+unfolding drawn_on
+drawn_on_there shown id o picture draw there = rw there refl
+
+-- a surface that is there is drawn on
+drawn_same : (shown wanted : Shown) (id : ℕ) (picture : Picture) (draw : Picture → Picture) → get shown.surfaces id ≡ Some picture → shown ≡ wanted
+    → with_picture shown id (draw picture) ≡ drawn_on wanted id (get wanted.surfaces id) draw
+drawn_same shown wanted id picture draw there same =
+    let here : get wanted.surfaces id ≡ Some picture = ap (λ (z : Shown). get z.surfaces id) (sym same) ∙ there in
+    ap (λ (z : Shown). with_picture z id (draw picture)) same ∙ sym (drawn_on_there wanted id (get wanted.surfaces id) picture draw here)
+
+pub drawing_agrees : (server : Server) (wanted : Wanted) (id : ℕ) (picture : Picture) (draw : Picture → Picture) → get server.state.shown.surfaces id ≡ Some picture → Agree server wanted
+    → Agree (shows server (with_picture server.state.shown id (draw picture))) (drawing wanted id draw)
+drawing_agrees server wanted id picture draw there agree =
+    agree_shown server wanted _ _ agree (drawn_same server.state.shown wanted.shown id picture draw there agree.shown)
+
+-- making, filling -----------------------------------------------------------------------------------
+
+pub surface_fine : (pictures : List Source) (server : Server) (held after : Held) (id width height : ℕ) (format : Format) → Holds pictures held server → IsStep (Surface id width height format)
+    → held_after held (Surface id width height format) ≡ Ok after → Fine pictures server (Surface id width height format) after
+unfolding messages held_after plan_after wanted_after
+surface_fine pictures server held after id width height format holds numbers checked =
+    let may = may_make held after server.state.shown.surfaces id width height format holds.surfaces numbers checked in
+    let shown = with_picture server.state.shown id (blank width height format) in
+    record {
+      next = record server.state { shown = shown };
+      accepted = all_steps-one server.state _ _ (made server.state id width height format may.0);
+      carried = (carried-create id width height (byte_of format) numbers.0 (omega (arith, numbers.2)) (omega (arith, numbers.4)), tt);
+      holds = subst (λ h. Holds pictures h (shows server shown)) (sym may.1)
+          (holds_shown pictures held server _ _ shown holds
+          (holds-made held.sides held.cells server.state.shown.surfaces id (blank width height format) (omega (arith, numbers.2)) (omega (arith, numbers.4)) holds.surfaces may.0.absent));
+      frame = refl;
+      agrees = λ wanted agree. agree_shown server wanted _ _ agree (ap (λ (z : Shown). with_picture z id (blank width height format)) agree.shown);
+    }
+
+sides_painted : (picture : Picture) (rects : List Rect) (colour : Pixel) → sides_of (painted picture rects colour) ≡ sides_of picture
+sides_painted picture rects colour =
+    let w = painted-width picture rects colour in
+    let h = painted-height picture rects colour in
+    λ i. record { width = w i; height = h i }
+
+pub fill_fine : (pictures : List Source) (server : Server) (held after : Held) (id : ℕ) (colour : Pixel) (rects : List Rect) → Holds pictures held server
+    → IsStep (Fill id colour rects) → held_after held (Fill id colour rects) ≡ Ok after → Fine pictures server (Fill id colour rects) after
+unfolding messages held_after plan_after wanted_after
+fill_fine pictures server held after id colour rects holds numbers checked =
+    let may = may_fill held after server.state.shown.surfaces id rects holds.surfaces checked in
+    let picture : Picture = may.0.picture in
+    let shown = with_picture server.state.shown id (painted picture rects colour) in
+    record {
+      next = record server.state { shown = shown };
+      accepted = all_steps-one server.state _ _ (filled server.state id colour rects may.0);
+      carried = (carried-fill id colour rects numbers.0 numbers.4 numbers.3, tt);
+      holds = subst (λ h. Holds pictures h (shows server shown)) (sym may.1)
+          (holds_shown pictures held server _ _ shown holds
+          (holds-drawn held.sides held.cells server.state.shown.surfaces id picture (painted picture rects colour) holds.surfaces may.0.there (sides_painted picture rects colour)));
+      frame = refl;
+      agrees = λ wanted agree. drawing_agrees server wanted id picture (λ z. painted z rects colour) may.0.there agree;
+    }
+
+-- deleting, resetting, mapping, copying ----------------------------------------------------------------
+
+-- a surface whose sides are held
+pub record IsThere (surfaces : Surfaces) (id : ℕ) (sides : Sides) : Type 0 where
+  pub picture : Picture
+  pub there : get surfaces id ≡ Some picture
+  pub same : sides_of picture ≡ sides
+
+pub found_there : (held : Held) (surfaces : Surfaces) (id : ℕ) (sides : Sides) → HoldsSurfaces held.sides held.cells surfaces → ok_or (get held.sides id) kind.SurfaceAbsent ≡ Ok sides → IsThere surfaces id sides
+found_there held surfaces id sides holds e =
+    let found = some_of (get surfaces id) sides (sym (holds.sides id) ∙ ok_or_some (get held.sides id) kind.SurfaceAbsent sides e) in
+    record { picture = found.0; there = found.1; same = found.2 }
+
+deleted : (state : State) (id : ℕ) → contains_key state.shown.surfaces id ≡ true → message.step state (DeleteSurface id) ≡ Ok (record state { shown = without_surface state.shown id })
+unfolding message.step showing surface_deleted
+deleted state id there =
+    and_then_at (surface_deleted state.shown id) (without_surface state.shown id) (λ shown. Ok (record state { shown = shown }))
+    (and_then_at (check refusal.NoSurface (contains_key state.shown.surfaces id)) tt (λ _. Ok (without_surface state.shown id)) (ap (check refusal.NoSurface) there))
+
+pub delete_fine : (pictures : List Source) (server : Server) (held after : Held) (id : ℕ) → Holds pictures held server → IsStep (Delete id) → held_after held (Delete id) ≡ Ok after → Fine pictures server (Delete id) after
+unfolding messages held_after check_of.surface_deleted plan_after wanted_after
+delete_fine pictures server held after id holds numbers checked =
+    let first = and_then_ok (ok_or (get held.sides id) kind.SurfaceAbsent) _ after checked in
+    let sides : Sides = first.0 in
+    let found = found_there held server.state.shown.surfaces id sides holds.surfaces first.1 in
+    let gone : Held = check_of.without_surface held id sides in
+    let shown = without_surface server.state.shown id in
+    let is : gone ≡ after = (let same = first.2 in cc) in
+    record {
+      next = record server.state { shown = shown };
+      accepted = all_steps-one server.state _ _ (deleted server.state id (ap is_some found.there));
+      carried = (carried-delete id numbers, tt);
+      holds = subst (λ h. Holds pictures h (shows server shown)) is
+          (holds_shown pictures held server _ _ shown holds
+          (subst (λ (s : Sides). HoldsSurfaces (remove held.sides id) (held.cells - cells s.width s.height) (remove server.state.shown.surfaces id)) found.same
+          (holds-deleted held.sides held.cells server.state.shown.surfaces id found.picture holds.surfaces found.there)));
+      frame = refl;
+      agrees = λ wanted agree. agree_shown server wanted _ _ agree (ap (λ (z : Shown). without_surface z id) agree.shown);
+    }
+
+pub output_side : (side : ℕ) → 1 ≤ side → side ≤ MOST_OUTPUT_SIDE → is_output_side side ≡ true
+output_side side low high = grind (arith, nat_tests)
+
+pub both_true : (a b : Bool) → a ≡ true → b ≡ true → (a && b) ≡ true
+both_true a b p q = rw (p, q) refl
+
+pub was_reset : (state : State) (width height : ℕ) (monitors : List Monitor) → (is_output_side width && is_output_side height) ≡ true
+    → message.step state (ResetGraphics width height monitors) ≡ Ok (record state { shown = record state.shown { output = record { width = width; height = height } } })
+unfolding message.step showing output_reset
+was_reset state width height monitors sides =
+    and_then_at (output_reset state.shown width height) (record state.shown { output = record { width = width; height = height } }) (λ shown. Ok (record state { shown = shown }))
+    (and_then_at (check refusal.OutputSize (is_output_side width && is_output_side height)) tt (λ _. Ok (record state.shown { output = record { width = width; height = height } })) (ap (check refusal.OutputSize) sides))
+
+pub reset_fine : (pictures : List Source) (server : Server) (held after : Held) (width height : ℕ) → Holds pictures held server → IsStep (Reset width height) → held_after held (Reset width height) ≡ Ok after → Fine pictures server (Reset width height) after
+unfolding messages held_after plan_after wanted_after
+reset_fine pictures server held after width height holds numbers checked =
+    let sides = both_true _ _ (output_side width numbers.0 numbers.1) (output_side height numbers.2 numbers.3) in
+    let shown : Shown = record server.state.shown { output = record { width = width; height = height } } in
+    record {
+      next = record server.state { shown = shown };
+      accepted = all_steps-one server.state _ _ (was_reset server.state width height (one_monitor width height ∷ []) sides);
+      carried = (
+        carried-reset width height (one_monitor width height) (omega (arith, numbers.1)) (omega (arith, numbers.3))
+            (record { left = omega arith; top = omega arith; right = omega (arith, numbers.1); bottom = omega (arith, numbers.3); flags = omega arith }),
+        tt,
+      );
+      holds = (let same : held ≡ after = cc in subst (λ h. Holds pictures h (shows server shown)) same (holds_shown pictures held server held.sides held.cells shown holds holds.surfaces));
+      frame = refl;
+      agrees = λ wanted agree. agree_shown server wanted shown _ agree (ap (λ (z : Shown). record z { output = record { width = width; height = height } }) agree.shown);
+    }
+
+mapped : (state : State) (id x y : ℕ) → contains_key state.shown.surfaces id ≡ true
+    → message.step state (MapSurfaceToOutput id 0 x y) ≡ Ok (record state { shown = with_map state.shown id record { x = x; y = y } })
+unfolding message.step showing output_mapped
+mapped state id x y there =
+    and_then_at (output_mapped state.shown id record { x = x; y = y }) (with_map state.shown id record { x = x; y = y }) (λ shown. Ok (record state { shown = shown }))
+    (and_then_at (check refusal.NoSurface (contains_key state.shown.surfaces id)) tt (λ _. Ok (with_map state.shown id record { x = x; y = y })) (ap (check refusal.NoSurface) there))
+
+some_held : (o : Option Picture) → is_some (option_map sides_of o) ≡ true → is_some o ≡ true
+some_held None e = absurd cc
+some_held (Some picture) e = refl
+
+pub map_fine : (pictures : List Source) (server : Server) (held after : Held) (id x y : ℕ) → Holds pictures held server → IsStep (Map id x y) → held_after held (Map id x y) ≡ Ok after → Fine pictures server (Map id x y) after
+unfolding messages held_after surface_mapped plan_after wanted_after
+map_fine pictures server held after id x y holds numbers checked =
+    let first = and_then_ok (check kind.SurfaceAbsent (contains_key held.sides id)) _ after checked in
+    let present : contains_key held.sides id ≡ true = check_ok kind.SurfaceAbsent (contains_key held.sides id) first.1 in
+    let there : contains_key server.state.shown.surfaces id ≡ true = some_held (get server.state.shown.surfaces id) (ap is_some (sym (holds.surfaces.sides id)) ∙ present) in
+    let shown : Shown = with_map server.state.shown id record { x = x; y = y } in
+    record {
+      next = record server.state { shown = shown };
+      accepted = all_steps-one server.state _ _ (mapped server.state id x y there);
+      carried = (carried-map id x y numbers.0 (omega (arith, numbers.1)) (omega (arith, numbers.2)), tt);
+      holds = (let same : held ≡ after = (let last = first.2 in cc) in subst (λ h. Holds pictures h (shows server shown)) same (holds_shown pictures held server held.sides held.cells shown holds holds.surfaces));
+      frame = refl;
+      agrees = λ wanted agree. agree_shown server wanted shown _ agree (ap (λ (z : Shown). with_map z id record { x = x; y = y }) agree.shown);
+    }
+
+was_copied : (state : State) (from to : ℕ) (rect : Rect) (points : List Point) (source target : Picture) → get state.shown.surfaces from ≡ Some source → get state.shown.surfaces to ≡ Some target
+    → lies_in source.width source.height rect ≡ true → fit_all target.width target.height rect points ≡ true
+    → message.step state (SurfaceToSurface from to rect points) ≡ Ok (record state { shown = with_picture state.shown to (copied_to source rect points target) })
+unfolding message.step showing surface_copied
+was_copied state from to rect points source target from_there to_there inside fits =
+    and_then_at (surface_copied state.shown from to rect points) (with_picture state.shown to (copied_to source rect points target)) (λ shown. Ok (record state { shown = shown }))
+    (and_then_at (ok_or (get state.shown.surfaces from) refusal.NoSurface) source _ (ap (λ o. ok_or o refusal.NoSurface) from_there)
+    ∙ and_then_at (ok_or (get state.shown.surfaces to) refusal.NoSurface) target _ (ap (λ o. ok_or o refusal.NoSurface) to_there)
+    ∙ and_then_at (check refusal.RectOutside (lies_in source.width source.height rect)) tt _ (ap (check refusal.RectOutside) inside)
+    ∙ and_then_at (check refusal.RectOutside (fit_all target.width target.height rect points)) tt _ (ap (check refusal.RectOutside) fits))
+
+sides_copied : (source : Picture) (rect : Rect) (points : List Point) (target : Picture) → sides_of (copied_to source rect points target) ≡ sides_of target
+sides_copied source rect points target =
+    let w = copied_to-width source rect points target in
+    let h = copied_to-height source rect points target in
+    λ i. record { width = w i; height = h i }
+
+with_copy_there : (wanted : Wanted) (o : Option Picture) (source : Picture) (to : ℕ) (rect : Rect) (points : List Point) → o ≡ Some source → with_copy wanted o to rect points ≡ drawing wanted to (copied_to source rect points)
+unfolding with_copy
+with_copy_there wanted o source to rect points there = rw there refl
+
+copied_agrees : (server : Server) (wanted : Wanted) (from to : ℕ) (rect : Rect) (points : List Point) (source target : Picture) → get server.state.shown.surfaces from ≡ Some source → get server.state.shown.surfaces to ≡ Some target
+    → Agree server wanted → Agree (shows server (with_picture server.state.shown to (copied_to source rect points target))) (with_copy wanted (get wanted.shown.surfaces from) to rect points)
+copied_agrees server wanted from to rect points source target from_there to_there agree =
+    let there = ap (λ (z : Shown). get z.surfaces from) (sym agree.shown) ∙ from_there in
+    subst (Agree (shows server (with_picture server.state.shown to (copied_to source rect points target))))
+    (sym (with_copy_there wanted (get wanted.shown.surfaces from) source to rect points there))
+    (drawing_agrees server wanted to target (copied_to source rect points) to_there agree)
+
+pub copy_fine : (pictures : List Source) (server : Server) (held after : Held) (from to : ℕ) (rect : Rect) (points : List Point) → Holds pictures held server → IsStep (Copy from to rect points)
+    → held_after held (Copy from to rect points) ≡ Ok after → Fine pictures server (Copy from to rect points) after
+unfolding messages held_after rect_copied plan_after wanted_after
+copy_fine pictures server held after from to rect points holds numbers checked =
+    let surfaces = server.state.shown.surfaces in
+    let first = and_then_ok (ok_or (get held.sides from) kind.SurfaceAbsent) _ after checked in
+    let source = found_there held surfaces from first.0 holds.surfaces first.1 in
+    let second = and_then_ok (ok_or (get held.sides to) kind.SurfaceAbsent) _ after first.2 in
+    let target = found_there held surfaces to second.0 holds.surfaces second.1 in
+    let third = and_then_ok (check kind.Outside (lies_in first.0.width first.0.height rect)) _ after second.2 in
+    let last = and_then_ok (check kind.Outside (fit_all second.0.width second.0.height rect points)) _ after third.2 in
+    let inside = ap (λ (s : Sides). lies_in s.width s.height rect) source.same ∙ check_ok kind.Outside (lies_in first.0.width first.0.height rect) third.1 in
+    let fits = ap (λ (s : Sides). fit_all s.width s.height rect points) target.same ∙ check_ok kind.Outside (fit_all second.0.width second.0.height rect points) last.1 in
+    let copy = copied_to source.picture rect points target.picture in
+    record {
+      next = record server.state { shown = with_picture server.state.shown to copy };
+      accepted = all_steps-one server.state _ _ (was_copied server.state from to rect points source.picture target.picture source.there target.there inside fits);
+      carried = (carried-copy from to rect points numbers.0 numbers.1 numbers.2 numbers.5 numbers.4, tt);
+      holds = (let same : held ≡ after = (let end = last.2 in cc) in subst (λ h. Holds pictures h (shows server (with_picture server.state.shown to copy))) same
+          (holds_shown pictures held server _ _ _ holds
+          (holds-drawn held.sides held.cells surfaces to target.picture copy holds.surfaces target.there (sides_copied source.picture rect points target.picture))));
+      frame = refl;
+      agrees = λ wanted agree. copied_agrees server wanted from to rect points source.picture target.picture source.there target.there agree;
+    }
+
+pub frame_fine : (pictures : List Source) (server : Server) (held after : Held) → Holds pictures held server → held_after held Frame ≡ Ok after → Fine pictures server Frame after
+unfolding messages held_after all_steps plan_after wanted_after
+frame_fine pictures server held after holds checked = record {
+  next = server.state;
+  accepted = refl;
+  carried = tt;
+  holds = (let same : held ≡ after = cc in subst (λ h. Holds pictures h server) same holds);
+  frame = refl;
+  agrees = λ wanted agree. agree;
+}
+
+-- painting ------------------------------------------------------------------------------------------
+
+-- a picture whose sides are held
+source_there : (pictures : List Source) (at : ℕ) (sides : Sides) → slice_get (sides_of_all pictures) at ≡ Some sides
+    → (picture : Source) × (slice_get pictures at ≡ Some picture) × (record { width = picture.width; height = picture.height } ≡ sides)
+source_there pictures at sides is = by (slice_get pictures at) (sym (slice_get-map source_sides pictures at) ∙ is) refl
+  where
+    source_sides : Source → Sides
+    source_sides picture = record { width = picture.width; height = picture.height }
+
+    by : (o : Option Source) → option_map source_sides (slice_get pictures at) ≡ Some sides → slice_get pictures at ≡ o
+        → (picture : Source) × (slice_get pictures at ≡ Some picture) × (source_sides picture ≡ sides)
+    by None found none = absurd (let no : None ≡ Some sides = sym (ap (option_map source_sides) none) ∙ found in cc)
+    by (Some picture) found some = (picture, some, (let same : Some (source_sides picture) ≡ Some sides = sym (ap (option_map source_sides) some) ∙ found in cc))
+
+drawn_at : (pictures : List Source) (at : ℕ) (picture : Source) → AllByRecursion IsDrawn pictures → slice_get pictures at ≡ Some picture → IsDrawn picture
+drawn_at [] at picture all is = absurd cc
+drawn_at (first ∷ others) zero picture all is = subst IsDrawn (let same : first ≡ picture = cc in same) all.0
+drawn_at (first ∷ others) (suc at) picture all is = drawn_at others at picture all.1 is
+
+-- what a script's checks of a paint say
+pub record MayPaint (pictures : List Source) (server : Server) (id number : ℕ) (at : Point) : Type 0 where
+  pub surface : Picture
+  pub there : get server.state.shown.surfaces id ≡ Some surface
+  pub picture : Source
+  pub drawn : slice_get pictures number ≡ Some picture
+  pub inside : lies_in surface.width surface.height (place_of picture at) ≡ true
+  pub place : IsRect (place_of picture at)
+  pub short : picture.width * picture.height ≤ MOST_AREA
+
+narrow_there : (held : Held) (surfaces : Surfaces) (id : ℕ) (sides : Sides) → HoldsSurfaces held.sides held.cells surfaces → get held.sides id ≡ Some sides → (sides.width < 2 ^ 16) × (sides.height < 2 ^ 16)
+narrow_there held surfaces id sides holds there = subst (λ o. IfSome o (λ s. (s.width < 2 ^ 16) × (s.height < 2 ^ 16))) there (holds.narrow id)
+
+rect_fits : (width height : ℕ) (picture : Source) (at : Point) → width < 2 ^ 16 → height < 2 ^ 16 → IsPoint at → lies_in width height (place_of picture at) ≡ true → IsRect (place_of picture at)
+rect_fits width height picture at wide high point inside =
+    let right : at.x + picture.width ≤ width = grind (arith, nat_tests) in
+    let bottom : at.y + picture.height ≤ height = grind (arith, nat_tests) in
+    record { left = point.x; top = point.y; right = omega arith; bottom = omega arith }
+
+pub may_paint : (pictures : List Source) (server : Server) (held after : Held) (id number : ℕ) (at : Point) → Holds pictures held server → IsPoint at
+    → picture_painted held id number at ≡ Ok after → MayPaint pictures server id number at × (held ≡ after)
+unfolding picture_painted
+may_paint pictures server held after id number at holds point checked =
+    let surfaces = server.state.shown.surfaces in
+    let first = and_then_ok (ok_or (get held.sides id) kind.SurfaceAbsent) _ after checked in
+    let sides : Sides = first.0 in
+    let surface = found_there held surfaces id sides holds.surfaces first.1 in
+    let second = and_then_ok (ok_or (slice_get held.pictures number) kind.Name) _ after first.2 in
+    let named = ok_or_some (slice_get held.pictures number) kind.Name second.0 second.1 in
+    let source = source_there pictures number second.0 (ap (λ ps. slice_get ps number) (sym holds.same) ∙ named) in
+    let third = and_then_ok (check kind.Outside (lies_in sides.width sides.height (moved (sized second.0.width second.0.height) at))) _ after second.2 in
+    let checked_inside = check_ok kind.Outside (lies_in sides.width sides.height (moved (sized second.0.width second.0.height) at)) third.1 in
+    let inside_held : lies_in sides.width sides.height (place_of source.0 at) ≡ true = ap (λ (s : Sides). lies_in sides.width sides.height (moved (sized s.width s.height) at)) source.2 ∙ checked_inside in
+    let narrow = narrow_there held surfaces id sides holds.surfaces (ok_or_some (get held.sides id) kind.SurfaceAbsent sides first.1) in (
+      record {
+        surface = surface.picture;
+        there = surface.there;
+        picture = source.0;
+        drawn = source.1;
+        inside = ap (λ (s : Sides). lies_in s.width s.height (place_of source.0 at)) surface.same ∙ inside_held;
+        place = rect_fits sides.width sides.height source.0 at narrow.0 narrow.1 point inside_held;
+        short = (drawn_at pictures number source.0 holds.drawn source.1).area;
+      },
+      (let end = third.2 in cc),
+    )
+
+sides_overlaid : (picture : Picture) (rect : Rect) (pixels : List Pixel) → sides_of (overlaid picture rect pixels) ≡ sides_of picture
+sides_overlaid picture rect pixels =
+    let w = overlaid-width picture rect pixels in
+    let h = overlaid-height picture rect pixels in
+    λ i. record { width = w i; height = h i }
+
+with_painting_there : (wanted : Wanted) (o : Option Source) (picture : Source) (id : ℕ) (at : Point) → o ≡ Some picture
+    → with_painting wanted o id at ≡ drawing wanted id (λ surface. overlaid surface (place_of picture at) (pixels_in picture))
+unfolding with_painting
+with_painting_there wanted o picture id at there = rw there refl
+
+pub paint_fine : (pictures : List Source) (server : Server) (held after : Held) (id number : ℕ) (at : Point) (kind : Option Kind) → Holds pictures held server → IsStep (Paint id number at kind)
+    → held_after held (Paint id number at kind) ≡ Ok after → Fine pictures server (Paint id number at kind) after
+unfolding messages held_after plan_after wanted_after
+paint_fine pictures server held after id number at None holds numbers checked = absurd (let none : false ≡ true = numbers.2 in cc)
+paint_fine pictures server held after id number at (Some Raw) holds numbers checked =
+    let may = may_paint pictures server held after id number at holds numbers.1 checked in
+    let m = may.0 in
+    let rect = place_of m.picture at in
+    let pixels = pixels_in m.picture in
+    let shown = with_picture server.state.shown id (overlaid m.surface rect pixels) in
+    let due = painting_raw (get server.state.shown.surfaces id) (slice_get pictures number) (Some Raw) m.surface m.picture id at m.there m.drawn refl in
+    let length_is : length (raw_bytes pixels) ≡ 4 * (m.picture.width * m.picture.height) = length-raw_bytes pixels ∙ ap (λ n. 4 * n) (length-pixels_in m.picture) in
+    record {
+      next = record server.state { shown = shown };
+      accepted = ap (all_steps server.state) due ∙ all_steps-one server.state _ _ (painted_raw server.state id m.surface m.picture at m.there m.inside);
+      carried = subst (AllByRecursion IsCarried) (sym due)
+          (carried-wire id UNCOMPRESSED (byte_of m.surface.format) rect (raw_bytes pixels) numbers.0 (omega arith) m.place (omega (arith, length_is, m.short)), tt);
+      holds = subst (λ h. Holds pictures h (shows server shown)) may.1
+          (holds_shown pictures held server _ _ shown holds
+          (holds-drawn held.sides held.cells server.state.shown.surfaces id m.surface _ holds.surfaces m.there (sides_overlaid m.surface rect pixels)));
+      frame = refl;
+      agrees = λ wanted agree. subst (Agree (shows server shown)) (sym (with_painting_there wanted (slice_get pictures number) m.picture id at m.drawn))
+          (drawing_agrees server wanted id m.surface (λ z. overlaid z rect pixels) m.there agree);
+    }

@@ -1,6 +1,6 @@
 -- The messages of the steps that keep, show and forget bitmaps are accepted by the server's own state,
 -- and show and hold what is wanted.
-use Rattle.std.proofs.Common.{ℕ, ◌≡◌, ◌≤◌, ◌<◌, ◌^◌, true, List, [], ◌∷◌, ◌++◌, map, Option, Some, None, is_some, Result, Ok, Err, refl, sym, ap, ◌∙◌, subst, arith}
+use Rattle.std.proofs.Common.{ℕ, ◌≡◌, ◌≤◌, ◌<◌, ◌^◌, true, List, [], ◌∷◌, map, Option, Some, None, is_some, Result, Ok, Err, refl, sym, ap, ◌∙◌, subst, arith}
 use Rattle.std.specs.List.{AllByRecursion}
 use Rattle.std.specs.Ordering.{nat_cmp}
 use Rattle.std.specs.Option.{ok_or}
@@ -14,7 +14,6 @@ use Rattle.gfx_base.specs.declared.geometry.Rect.{Rect}
 use Rattle.gfx_base.specs.declared.pixel.Pixel.{Pixel}
 use Rattle.gfx_base.specs.declared.refusal.Refusal.{Refusal}
 use Rattle.gfx_base.specs.declared.refusal.Refusal.TheVariants as refusal
-use Rattle.gfx_pdu.specs.declared.pdu.Pdu.{Pdu}
 use Rattle.gfx_pdu.specs.declared.pdu.Pdu.TheVariants.{CacheToSurface, EvictCacheEntry}
 use Rattle.gfx_surface.specs.Picture.{Picture}
 use Rattle.gfx_surface_map.specs.Shown.{Shown, with_picture, fit_all, sized, stamped, pixels_put}
@@ -43,6 +42,7 @@ use Rattle.gfx_planner.specs.Shelves.{sides_in, emptied}
 use Rattle.gfx_planner.proofs.Slots.{Showing, cache_kept, rect_sides, shelved-kept, shelved-shows, shelved-touched, shelved-forgotten, sided-kept, sided-touched, sided-forgotten, sided-shows, shown-step, forgotten-steps}
 use Rattle.gfx_planner.proofs.Passing.{emptying_some, showing_some, keeping_chosen, kept_plan_chosen}
 use Rattle.gfx_planner.proofs.Held.{holds-drawn}
+use Rattle.gfx_planner.proofs.Lists.{all_both}
 use Rattle.gfx_planner.proofs.SurfaceSteps.{Fine, drawing_agrees, found_there, ok_or_some, shows}
 
 -- bitmaps -------------------------------------------------------------------------------------------
@@ -53,10 +53,6 @@ slot_fits slot is = grind (arith, nat_tests)
 some_is : {X : Type 0} (o : Option X) → is_some o ≡ true → (x : X) × (o ≡ Some x)
 some_is None e = absurd cc
 some_is (Some x) e = (x, refl)
-
-all-both : (xs ys : List Pdu) → AllByRecursion IsCarried xs → AllByRecursion IsCarried ys → AllByRecursion IsCarried (xs ++ ys)
-all-both [] ys first second = second
-all-both (x ∷ xs) ys first second = (first.0, all-both xs ys first.1 second)
 
 -- a key's bitmap is kept, shown or held no more
 abbrev caches : Server → Cached → Plan → Server
@@ -125,7 +121,7 @@ keep_fine pictures server held after id key rect holds numbers checked =
       next = record state { cache = cache };
       accepted = ap (all_steps state) due ∙ k.accepted;
       carried = subst (AllByRecursion IsCarried) (sym due)
-          (all-both (map EvictCacheEntry m.kept.dropped) _ (evictions_carried m.kept.dropped k.slots)
+          (all_both IsCarried (map EvictCacheEntry m.kept.dropped) _ (evictions_carried m.kept.dropped k.slots)
           (carried-store id key m.kept.slot rect numbers.0 (omega (arith, numbers.1)) (omega (arith, k.slot.1)) numbers.2, tt));
       holds = subst (λ p. Holds pictures after (caches server cache p)) (sym plan)
           (subst (λ h. Holds pictures h (caches server cache m.next)) m.after_is record {

@@ -5,7 +5,7 @@ use Rattle.std.specs.Cmp.{nat_cmp_total}
 use Rattle.std.specs.declared.cmp.Ordering.{Ordering}
 use Rattle.std.specs.declared.cmp.Ordering.TheVariants.{Less, Equal, Greater}
 use Rattle.std.specs.FinMap.Entries.{by_order, below_all}
-use Rattle.std.specs.FinMap.{FinMap, find, get, insert, remove, same_map, nat_cmp-IsAntisymmetric, get-remove, len-remove, contains_key, len, empty, values, entries, entries_sorted, entries-insert, put, is_sorted, get-insert, get-entries, len-insert, get-empty, len-empty, len-entries}
+use Rattle.std.specs.FinMap.{FinMap, find, get, insert, remove, get-remove, len-remove, contains_key, len, empty, values, entries, entries_sorted, entries-insert, put, is_sorted, get-insert, get-entries, len-insert, get-empty, len-empty, len-entries}
 use Rattle.std.specs.List.{sum_by}
 use Rattle.std.specs.Map.{values_of}
 use Rattle.std.specs.Ordering.{nat_cmp, eq_by_cmp, is_eq, is_lt}
@@ -13,6 +13,7 @@ use Rattle.std.proofs.lemmas.Bool.{cases_eq}
 use Rattle.std.proofs.lemmas.Bool.Decides.{nat_tests}
 use Rattle.std.proofs.lemmas.List.{nil_from_length}
 use Rattle.std.proofs.lemmas.List.Sums.{sum_by-cons}
+use Rattle.gfx_bitmap_cache.proofs.Maps.{insert-remove, get-removed}
 use Rattle.gfx_surface.specs.Picture.{Picture}
 use Rattle.gfx_surface_map.specs.Surfaces.{Surfaces, cells, cells_of_picture}
 use Rattle.gfx_script.specs.declared.held.Sides.{Sides}
@@ -166,26 +167,9 @@ holds-drawn sides count surfaces id old new holds some same =
         ∙ ap (option_map sides_of) (sym (get-insert nat_cmp_total surfaces id new q))
 
 -- a surface that is deleted
-removed_again : {X : Type 0} (m : FinMap nat_cmp X) (k : ℕ) (v : X) → get m k ≡ Some v → insert (remove m k) k v ≡ m
-removed_again m k v there = same_map nat_cmp_total nat_cmp-IsAntisymmetric _ _ (λ q. get-insert nat_cmp_total (remove m k) k v q
-    ∙ ap (cond (eq_by_cmp nat_cmp q k) (Some v)) (get-remove nat_cmp_total m k q) ∙ by q (cases_eq q k))
-  where
-    by : (q : ℕ) → ((q ≡ k) ⊎ (q ≢ k)) → cond (eq_by_cmp nat_cmp q k) (Some v) (cond (eq_by_cmp nat_cmp q k) None (get m q)) ≡ get m q
-    by q (inl at) =
-        let same : eq_by_cmp nat_cmp q k ≡ true = grind (arith, nat_tests) in
-        ap (λ b. cond b (Some v) (cond b None (get m q))) same ∙ sym there ∙ ap (get m) (sym at)
-    by q (inr apart) =
-        let differ : eq_by_cmp nat_cmp q k ≡ false = grind (arith, nat_tests) in
-        ap (λ b. cond b (Some v) (cond b None (get m q))) differ
-
-get-removed : {X : Type 0} (m : FinMap nat_cmp X) (k : ℕ) → get (remove m k) k ≡ None
-get-removed m k =
-    let same : eq_by_cmp nat_cmp k k ≡ true = grind (arith, nat_tests) in
-    get-remove nat_cmp_total m k k ∙ ap (λ b. cond b None (get m k)) same
-
 sum_by-values-remove : {X : Type 0} (f : X → ℕ) (m : FinMap nat_cmp X) (k : ℕ) (v : X) → get m k ≡ Some v → sum_by f (values m) ≡ f v + sum_by f (values (remove m k))
 sum_by-values-remove f m k v there =
-    let whole = ap (λ z. sum_by f (values z)) (removed_again m k v there) in
+    let whole = ap (λ z. sum_by f (values z)) (insert-remove m k v there) in
     let put = sum_by-values-insert f (remove m k) k v in
     let none : share f (get (remove m k) k) ≡ 0 = ap (share f) (get-removed m k) in
     omega (arith, whole, put, none)

@@ -1,3 +1,4 @@
+pub mod Lists
 pub mod Carried
 pub mod Held
 pub mod Effects

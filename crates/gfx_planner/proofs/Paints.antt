@@ -58,7 +58,8 @@ pub length-pixels_in : (picture : Source) → length (pixels_in picture) ≡ pic
 unfolding pixels_in
 length-pixels_in picture = length-drawn picture.width picture.height (pixel_of picture)
 
-format_back : (format : Format) → format_of (byte_of format) ≡ Some format
+-- a format is read back from its byte
+pub format_back : (format : Format) → format_of (byte_of format) ≡ Some format
 format_back Xrgb = refl
 format_back Argb = refl
 

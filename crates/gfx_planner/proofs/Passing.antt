@@ -1,6 +1,5 @@
 -- Messages that may pass, one after another.
 use Rattle.std.proofs.Common.{◌≡◌, ℕ, ◌+◌, ◌-◌, ◌<◌, ◌≤◌, true, List, [], ◌∷◌, ◌++◌, map, take, drop, length, get_or, Option, Some, None, option_map, Result, Ok, Err, refl, sym, ap, ◌∙◌, subst, arith, append_assoc, take-append-drop}
-use Rattle.std.specs.List.{AllByRecursion}
 use Rattle.std.specs.Prelude.{IfOk, IfSome}
 use Rattle.std.specs.Result.{IsOk, is_ok}
 use Rattle.std.proofs.lemmas.List.{append-nil, map-append, take_more, drop_more, take_all}
@@ -26,6 +25,7 @@ use Rattle.gfx_state.proofs.Sent.{all_steps-append, sent-append}
 use Rattle.gfx_planner.specs.Planned.{MayPassAll, Passes, PutsPart}
 use Rattle.gfx_planner.specs.Want.{pixels_in}
 use Rattle.gfx_planner.specs.Wire.{emptying, showing_slot, painting, keeping, kept_plan, raw_bytes}
+use Rattle.gfx_planner.proofs.Lists.{all_front, all_behind}
 use Rattle.gfx_planner.proofs.Paints.{place_of}
 use Rattle.gfx_planner.proofs.Payloads.{sides}
 
@@ -43,25 +43,17 @@ pub may_first : (state : State) (pdu : Pdu) (pdus : List Pdu) → MayPassAll sta
 unfolding all_steps
 may_first state pdu pdus may = (may.carried.0, ok_first (step state pdu) (λ s. all_steps s pdus) may.accepted)
 
-all_front : (xs ys : List Pdu) → AllByRecursion IsCarried (xs ++ ys) → AllByRecursion IsCarried xs
-all_front [] ys all = tt
-all_front (x ∷ xs) ys all = (all.0, all_front xs ys all.1)
-
-all_behind : (xs ys : List Pdu) → AllByRecursion IsCarried (xs ++ ys) → AllByRecursion IsCarried ys
-all_behind [] ys all = all
-all_behind (x ∷ xs) ys all = all_behind xs ys all.1
-
 -- a front of them may pass
 pub may_front : (state : State) (xs ys : List Pdu) → MayPassAll state (xs ++ ys) → MayPassAll state xs
 may_front state xs ys may = record {
-  carried = all_front xs ys may.carried;
+  carried = all_front IsCarried xs ys may.carried;
   accepted = ok_first (all_steps state xs) (λ s. all_steps s ys) (ap is_ok (sym (all_steps-append state xs ys)) ∙ may.accepted);
 }
 
 -- and the others behind it
 pub may_behind : (state via : State) (xs ys : List Pdu) → MayPassAll state (xs ++ ys) → all_steps state xs ≡ Ok via → MayPassAll via ys
 may_behind state via xs ys may first = record {
-  carried = all_behind xs ys may.carried;
+  carried = all_behind IsCarried xs ys may.carried;
   accepted = ap is_ok (sym (and_then_at (all_steps state xs) via (λ s. all_steps s ys) first)) ∙ ap is_ok (sym (all_steps-append state xs ys)) ∙ may.accepted;
 }
 

@@ -18,6 +18,7 @@ use Rattle.gfx_planner.specs.Stream.{opening, opened, closing, closed, sends, se
 use Rattle.gfx_planner.specs.Want.{Wanted, nothing_wanted, wanted_after, want}
 use Rattle.gfx_planner.specs.Shows.{ScriptsAreShown}
 use Rattle.gfx_planner.specs.Wire.{Server, at_start, messages, frame_start, frame_end, reached, after_messages, plan_after, after_put, after_open, after_close}
+use Rattle.gfx_planner.proofs.Lists.{all_both, all_front, all_behind}
 use Rattle.gfx_planner.proofs.Effects.{all_steps-one}
 use Rattle.gfx_planner.proofs.Held.{holds-nothing}
 use Rattle.gfx_planner.proofs.Slots.{shelved-start}
@@ -32,10 +33,6 @@ after_messages-is server pdus next accepted = ap (λ r. record server { state = 
 -- messages, accepted one list after another
 both : (state via last : State) (xs ys : List Pdu) → all_steps state xs ≡ Ok via → all_steps via ys ≡ Ok last → all_steps state (xs ++ ys) ≡ Ok last
 both state via last xs ys first second = all_steps-append state xs ys ∙ and_then_at (all_steps state xs) via (λ next. all_steps next ys) first ∙ second
-
-pub carried_both : (xs ys : List Pdu) → AllByRecursion IsCarried xs → AllByRecursion IsCarried ys → AllByRecursion IsCarried (xs ++ ys)
-carried_both [] ys first second = second
-carried_both (x ∷ xs) ys first second = (first.0, carried_both xs ys first.1 second)
 
 all_steps-none : (state : State) → all_steps state [] ≡ Ok state
 unfolding all_steps
@@ -170,7 +167,7 @@ goes pictures server held after wanted step few stands numbers checked =
     record {
       accepted = both server.state ready.state _ (opening server) _ o.0.accepted
           (both ready.state put.state _ (messages pictures ready step) (closing put step) (fine.accepted ∙ ap (λ z. Ok z.state) (sym put_is)) c.0.accepted);
-      carried = carried_both (opening server) _ o.0.carried (carried_both (messages pictures ready step) (closing put step) fine.carried c.0.carried);
+      carried = all_both IsCarried (opening server) _ o.0.carried (all_both IsCarried (messages pictures ready step) (closing put step) fine.carried c.0.carried);
       stands = record {
         holds = holds_passed pictures after put _ (closing put step) c.0 (subst (Holds pictures after) (sym put_is) fine.holds);
         agrees = agree_passed put _ _ (closing put step) c.0 (subst (λ z. Agree z (wanted_after pictures wanted step)) (sym put_is) agreed);
@@ -220,7 +217,7 @@ streams pictures server held after wanted (step ∷ steps) few stands numbers ch
     let others = streams pictures next c.0 after (wanted_after pictures wanted step) steps (omega (arith, first.frames)) first.stands numbers.1 c.2 in
     record {
       accepted = ap (all_steps server.state) (stream-cons pictures server step steps) ∙ both server.state next.state _ (sends pictures server step) (stream pictures next steps) first.accepted others.accepted;
-      carried = subst (AllByRecursion IsCarried) (sym (stream-cons pictures server step steps)) (carried_both (sends pictures server step) (stream pictures next steps) first.carried others.carried);
+      carried = subst (AllByRecursion IsCarried) (sym (stream-cons pictures server step steps)) (all_both IsCarried (sends pictures server step) (stream pictures next steps) first.carried others.carried);
       stands = others.stands;
       frames = omega (arith, first.frames, others.frames);
     }
@@ -242,14 +239,6 @@ held_through-append held after (x ∷ xs) ys checked =
     let c = held_through-cons held after x (xs ++ ys) checked in
     let r = held_through-append c.0 after xs ys c.2 in
     (r.0, and_then_at (held_after held x) c.0 (λ next. held_through next xs) c.1 ∙ r.1, r.2)
-
-all_front : (xs ys : List Step) → AllByRecursion IsStep (xs ++ ys) → AllByRecursion IsStep xs
-all_front [] ys all = tt
-all_front (x ∷ xs) ys all = (all.0, all_front xs ys all.1)
-
-pub all_behind : (xs ys : List Step) → AllByRecursion IsStep (xs ++ ys) → AllByRecursion IsStep ys
-all_behind [] ys all = all
-all_behind (x ∷ xs) ys all = all_behind xs ys all.1
 
 -- what is held before the first step
 abbrev pub first_held : Scripted → Held
@@ -284,8 +273,8 @@ along script front rest good cut =
     let many : length front + length rest ≡ length script.steps = sym (length-append front rest) ∙ ap length (sym cut) in
     record {
       held = c.0;
-      streams = streams script.pictures (at_start script.small) first c.0 (nothing_wanted script.small) front (omega (arith, good.few, many)) (stands_at_start script good) (all_front front rest numbers) c.1;
-      numbers = all_behind front rest numbers;
+      streams = streams script.pictures (at_start script.small) first c.0 (nothing_wanted script.small) front (omega (arith, good.few, many)) (stands_at_start script good) (all_front IsStep front rest numbers) c.1;
+      numbers = all_behind IsStep front rest numbers;
       last = good.held;
       checked = c.2;
     }

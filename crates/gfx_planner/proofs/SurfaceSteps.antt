@@ -13,7 +13,6 @@ use Rattle.gfx_base.specs.Geometry.{IsPoint, IsRect, lies_in}
 use Rattle.gfx_base.specs.Results.{and_then, check}
 use Rattle.gfx_base.proofs.ResultLemmas.{and_then_ok, and_then_at, check_ok}
 use Rattle.gfx_base.specs.declared.format.Format.{Format}
-use Rattle.gfx_base.specs.declared.format.Format.TheVariants.{Xrgb, Argb}
 use Rattle.gfx_base.specs.declared.geometry.Point.{Point}
 use Rattle.gfx_base.specs.declared.geometry.Rect.{Rect}
 use Rattle.gfx_base.specs.declared.pixel.Pixel.{Pixel}
@@ -55,7 +54,7 @@ use Rattle.gfx_planner.specs.Want.{Wanted, drawn_on, drawing, without_surface, w
 use Rattle.gfx_planner.specs.Wire.{Server, one_monitor, raw_bytes, plan_after, messages}
 use Rattle.gfx_planner.proofs.Carried.{carried-create, carried-delete, carried-reset, carried-map, carried-fill, carried-copy, carried-wire, carried-start, carried-end}
 use Rattle.gfx_planner.proofs.Effects.{all_steps-one}
-use Rattle.gfx_planner.proofs.Paints.{place_of, length-raw_bytes, length-pixels_in, painted_raw}
+use Rattle.gfx_planner.proofs.Paints.{format_back, place_of, length-raw_bytes, length-pixels_in, painted_raw}
 use Rattle.gfx_planner.proofs.Passing.{painting_raw}
 use Rattle.gfx_planner.proofs.Held.{holds-made, holds-drawn, holds-deleted}
 
@@ -114,10 +113,6 @@ may_make held after surfaces id width height format holds numbers checked =
       },
       (let same = second.2 in cc),
     )
-
-format_back : (format : Format) → format_of (byte_of format) ≡ Some format
-format_back Xrgb = refl
-format_back Argb = refl
 
 pub made : (state : State) (id width height : ℕ) (format : Format) → MayMake state.shown.surfaces id width height
     → message.step state (CreateSurface id width height (byte_of format)) ≡ Ok (record state { shown = with_picture state.shown id (blank width height format) })

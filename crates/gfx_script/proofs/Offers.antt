@@ -1,11 +1,12 @@
 -- The best of the capability sets that were read so far, and what the rest makes of it.
-use Rattle.std.proofs.Common.{◌≡◌, ℕ, ◌+◌, ◌<◌, ◌≤◌, Bool, List, [], ◌∷◌, map, fold, length, drop, get_or, Option, Some, None, Result, Ok, Err, refl, sym, ap, ◌∙◌}
-use Rattle.std.proofs.lemmas.List.{drop_more, drop_all}
+use Rattle.std.proofs.Common.{◌≡◌, ℕ, ◌+◌, ◌<◌, ◌≤◌, Bool, List, [], ◌∷◌, map, fold, length, drop, get_or, Option, Some, None, Result, Ok, Err, refl, ap, ◌∙◌}
+use Rattle.std.proofs.lemmas.List.{drop_all}
 use Rattle.std.specs.Option.{option_map_or}
 use Rattle.toml.specs.Data.{Data}
 use Rattle.gfx_base.specs.Results.{and_then, each}
 use Rattle.gfx_base.proofs.ResultLemmas.{and_then_at, and_then_refused, and_then_assoc}
 use Rattle.gfx_script.specs.declared.error.ScriptKind.{ScriptKind}
+use Rattle.gfx_script.proofs.Runs.{from_place}
 use Rattle.gfx_script.specs.Clients.{Offered, offered_in, better, chooses_small}
 
 -- whether the set that is chosen has a small cache, where this is the best so far, if there is one
@@ -42,19 +43,15 @@ unfolding each and_then
 no_offers best = refl
 
 module _ {V : Type 0} (view : V → Data) (vs : List V) (at : ℕ) (best : Option Offered) (due : Result Bool ScriptKind) where
-  -- what stands from a place on
-  from_place : (v : V) → at < length vs → v ≡ get_or vs at v → drop at vs ≡ v ∷ drop (at + 1) vs
-  from_place v lt is = drop_more vs at v lt ∙ ap (λ w. w ∷ drop (at + 1) vs) (sym is)
-
   pub offers_next : (v : V) (one : Offered) → at < length vs → v ≡ get_or vs at v → offered_in (view v) ≡ Ok one
       → due ≡ small_after best (map view (drop at vs)) → due ≡ small_after (best_with best one) (map view (drop (at + 1) vs))
   offers_next v one lt is e so_far =
-      so_far ∙ ap (λ ws. small_after best (map view ws)) (from_place v lt is) ∙ offer_found best (view v) (map view (drop (at + 1) vs)) one e
+      so_far ∙ ap (λ ws. small_after best (map view ws)) (from_place vs at v lt is) ∙ offer_found best (view v) (map view (drop (at + 1) vs)) one e
 
   pub offers_stop : (v : V) (kind : ScriptKind) → at < length vs → v ≡ get_or vs at v → offered_in (view v) ≡ Err kind
       → due ≡ small_after best (map view (drop at vs)) → due ≡ Err kind
   offers_stop v kind lt is e so_far =
-      so_far ∙ ap (λ ws. small_after best (map view ws)) (from_place v lt is) ∙ offer_refused best (view v) (map view (drop (at + 1) vs)) kind e
+      so_far ∙ ap (λ ws. small_after best (map view ws)) (from_place vs at v lt is) ∙ offer_refused best (view v) (map view (drop (at + 1) vs)) kind e
 
   pub offers_end : length vs ≤ at → due ≡ small_after best (map view (drop at vs)) → due ≡ Ok (small_from best [])
   offers_end past so_far = so_far ∙ ap (λ ws. small_after best (map view ws)) (drop_all at vs past) ∙ no_offers best

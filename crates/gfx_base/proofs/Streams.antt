@@ -10,9 +10,7 @@ Gained_none (Some old) = sym (append-nil old)
 
 -- two gains, one after the other, are one
 pub Gained-append : (a : Option (List ℕ)) (xs : List ℕ) (b : Option (List ℕ)) (ys : List ℕ) (c : Option (List ℕ)) → Gained a xs b → Gained b ys c → Gained a (xs ++ ys) c
-Gained-append None xs None ys None p q = tt
-Gained-append None xs None ys (Some c) p q = q
-Gained-append None xs (Some b) ys c p q = absurd p
+Gained-append None xs b ys c p q = tt
 Gained-append (Some a) xs None ys c p q = absurd p
 Gained-append (Some a) xs (Some b) ys None p q = q
 Gained-append (Some a) xs (Some b) ys (Some c) p q = q ∙ ap (λ z. z ++ ys) p ∙ append_assoc a xs ys
@@ -106,7 +104,6 @@ Tells_same told bytes e = e
 
 -- what was given, and what is told to be left, was told before
 pub Tells-Gave : (old new : Option (List ℕ)) (given rest : List ℕ) → Gave old given new → Tells new rest → Tells old (given ++ rest)
-Tells-Gave None None given rest g t = tt
-Tells-Gave None (Some new) given rest g t = absurd g
+Tells-Gave None new given rest g t = tt
 Tells-Gave (Some old) None given rest g t = absurd g
 Tells-Gave (Some old) (Some new) given rest g t = ap (λ w. given ++ w) t ∙ sym g.0

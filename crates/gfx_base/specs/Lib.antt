@@ -6,3 +6,4 @@ pub mod Results
 pub mod Outcome
 pub mod Stream
 pub mod Memory
+pub mod Codes

@@ -7,17 +7,15 @@ use Rattle.gfx_base.specs.declared.source.TheConstants.{LAST_COUNT}
 abbrev pub Rose : ℕ → ℕ → Type 0
 Rose before now = now < LAST_COUNT → before < now
 
--- what is held, where it is told, gained these bytes at its end
+-- what is held, where it was told, gained these bytes at its end
 abbrev pub Gained : Option (List ℕ) → List ℕ → Option (List ℕ) → Type 0
-Gained None bytes None = Unit {0}
-Gained None bytes (Some new) = ⊥
+Gained None bytes new = Unit {0}
 Gained (Some old) bytes None = ⊥
 Gained (Some old) bytes (Some new) = new ≡ old ++ bytes
 
--- what is left, where it is told, lost these bytes at its front; no bytes only where none was left
+-- what is left, where it was told, lost these bytes at its front; no bytes only where none was left
 abbrev pub Gave : Option (List ℕ) → List ℕ → Option (List ℕ) → Type 0
-Gave None bytes None = Unit {0}
-Gave None bytes (Some new) = ⊥
+Gave None bytes new = Unit {0}
 Gave (Some old) bytes None = ⊥
 Gave (Some old) bytes (Some new) = (old ≡ bytes ++ new) × (bytes ≡ [] → new ≡ [])
 

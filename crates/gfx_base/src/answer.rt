@@ -23,51 +23,55 @@ impl<T: Drop> From<AllocFailed<T>> for NoMemory {
 #[derive(Clone, Copy, Debug, PartialEq, Eq)]
 pub struct Failed;
 
-/// Why a call gave no answer: what it was given is refused, or no memory is left.
+/// Why a call gave no answer: what it was given is refused, for one of the reasons `R`, or no memory
+/// is left.
 #[derive(Clone, Copy, Debug, PartialEq, Eq)]
-pub enum Fault {
-    /// What was given breaks a rule of the formats.
-    Refused(Refusal),
+pub enum Cause<R> {
+    /// What was given breaks a rule.
+    Refused(R),
     /// No memory is left.
     Memory,
 }
 
-impl From<Refusal> for Fault {
-    ghost use Rattle.gfx_base.specs.declared.answer.Fault.TheVariants.{Refused};
+/// Why a call on messages, streams or what they make gave no answer.
+pub type Fault = Cause<Refusal>;
+
+impl From<Refusal> for Cause<Refusal> {
+    ghost use Rattle.gfx_base.specs.declared.answer.Cause.TheVariants.{Refused};
 
     ghost from_gives = { λ r e. e ≡ Refused r };
 
-    fn from(refusal: Refusal) -> Fault {
-        Fault::Refused(refusal)
+    fn from(refusal: Refusal) -> Cause<Refusal> {
+        Cause::Refused(refusal)
     }
 }
 
-impl From<NoMemory> for Fault {
-    ghost use Rattle.gfx_base.specs.declared.answer.Fault.TheVariants.{Memory};
+impl<R> From<NoMemory> for Cause<R> {
+    ghost use Rattle.gfx_base.specs.declared.answer.Cause.TheVariants.{Memory};
 
     ghost from_gives = { λ _ e. e ≡ Memory };
 
-    fn from(_e: NoMemory) -> Fault {
-        Fault::Memory
+    fn from(_e: NoMemory) -> Cause<R> {
+        Cause::Memory
     }
 }
 
-impl From<AllocError> for Fault {
-    ghost use Rattle.gfx_base.specs.declared.answer.Fault.TheVariants.{Memory};
+impl<R> From<AllocError> for Cause<R> {
+    ghost use Rattle.gfx_base.specs.declared.answer.Cause.TheVariants.{Memory};
 
     ghost from_gives = { λ _ e. e ≡ Memory };
 
-    fn from(_e: AllocError) -> Fault {
-        Fault::Memory
+    fn from(_e: AllocError) -> Cause<R> {
+        Cause::Memory
     }
 }
 
-impl<T: Drop> From<AllocFailed<T>> for Fault {
-    ghost use Rattle.gfx_base.specs.declared.answer.Fault.TheVariants.{Memory};
+impl<R, T: Drop> From<AllocFailed<T>> for Cause<R> {
+    ghost use Rattle.gfx_base.specs.declared.answer.Cause.TheVariants.{Memory};
 
     ghost from_gives = { λ _ e. e ≡ Memory };
 
-    fn from(_e: AllocFailed<T>) -> Fault {
-        Fault::Memory
+    fn from(_e: AllocFailed<T>) -> Cause<R> {
+        Cause::Memory
     }
 }

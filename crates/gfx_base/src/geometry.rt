@@ -1,5 +1,5 @@
 ghost use Rattle.std.specs.Prelude.{◌≡◌};
-ghost use Rattle.gfx_base.specs.Geometry.{lies_in, width_of, height_of};
+ghost use Rattle.gfx_base.specs.Geometry.{lies_in, width_of, height_of, sized};
 
 /// A place on a surface or on the output ([MS-RDPEGFX] RDPGFX_POINT16), in pixels from the top left.
 #[derive(Clone, Copy, Debug, PartialEq, Eq)]
@@ -26,6 +26,18 @@ pub struct Rect {
 }
 
 impl Rect {
+    /// The rectangle of these sides that begins at the top left.
+    pub fn sized(width: u16, height: u16) -> Rect
+        ensures { result ≡ sized width height }
+    {
+        Rect {
+            left: 0,
+            top: 0,
+            right: width,
+            bottom: height,
+        }
+    }
+
     /// Whether the rectangle, which may be empty, lies in an area of these sides.
     pub fn lies_in(self, width: u16, height: u16) -> bool
         ensures { result ≡ lies_in width height self }

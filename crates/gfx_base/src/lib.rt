@@ -7,6 +7,7 @@
 mod answer;
 mod bitmap;
 mod fields;
+mod fitting;
 mod format;
 mod geometry;
 mod items;
@@ -15,16 +16,14 @@ mod refusal;
 mod sink;
 mod source;
 
-pub use answer::{Failed, Fault, NoMemory};
+pub use answer::{Cause, Failed, Fault, NoMemory};
 pub use bitmap::Bitmap;
 pub use fields::{field_u16, field_u32, field_u64};
+pub use fitting::{all_lie_in, fits_at, fits_at_all, moved_to};
 pub use format::Format;
 pub use geometry::{Cell, Point, Rect};
 pub use items::{Bytes, Items, Pixels, Points, Rects, Rgbs};
-pub use pixel::{Pixel, Rgb};
+pub use pixel::{BYTES_PER_PIXEL, Pixel, Rgb};
 pub use refusal::Refusal;
 pub use sink::{Sink, VecSink, write_all};
 pub use source::{SliceSource, Source};
-
-#[cfg(test)]
-mod tests;

@@ -5,13 +5,8 @@ use Rattle.std.specs.Ordering.{nat_cmp}
 use Rattle.std.specs.FinMap as finmap
 use Rattle.std.specs.FinMap.{FinMap}
 use Rattle.gfx_base.specs.declared.pixel.Pixel.{Pixel}
+use Rattle.gfx_base.specs.Codes.{pixel_code}
 use Rattle.gfx_bitmap_cache.specs.Slots.{Image, Entry, Cached}
-
--- a pixel as its four numbers
-abbrev pub pixel_code : Coded Pixel
-pixel_code =
-    code_by (ℕ × (ℕ × (ℕ × ℕ))) (coded× coded_ℕ (coded× coded_ℕ (coded× coded_ℕ coded_ℕ)))
-    (λ p. (p.b, (p.g, (p.r, p.a)))) (λ t. record { b = t.0; g = t.1.0; r = t.1.1.0; a = t.1.1.1 }) (λ _. refl)
 
 -- an image as its sides and its pixels
 abbrev pub image_code : Coded Image

@@ -14,6 +14,3 @@ pub use limits::{
     BYTES_PER_PIXEL, MOST_BYTES, MOST_SLOTS, MOST_SMALL_BYTES, MOST_SMALL_SLOTS, budget, bytes_for,
     last_slot,
 };
-
-#[cfg(test)]
-mod tests;

@@ -8,6 +8,3 @@ mod writer;
 
 pub use reader::BitReader;
 pub use writer::{BitWriter, NoBits};
-
-#[cfg(test)]
-mod tests;

@@ -4,12 +4,12 @@ use Rattle.std.proofs.lemmas.List.{drop-drop}
 use Rattle.gfx_base.specs.Memory.{next_count}
 use Rattle.gfx_base.specs.Outcome.{Gives, Applies}
 use Rattle.gfx_base.specs.declared.refusal.Refusal.{Refusal}
-use Rattle.gfx_base.specs.declared.answer.Fault.{Fault}
-use Rattle.gfx_base.specs.declared.answer.Fault.TheVariants as fault
+use Rattle.gfx_base.specs.declared.answer.Cause.{Cause}
+use Rattle.gfx_base.specs.declared.answer.Cause.TheVariants as fault
 use Rattle.gfx_pdu.specs.declared.pdu.Pdu.{Pdu}
 use Rattle.gfx_pdu.specs.declared.pdu.Pdu.TheVariants as pdus
 use Rattle.gfx_pdu.specs.Reading.{message_at, next_pdu}
-use Rattle.gfx_segment.specs.Framing.{Held, holding, refused, next, after_next, payload, ended, Answers}
+use Rattle.gfx_segment.specs.Framing.{Splitter, holding, refused, next, after_next, payload, ended, Answers}
 use Rattle.gfx_state.specs.State.{State}
 use Rattle.gfx_state.specs.Step.{step}
 use Rattle.gfx_state.specs.Cursor.{Cursor, Opens, Needs, Refuses, what_next, Reaches, Here}
@@ -29,12 +29,12 @@ use Rattle.gfx_client.specs.Client.{cursor_of, closed_by, TakesMessage, TakesOne
 -- taking a message ---------------------------------------------------------------------------------
 
 -- it can't be read
-pub unread : (client : Client) (f : Fault) → Gives (λ found. found) (Err f) (next_pdu client.payload client.at) → TakesMessage (Err f) client client
+pub unread : (client : Client) (f : Cause Refusal) → Gives (λ found. found) (Err f) (next_pdu client.payload client.at) → TakesMessage (Err f) client client
 unread client fault.Memory due = refl
 unread client (fault.Refused r) due = (what_next_unread (cursor_of client) r (next_pdu_refused client.payload client.at r due), refl)
 
 -- it isn't applied
-pub not_applied : (client : Client) (pdu : Pdu) (after : ℕ) (f : Fault) (screen : State) → next_pdu client.payload client.at ≡ Ok (Some (pdu, after)) → Applies (Err f) client.screen screen (step client.screen pdu) → TakesMessage (Err f) client (record client { screen = screen })
+pub not_applied : (client : Client) (pdu : Pdu) (after : ℕ) (f : Cause Refusal) (screen : State) → next_pdu client.payload client.at ≡ Ok (Some (pdu, after)) → Applies (Err f) client.screen screen (step client.screen pdu) → TakesMessage (Err f) client (record client { screen = screen })
 not_applied client pdu after fault.Memory screen read same = ap (λ z. record client { screen = z }) same
 not_applied client pdu after (fault.Refused r) screen read due =
     let found = next_pdu_found client.payload client.at pdu after read in
@@ -56,19 +56,19 @@ taken client pdu after applied screen stepped read stepping counted says =
 
 -- opening a channel message ------------------------------------------------------------------------
 
-pub not_opened : (client : Client) (f : Fault) (held : Held) → IsAtPayloadEnd client → Answers (Err f) client.splitter held (next payload client.splitter) (after_next payload client.splitter) → OpensMessage (Err f) client (record client { splitter = held })
+pub not_opened : (client : Client) (f : Cause Refusal) (held : Splitter) → IsAtPayloadEnd client → Answers (Err f) client.splitter held (next payload client.splitter) (after_next payload client.splitter) → OpensMessage (Err f) client (record client { splitter = held })
 not_opened client fault.Memory held end same = ap (λ z. record client { splitter = z }) same
 not_opened client (fault.Refused r) held end due =
     (what_next_ends (cursor_of client) r end due.0, record { state = refl; applied = refl; closed = refl })
 
 -- no whole channel message is there: the splitter is as it was
-pub needs : (client : Client) (held : Held) → IsAtPayloadEnd client → Answers (Ok None) client.splitter held (next payload client.splitter) (after_next payload client.splitter) → (what_next (cursor_of client) ≡ Needs) × (record client { splitter = held } ≡ client)
+pub needs : (client : Client) (held : Splitter) → IsAtPayloadEnd client → Answers (Ok None) client.splitter held (next payload client.splitter) (after_next payload client.splitter) → (what_next (cursor_of client) ≡ Needs) × (record client { splitter = held } ≡ client)
 needs client held end due =
     let gave : next payload client.splitter ≡ Ok None = due.0 in
     (what_next_needs (cursor_of client) end gave, ap (λ z. record client { splitter = z }) (due.1 ∙ after_next_none client.splitter gave))
 
 -- a channel message is opened
-pub opened : (client : Client) (p : List ℕ) (held : Held) → IsAtPayloadEnd client → Answers (Ok (Some p)) client.splitter held (next payload client.splitter) (after_next payload client.splitter) → OpensOne client (record client { splitter = held; payload = p; at = 0 })
+pub opened : (client : Client) (p : List ℕ) (held : Splitter) → IsAtPayloadEnd client → Answers (Ok (Some p)) client.splitter held (next payload client.splitter) (after_next payload client.splitter) → OpensOne client (record client { splitter = held; payload = p; at = 0 })
 opened client p held end due =
     let gave : next payload client.splitter ≡ Ok (Some p) = due.0 in
     record {
@@ -117,7 +117,7 @@ waits old mid new m (needed, same) = record {
 }
 
 -- a fault at the next message
-pub stopped_taking : (old mid new : Client) (f : Fault) → Moves old mid [] → TakesMessage (Err f) mid new → Advances (Err f) old new
+pub stopped_taking : (old mid new : Client) (f : Cause Refusal) → Moves old mid [] → TakesMessage (Err f) mid new → Advances (Err f) old new
 stopped_taking old mid new fault.Memory m same = subst (λ z. Moves old z []) (sym same) m
 stopped_taking old mid new (fault.Refused r) m (refuses, same) =
     let unchanged = Reaches-none (cursor_of old) (cursor_of mid) [] m.reaches refl in (
@@ -132,7 +132,7 @@ stopped_taking old mid new (fault.Refused r) m (refuses, same) =
     )
 
 -- a fault at the next channel message
-pub stopped_opening : (old mid new : Client) (f : Fault) → Moves old mid [] → OpensMessage (Err f) mid new → Advances (Err f) old new
+pub stopped_opening : (old mid new : Client) (f : Cause Refusal) → Moves old mid [] → OpensMessage (Err f) mid new → Advances (Err f) old new
 stopped_opening old mid new fault.Memory m same = subst (λ z. Moves old z []) (sym same) m
 stopped_opening old mid new (fault.Refused r) m (refuses, stays) =
     let unchanged = Reaches-none (cursor_of old) (cursor_of mid) [] m.reaches refl in (
@@ -149,7 +149,7 @@ stopped_opening old mid new (fault.Refused r) m (refuses, stays) =
 -- the end of the stream ----------------------------------------------------------------------------
 
 -- where no more messages come, only bytes of an unfinished one can be left
-ended_waiting : (held : Held) → next payload held ≡ Ok None → ended held ≡ check ChannelTruncated (length held.rest == 0)
+ended_waiting : (held : Splitter) → next payload held ≡ Ok None → ended held ≡ check ChannelTruncated (length held.rest == 0)
 unfolding ended
 ended_waiting held gave =
     ap (λ z. check ChannelTruncated (is_some z || (length held.rest == 0))) (next_short held.refusal held.rest gave).0

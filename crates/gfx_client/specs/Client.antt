@@ -3,8 +3,8 @@ use Rattle.std.specs.Prelude.{◌≡◌, ℕ, ◌<◌, List, [], ◌∷◌, leng
 use Rattle.gfx_base.specs.Memory.{next_count}
 use Rattle.gfx_base.specs.declared.refusal.Refusal.{Refusal}
 use Rattle.gfx_base.specs.declared.refusal.Refusal.TheVariants.{ChannelTruncated}
-use Rattle.gfx_base.specs.declared.answer.Fault.{Fault}
-use Rattle.gfx_base.specs.declared.answer.Fault.TheVariants as fault
+use Rattle.gfx_base.specs.declared.answer.Cause.{Cause}
+use Rattle.gfx_base.specs.declared.answer.Cause.TheVariants as fault
 use Rattle.gfx_pdu.specs.declared.pdu.Pdu.{Pdu}
 use Rattle.gfx_pdu.specs.Reading.{message_at}
 use Rattle.gfx_state.specs.Cursor.{Cursor, given, Opens, Needs, Refuses, what_next, Reaches}
@@ -19,7 +19,7 @@ use Rattle.gfx_client.specs.Stepped.{stepped_by}
 -- where a client is in its stream
 abbrev pub cursor_of : Client → Cursor
 cursor_of client = record {
-  held = client.splitter;
+  splitter = client.splitter;
   left = drop client.at client.payload;
   state = client.screen;
   applied = client.applied;
@@ -60,7 +60,7 @@ pub record Waits (old new : Client) : Type 0 where
   pub needs : what_next (cursor_of new) ≡ Needs
 
 -- what a step did that wasn't closed off before
-abbrev pub Advances : Result Stepped Fault → Client → Client → Type 0
+abbrev pub Advances : Result Stepped (Cause Refusal) → Client → Client → Type 0
 Advances (Ok Need) old new = Waits old new
 Advances (Ok Applied) old new = MovesBy old new Applied
 Advances (Ok (Ended frame)) old new = MovesBy old new (Ended frame)
@@ -103,7 +103,7 @@ IsAtEnd client = closed_by client ≡ None → what_next (cursor_of client) ≡ 
 abbrev pub end_of : Option ClientFault → Cursor → Result (Unit {0}) ClientFault
 end_of (Some fault) at = Err fault
 end_of None at =
-    if length at.held.rest == 0 then Ok tt else Err (Refused (next_count at.applied) ChannelTruncated)
+    if length at.splitter.rest == 0 then Ok tt else Err (Refused (next_count at.applied) ChannelTruncated)
 
 -- one message of the present payload -------------------------------------------------------------
 
@@ -118,7 +118,7 @@ pub record TakesOne (old new : Client) (stepped : Stepped) : Type 0 where
   pub takes : what_next (cursor_of old) ≡ cursor.Takes pdu (cursor_of new)
   pub closed : closed_by new ≡ closed_by old
 
-abbrev pub TakesMessage : Result (Option Stepped) Fault → Client → Client → Type 0
+abbrev pub TakesMessage : Result (Option Stepped) (Cause Refusal) → Client → Client → Type 0
 TakesMessage (Ok (Some stepped)) old new = TakesOne old new stepped
 TakesMessage (Ok None) old new = IsAtPayloadEnd old × (new ≡ old)
 TakesMessage (Err fault.Memory) old new = new ≡ old
@@ -127,7 +127,7 @@ TakesMessage (Err (fault.Refused r)) old new = (what_next (cursor_of old) ≡ Re
 -- a channel message was opened: fewer bytes are left
 pub record OpensOne (old new : Client) : Type 0 where
   pub opens : what_next (cursor_of old) ≡ Opens (cursor_of new)
-  pub fewer : length (cursor_of new).held.rest < length (cursor_of old).held.rest
+  pub fewer : length (cursor_of new).splitter.rest < length (cursor_of old).splitter.rest
   pub closed : closed_by new ≡ closed_by old
 
 -- the client is as it was, but for the bytes that it has not used
@@ -136,7 +136,7 @@ pub record Stays (old new : Client) : Type 0 where
   pub applied : (cursor_of new).applied ≡ (cursor_of old).applied
   pub closed : closed_by new ≡ closed_by old
 
-abbrev pub OpensMessage : Result Bool Fault → Client → Client → Type 0
+abbrev pub OpensMessage : Result Bool (Cause Refusal) → Client → Client → Type 0
 OpensMessage (Ok true) old new = OpensOne old new
 OpensMessage (Ok false) old new = (what_next (cursor_of old) ≡ Needs) × (new ≡ old)
 OpensMessage (Err fault.Memory) old new = new ≡ old

@@ -8,7 +8,7 @@ use crate::stepped::Stepped;
 use gfx_base::{Bytes, Fault, NoMemory, Refusal};
 use gfx_bitmap_cache::Cache;
 use gfx_pdu::{Pdu, read_pdu};
-use gfx_screen::Screen;
+use gfx_screen::State;
 use gfx_segment::Splitter;
 use gfx_surface_map::SurfaceMap;
 use std::alloc::Global;
@@ -22,7 +22,7 @@ pub struct Client {
     splitter: Splitter,
     payload: Bytes,
     at: usize,
-    screen: Screen,
+    screen: State,
     applied: u64,
     closed: Option<ClientFault>,
 }
@@ -42,7 +42,7 @@ impl Client {
             splitter: Splitter::new(alloc),
             payload: Bytes::new(alloc),
             at: 0,
-            screen: Screen::new(alloc),
+            screen: State::new(alloc),
             applied: 0,
             closed: None,
         })

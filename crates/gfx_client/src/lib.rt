@@ -14,6 +14,3 @@ pub use client::Client;
 pub use fault::ClientFault;
 pub use offer::{MOST_OFFERS, Offer, Offers};
 pub use stepped::Stepped;
-
-#[cfg(test)]
-mod tests;

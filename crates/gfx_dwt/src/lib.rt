@@ -16,6 +16,3 @@ mod synthesis;
 pub use analysis::{forward, forward_with};
 pub use layout::{Band, Level, Transform};
 pub use synthesis::{inverse, inverse_with};
-
-#[cfg(test)]
-mod tests;

@@ -7,7 +7,7 @@ use Rattle.std.specs.Int.{w16, w32}
 use Rattle.std.specs.Option.{option_map}
 use Rattle.gfx_base.specs.Field.{number_at, IsBytes}
 use Rattle.gfx_base.specs.Outcome.{Gives}
-use Rattle.gfx_base.specs.declared.answer.Fault.{Fault}
+use Rattle.gfx_base.specs.declared.answer.Cause.{Cause}
 use Rattle.gfx_base.specs.Results.{and_then}
 use Rattle.gfx_base.proofs.FieldLemmas.{IsBytes-take, IsBytes-drop, number_at-append}
 use Rattle.gfx_base.proofs.ResultLemmas.{and_then_ok}
@@ -178,7 +178,7 @@ next_pdu-begins payload at pdu after all e =
     next_begins payload at pdu after all parts.0 parts.1 parts.2
 
 -- so of a call that gave what is due
-pub given-begins : (payload : List ℕ) (at : ℕ) (given : Result (Option (Pdu × ℕ)) Fault) → IsBytes payload → Gives (λ found. found) given (next_pdu payload at) → IfOk given (λ found. IfSome found (λ m. Begins (drop at payload) m.0 (m.1 - at)))
+pub given-begins : (payload : List ℕ) (at : ℕ) (given : Result (Option (Pdu × ℕ)) (Cause Refusal)) → IsBytes payload → Gives (λ found. found) given (next_pdu payload at) → IfOk given (λ found. IfSome found (λ m. Begins (drop at payload) m.0 (m.1 - at)))
 given-begins payload at (Err fault) all due = tt
 given-begins payload at (Ok None) all due = tt
 given-begins payload at (Ok (Some m)) all due = next_pdu-begins payload at m.0 m.1 all due

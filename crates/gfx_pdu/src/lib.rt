@@ -30,6 +30,3 @@ pub use promises::{
 };
 pub use reading::read_pdu;
 pub use writing::write_pdu;
-
-#[cfg(test)]
-mod tests;

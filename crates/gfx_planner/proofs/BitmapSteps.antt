@@ -6,7 +6,7 @@ use Rattle.std.specs.Ordering.{nat_cmp}
 use Rattle.std.specs.Option.{ok_or}
 use Rattle.std.specs.FinMap.{FinMap, get, insert, remove}
 use Rattle.std.proofs.lemmas.Bool.Decides.{nat_tests}
-use Rattle.gfx_base.specs.Geometry.{lies_in, width_of, height_of}
+use Rattle.gfx_base.specs.Geometry.{lies_in, width_of, height_of, fit_all, sized}
 use Rattle.gfx_base.specs.Results.{check}
 use Rattle.gfx_base.proofs.ResultLemmas.{and_then_ok, and_then_at, check_ok}
 use Rattle.gfx_base.specs.declared.geometry.Point.{Point}
@@ -16,7 +16,7 @@ use Rattle.gfx_base.specs.declared.refusal.Refusal.{Refusal}
 use Rattle.gfx_base.specs.declared.refusal.Refusal.TheVariants as refusal
 use Rattle.gfx_pdu.specs.declared.pdu.Pdu.TheVariants.{CacheToSurface, EvictCacheEntry}
 use Rattle.gfx_surface.specs.Picture.{Picture}
-use Rattle.gfx_surface_map.specs.Shown.{Shown, with_picture, fit_all, sized, stamped, pixels_put}
+use Rattle.gfx_surface_map.specs.Shown.{Shown, with_picture, stamped, pixels_put}
 use Rattle.gfx_surface_map.proofs.RoomLemmas.{stamped-width, stamped-height}
 use Rattle.gfx_script.specs.declared.held.Sides.{Sides}
 use Rattle.gfx_script.specs.declared.picture.Picture.{Picture as Source}

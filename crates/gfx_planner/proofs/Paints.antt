@@ -4,7 +4,7 @@ use Rattle.std.specs.List.{slice_index_or}
 use Rattle.std.specs.Option.{ok_or}
 use Rattle.std.specs.FinMap.{get}
 use Rattle.gfx_base.specs.Format.{byte_of, format_of}
-use Rattle.gfx_base.specs.Geometry.{holds, lies_in, width_of, height_of}
+use Rattle.gfx_base.specs.Geometry.{holds, lies_in, width_of, height_of, moved, sized}
 use Rattle.gfx_base.specs.Results.{check}
 use Rattle.gfx_base.proofs.ResultLemmas.{and_then_at}
 use Rattle.gfx_base.specs.declared.format.Format.{Format}
@@ -14,9 +14,9 @@ use Rattle.gfx_base.specs.declared.geometry.Rect.{Rect}
 use Rattle.gfx_base.specs.declared.pixel.Pixel.{Pixel}
 use Rattle.gfx_base.specs.declared.refusal.Refusal.TheVariants as refusal
 use Rattle.gfx_pdu.specs.declared.pdu.Pdu.TheVariants.{WireToSurface1}
-use Rattle.gfx_surface.specs.Picture.{Picture, shade, redrawn, pixel_at, overlaid, raw_pixels, moved, no_pixel}
+use Rattle.gfx_surface.specs.Picture.{Picture, shade, redrawn, pixel_at, overlaid, raw_pixels, no_pixel}
 use Rattle.gfx_surface.proofs.PictureLemmas.{length-drawn}
-use Rattle.gfx_surface_map.specs.Shown.{with_picture, sized}
+use Rattle.gfx_surface_map.specs.Shown.{with_picture}
 use Rattle.gfx_script.specs.declared.picture.Picture.{Picture as Source}
 use Rattle.gfx_script.specs.Patterns.{pixel_of}
 use Rattle.gfx_state.specs.State.{State}

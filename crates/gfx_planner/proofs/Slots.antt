@@ -7,7 +7,7 @@ use Rattle.std.specs.Map.{lookup}
 use Rattle.std.specs.Option.{option_map, option_map_or, ok_or}
 use Rattle.std.specs.Ordering.{nat_cmp}
 use Rattle.std.proofs.lemmas.Bool.Decides.{nat_tests}
-use Rattle.gfx_base.specs.Geometry.{lies_in, width_of, height_of}
+use Rattle.gfx_base.specs.Geometry.{lies_in, width_of, height_of, sized}
 use Rattle.gfx_base.specs.Results.{check}
 use Rattle.gfx_base.proofs.ResultLemmas.{and_then_at, and_then_ok, check_ok}
 use Rattle.gfx_base.specs.declared.geometry.Point.{Point}
@@ -23,8 +23,8 @@ use Rattle.gfx_pdu.specs.declared.pdu.Pdu.{Pdu}
 use Rattle.gfx_pdu.specs.declared.pdu.Pdu.TheVariants.{SurfaceToCache, CacheToSurface, EvictCacheEntry}
 use Rattle.gfx_script.specs.declared.held.Sides.{Sides}
 use Rattle.gfx_slot_plan.specs.declared.kept.Kept.{Kept}
-use Rattle.gfx_slot_plan.specs.declared.place.Place.{Place}
-use Rattle.gfx_slot_plan.specs.Plan.{Places, Plan, AreKeys, plan, place, total, keeps, chosen, touched, forgotten, without, slot_of, dropped_for}
+use Rattle.gfx_slot_plan.specs.declared.allocation.Allocation.{Allocation}
+use Rattle.gfx_slot_plan.specs.Plan.{Allocations, Plan, AreKeys, plan, place, total, keeps, chosen, touched, forgotten, without, slot_of, dropped_for}
 use Rattle.gfx_slot_plan.proofs.Keys.{keys_without, keys_kept}
 use Rattle.gfx_slot_plan.proofs.Order.{found_entry}
 use Rattle.gfx_slot_plan.proofs.Ties.{total_middle}
@@ -32,13 +32,13 @@ use Rattle.gfx_state.specs.Sending.{all_steps}
 use Rattle.gfx_state.specs.State.{State}
 use Rattle.gfx_state.specs.Step.{step, caching, showing, rect_stored, slot_put, image_in}
 use Rattle.gfx_surface.specs.Picture.{Picture}
-use Rattle.gfx_surface_map.specs.Shown.{sized, pixels_put}
+use Rattle.gfx_surface_map.specs.Shown.{pixels_put}
 use Rattle.gfx_planner.specs.Shelves.{emptied, InSlot, Shelved, sides_in, SidesIn, Sided}
 use Rattle.gfx_planner.proofs.SlotLists.{Filled, cut_at, get-insert_here, get-insert_apart, filled-out, filled-touched, filled-kept, left_of, slot_for, room_for, dropped-within, length-dropped}
 
 -- both ways to say it ----------------------------------------------------------------------------
 
-in_slot-counts : (held : ℕ × Place) (o : Option Entry) → InSlot o held → bytes_at o ≡ held.1.bytes
+in_slot-counts : (held : ℕ × Allocation) (o : Option Entry) → InSlot o held → bytes_at o ≡ held.1.bytes
 in_slot-counts held o (e, there, key, bytes) = ap bytes_at there ∙ bytes
 
 filled : (p : Plan) (cache : Cached) → Shelved p cache → Filled InSlot (last_slot p.small) p.places cache.slots
@@ -52,7 +52,7 @@ shelved_from p cache keys within f = record {
 }
 
 -- with the sides beside them
-abbrev Both : FinMap nat_cmp Sides → Option Entry → ℕ × Place → Type 0
+abbrev Both : FinMap nat_cmp Sides → Option Entry → ℕ × Allocation → Type 0
 Both sides o held = InSlot o held × SidesIn sides o held
 
 all-zip : {X : Type 0} (P Q : X → Type 0) (xs : List X) → AllByRecursion P xs → AllByRecursion Q xs → AllByRecursion (λ x. P x × Q x) xs
@@ -63,7 +63,7 @@ all-second : {X : Type 0} (P Q : X → Type 0) (xs : List X) → AllByRecursion 
 all-second P Q [] each = tt
 all-second P Q (x ∷ xs) each = (each.0.1, all-second P Q xs each.1)
 
-both-counts : (sides : FinMap nat_cmp Sides) (held : ℕ × Place) (o : Option Entry) → Both sides o held → bytes_at o ≡ held.1.bytes
+both-counts : (sides : FinMap nat_cmp Sides) (held : ℕ × Allocation) (o : Option Entry) → Both sides o held → bytes_at o ≡ held.1.bytes
 both-counts sides held o says = in_slot-counts held o says.0
 
 filled_both : (p : Plan) (cache : Cached) (sides : FinMap nat_cmp Sides) → Shelved p cache → Sided p.places sides cache.slots → Filled (Both sides) (last_slot p.small) p.places cache.slots
@@ -74,7 +74,7 @@ filled_both p cache sides shelved sided = record {
   bytes = shelved.bytes;
 }
 
-sided_from : (last : ℕ) (places : Places) (sides : FinMap nat_cmp Sides) (slots : FinMap nat_cmp Entry) → Filled (Both sides) last places slots → Sided places sides slots
+sided_from : (last : ℕ) (places : Allocations) (sides : FinMap nat_cmp Sides) (slots : FinMap nat_cmp Entry) → Filled (Both sides) last places slots → Sided places sides slots
 sided_from last places sides slots f = all-second (λ held. InSlot (get slots held.1.slot) held) (λ held. SidesIn sides (get slots held.1.slot) held) places f.each
 
 -- at the start -----------------------------------------------------------------------------------
@@ -105,31 +105,31 @@ slot_from : (slot : ℕ) → 1 ≤ slot → slot ≤ MOST_SLOTS → is_slot slot
 slot_from slot from to = grind (arith, nat_tests)
 
 -- a key's place, by its slot
-pub record At (key slot : ℕ) (places : Places) : Type 0 where
-  pub held : Place
+pub record At (key slot : ℕ) (places : Allocations) : Type 0 where
+  pub held : Allocation
   pub there : lookup (nat_eq key) places ≡ Some held
   pub is : held.slot ≡ slot
 
-pub at_slot : (key slot : ℕ) (places : Places) → slot_of key places ≡ Some slot → At key slot places
+pub at_slot : (key slot : ℕ) (places : Allocations) → slot_of key places ≡ Some slot → At key slot places
 at_slot key slot places some = by (lookup (nat_eq key) places) refl
   where
-    by : (o : Option Place) → lookup (nat_eq key) places ≡ o → At key slot places
-    by None none = let no : None ≡ Some slot = sym (ap (option_map (λ (h : Place). h.slot)) none) ∙ some in absurd cc
+    by : (o : Option Allocation) → lookup (nat_eq key) places ≡ o → At key slot places
+    by None none = let no : None ≡ Some slot = sym (ap (option_map (λ (h : Allocation). h.slot)) none) ∙ some in absurd cc
     by (Some held) there =
-        let one : Some held.slot ≡ Some slot = sym (ap (option_map (λ (h : Place). h.slot)) there) ∙ some in
+        let one : Some held.slot ≡ Some slot = sym (ap (option_map (λ (h : Allocation). h.slot)) there) ∙ some in
         record { held = held; there = there; is = cc }
 
 -- the touched places
-places_touched : (p : Plan) (key : ℕ) (held : Place) → lookup (nat_eq key) p.places ≡ Some held → touched p key ≡ plan ((key, held) ∷ without key p.places) p.small
+places_touched : (p : Plan) (key : ℕ) (held : Allocation) → lookup (nat_eq key) p.places ≡ Some held → touched p key ≡ plan ((key, held) ∷ without key p.places) p.small
 places_touched p key held there =
     ap (λ o. plan (option_map_or (λ h. h ∷ without key p.places) o p.places) p.small) (found_entry key held p.places there)
 
-total_touched : (key : ℕ) (held : Place) (places : Places) → lookup (nat_eq key) places ≡ Some held → total places ≡ held.bytes + total (without key places)
+total_touched : (key : ℕ) (held : Allocation) (places : Allocations) → lookup (nat_eq key) places ≡ Some held → total places ≡ held.bytes + total (without key places)
 total_touched key held places there =
     let cut = cut_at key held places there in
     ap total cut.whole ∙ total_middle cut.before cut.behind (key, held) ∙ ap (λ l. held.bytes + total l) (sym cut.rest)
 
-total_first : (key : ℕ) (held : Place) (places : Places) → lookup (nat_eq key) places ≡ Some held → total ((key, held) ∷ without key places) ≡ total places
+total_first : (key : ℕ) (held : Allocation) (places : Allocations) → lookup (nat_eq key) places ≡ Some held → total ((key, held) ∷ without key places) ≡ total places
 total_first key held places there =
     let cut = cut_at key held places there in
     total_middle [] (without key places) (key, held) ∙ sym (total_touched key held places there)
@@ -204,7 +204,7 @@ pub shelved-evicts : (p : Plan) (cache : Cached) (key slot : ℕ) → Shelved p 
 shelved-evicts p cache key slot shelved some = evicted-ok cache slot (shelved-shows p cache key slot shelved some).is
 
 -- a key's place and its slot are taken out
-filled-forgotten : (says : Option Entry → ℕ × Place → Type 0) (last key : ℕ) (held : Place) (places : Places) (slots : FinMap nat_cmp Entry)
+filled-forgotten : (says : Option Entry → ℕ × Allocation → Type 0) (last key : ℕ) (held : Allocation) (places : Allocations) (slots : FinMap nat_cmp Entry)
     → lookup (nat_eq key) places ≡ Some held → Filled says last places slots → Filled says last (without key places) (remove slots held.slot)
 filled-forgotten says last key held places slots there f =
     filled-out says last [] (without key places) (key, held) slots (filled-touched says last key held places slots there f)

@@ -7,7 +7,7 @@ use Rattle.gfx_pdu.specs.declared.pdu.Pdu.{Pdu}
 use Rattle.gfx_script.specs.declared.picture.Picture.{Picture as Source}
 use Rattle.gfx_script.specs.Checks.{Held, held_first, sides_of_all, held_after, held_through}
 use Rattle.gfx_script.specs.Script.{IsStep, IsAccepted}
-use Rattle.gfx_script.specs.Scripted.{Scripted}
+use Rattle.gfx_script.specs.Scripted.{Script}
 use Rattle.gfx_script.specs.declared.step.Step.{Step}
 use Rattle.gfx_script.specs.declared.step.Step.TheVariants.{Frame}
 use Rattle.gfx_state.specs.State.{State, fresh}
@@ -241,10 +241,10 @@ held_through-append held after (x ∷ xs) ys checked =
     (r.0, and_then_at (held_after held x) c.0 (λ next. held_through next xs) c.1 ∙ r.1, r.2)
 
 -- what is held before the first step
-abbrev pub first_held : Scripted → Held
+abbrev pub first_held : Script → Held
 first_held script = held_first (sides_of_all script.pictures) script.small
 
-stands_at_start : (script : Scripted) → IsAccepted script → Stands script.pictures (at_start script.small) (first_held script) (nothing_wanted script.small)
+stands_at_start : (script : Script) → IsAccepted script → Stands script.pictures (at_start script.small) (first_held script) (nothing_wanted script.small)
 stands_at_start script good = record {
   holds = record {
     drawn = good.pictures;
@@ -257,14 +257,14 @@ stands_at_start script good = record {
 }
 
 -- what holds after a front of an accepted script
-pub record Along (script : Scripted) (front rest : List Step) : Type 0 where
+pub record Along (script : Script) (front rest : List Step) : Type 0 where
   pub held : Held
   pub streams : Streams script.pictures (at_start script.small) front held (want script front)
   pub numbers : AllByRecursion IsStep rest
   pub last : Held
   pub checked : held_through held rest ≡ Ok last
 
-pub along : (script : Scripted) (front rest : List Step) → IsAccepted script → script.steps ≡ front ++ rest → Along script front rest
+pub along : (script : Script) (front rest : List Step) → IsAccepted script → script.steps ≡ front ++ rest → Along script front rest
 along script front rest good cut =
     let numbers = subst (AllByRecursion IsStep) cut good.numbers in
     let first = first_held script in

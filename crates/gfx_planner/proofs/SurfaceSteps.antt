@@ -9,7 +9,7 @@ use Rattle.std.specs.Option.{ok_or}
 use Rattle.std.specs.FinMap.{FinMap, get, insert, remove, contains_key}
 use Rattle.std.proofs.lemmas.Bool.Decides.{nat_tests}
 use Rattle.gfx_base.specs.Format.{byte_of, format_of}
-use Rattle.gfx_base.specs.Geometry.{IsPoint, IsRect, lies_in}
+use Rattle.gfx_base.specs.Geometry.{IsPoint, IsRect, lies_in, moved, fit_all, sized}
 use Rattle.gfx_base.specs.Results.{and_then, check}
 use Rattle.gfx_base.proofs.ResultLemmas.{and_then_ok, and_then_at, check_ok}
 use Rattle.gfx_base.specs.declared.format.Format.{Format}
@@ -21,10 +21,10 @@ use Rattle.gfx_pdu.specs.declared.pdu.Pdu.{Pdu}
 use Rattle.gfx_pdu.specs.declared.pdu.Pdu.TheVariants.{SolidFill, SurfaceToSurface, CreateSurface, DeleteSurface, StartFrame, EndFrame, ResetGraphics, MapSurfaceToOutput}
 use Rattle.gfx_pdu.specs.declared.pdu.Monitor.{Monitor}
 use Rattle.gfx_surface.specs.declared.TheConstants.{MOST_SIDE}
-use Rattle.gfx_surface.specs.Picture.{Picture, blank, moved, overlaid}
+use Rattle.gfx_surface.specs.Picture.{Picture, blank, overlaid}
 use Rattle.gfx_surface.proofs.PictureLemmas.{overlaid-width, overlaid-height}
 use Rattle.gfx_surface_map.specs.declared.TheConstants.{MOST_SURFACES, MOST_CELLS}
-use Rattle.gfx_surface_map.specs.Shown.{Shown, with_picture, surface_made, surface_deleted, output_reset, is_output_side, output_mapped, surface_copied, copied_to, fit_all, sized}
+use Rattle.gfx_surface_map.specs.Shown.{Shown, with_picture, surface_made, surface_deleted, output_reset, is_output_side, output_mapped, surface_copied, copied_to}
 use Rattle.gfx_surface_map.specs.declared.place.TheConstants.{MOST_OUTPUT_SIDE}
 use Rattle.gfx_surface_map.proofs.RoomLemmas.{copied_to-width, copied_to-height}
 use Rattle.gfx_surface_map.specs.Surfaces as map

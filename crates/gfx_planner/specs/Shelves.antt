@@ -6,15 +6,15 @@ use Rattle.std.specs.FinMap.{FinMap, get, remove}
 use Rattle.gfx_bitmap_cache.specs.Slots.{Cached, Entry, bytes_of}
 use Rattle.gfx_bitmap_cache.specs.Slots.{total as total_in}
 use Rattle.gfx_script.specs.declared.held.Sides.{Sides}
-use Rattle.gfx_slot_plan.specs.declared.place.Place.{Place}
-use Rattle.gfx_slot_plan.specs.Plan.{Plan, Places, IsPlan, total}
+use Rattle.gfx_slot_plan.specs.declared.allocation.Allocation.{Allocation}
+use Rattle.gfx_slot_plan.specs.Plan.{Plan, Allocations, IsPlan, total}
 
 -- these slots are emptied, one after another
 abbrev pub emptied : FinMap nat_cmp Entry → List ℕ → FinMap nat_cmp Entry
 emptied slots gone = fold (λ left slot. remove left slot) slots gone
 
 -- a slot holds the bitmap of a key, of as many bytes
-abbrev pub InSlot : Option Entry → ℕ × Place → Type 0
+abbrev pub InSlot : Option Entry → ℕ × Allocation → Type 0
 InSlot o held = (e : Entry) × (o ≡ Some e) × (e.key ≡ held.0) × (bytes_of e ≡ held.1.bytes)
 
 -- the slots of the keys hold their bitmaps, and nothing else counts for the budget
@@ -28,9 +28,9 @@ abbrev pub sides_in : Entry → Sides
 sides_in e = record { width = e.image.width; height = e.image.height }
 
 -- beside a slot stand the sides of its bitmap
-abbrev pub SidesIn : FinMap nat_cmp Sides → Option Entry → ℕ × Place → Type 0
+abbrev pub SidesIn : FinMap nat_cmp Sides → Option Entry → ℕ × Allocation → Type 0
 SidesIn sides o held = get sides held.1.slot ≡ option_map sides_in o
 
 -- so beside the slot of each key
-abbrev pub Sided : Places → FinMap nat_cmp Sides → FinMap nat_cmp Entry → Type 0
+abbrev pub Sided : Allocations → FinMap nat_cmp Sides → FinMap nat_cmp Entry → Type 0
 Sided places sides slots = AllByRecursion (λ held. SidesIn sides (get slots held.1.slot) held) places

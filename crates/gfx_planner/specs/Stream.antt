@@ -6,7 +6,7 @@ use Rattle.gfx_pdu.specs.declared.pdu.Pdu.{Pdu}
 use Rattle.gfx_script.specs.declared.picture.Picture.{Picture as Source}
 use Rattle.gfx_script.specs.declared.step.Step.{Step}
 use Rattle.gfx_script.specs.declared.step.Step.TheVariants.{Frame}
-use Rattle.gfx_script.specs.Scripted.{Scripted}
+use Rattle.gfx_script.specs.Scripted.{Script}
 use Rattle.gfx_state.specs.Sending.{sent}
 use Rattle.gfx_planner.specs.Planned.{Planned, SendsOn}
 use Rattle.gfx_planner.specs.Wire.{Server, at_start, messages, frame_start, frame_end, after_put, after_open, after_close}
@@ -52,9 +52,9 @@ abbrev pub serves : List Source → Server → List Step → Server
 serves pictures server steps = fold (served pictures) server steps
 
 -- the server's end after these steps of a script
-abbrev pub end_after : Scripted → List Step → Server
+abbrev pub end_after : Script → List Step → Server
 end_after script steps = serves script.pictures (at_start script.small) steps
 
 -- the bytes of their stream
-abbrev pub stream_of : Scripted → List Step → List ℕ
+abbrev pub stream_of : Script → List Step → List ℕ
 stream_of script steps = sent (stream script.pictures (at_start script.small) steps)

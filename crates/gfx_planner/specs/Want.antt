@@ -11,20 +11,20 @@ use Rattle.gfx_base.specs.declared.geometry.Point.{Point}
 use Rattle.gfx_base.specs.declared.geometry.Rect.{Rect}
 use Rattle.gfx_base.specs.declared.pixel.Pixel.{Pixel}
 use Rattle.gfx_base.specs.declared.refusal.Refusal.{Refusal}
-use Rattle.gfx_base.specs.Geometry.{width_of, height_of}
+use Rattle.gfx_base.specs.Geometry.{width_of, height_of, moved, sized}
 use Rattle.gfx_bitmap_cache.specs.Slots.{Entry, entry}
 use Rattle.gfx_slot_plan.specs.declared.kept.Kept.{Kept}
 use Rattle.gfx_slot_plan.specs.Plan.{Plan, plan, keeps, slot_of, touched, forgotten}
 use Rattle.gfx_state.specs.Step.{image_in}
-use Rattle.gfx_surface.specs.Picture.{Picture, blank, drawn, moved, overlaid}
-use Rattle.gfx_surface_map.specs.Shown.{Shown, nothing_shown, with_picture, copied_to, sized, stamped}
+use Rattle.gfx_surface.specs.Picture.{Picture, blank, drawn, overlaid}
+use Rattle.gfx_surface_map.specs.Shown.{Shown, nothing_shown, with_picture, copied_to, stamped}
 use Rattle.gfx_surface_map.specs.declared.place.Place.{Place}
 use Rattle.gfx_surface_map.specs.Surfaces.{painted}
 use Rattle.gfx_script.specs.declared.picture.Picture.{Picture as Source}
 use Rattle.gfx_script.specs.declared.step.Step.{Step}
 use Rattle.gfx_script.specs.declared.step.Step.TheVariants.{Surface, Delete, Reset, Map, Fill, Copy, Keep, Show, Forget, Paint, Frame}
 use Rattle.gfx_script.specs.Patterns.{pixel_of}
-use Rattle.gfx_script.specs.Scripted.{Scripted}
+use Rattle.gfx_script.specs.Scripted.{Script}
 use Rattle.gfx_planner.specs.Shelves.{emptied}
 
 pub record Wanted : Type 0 where
@@ -122,5 +122,5 @@ wanted_after pictures wanted (Paint id picture at kind) = with_painting wanted (
 wanted_after pictures wanted Frame = wanted
 
 -- after these steps of a script
-abbrev pub want : Scripted → List Step → Wanted
+abbrev pub want : Script → List Step → Wanted
 want script steps = fold (wanted_after script.pictures) (nothing_wanted script.small) steps

@@ -8,7 +8,7 @@ use Rattle.gfx_base.specs.declared.geometry.Point.{Point}
 use Rattle.gfx_base.specs.declared.geometry.Rect.{Rect}
 use Rattle.gfx_base.specs.declared.pixel.Pixel.{Pixel}
 use Rattle.gfx_base.specs.declared.refusal.Refusal.{Refusal}
-use Rattle.gfx_base.specs.Geometry.{width_of, height_of}
+use Rattle.gfx_base.specs.Geometry.{width_of, height_of, moved, sized}
 use Rattle.gfx_pdu.specs.declared.pdu.Pdu.{Pdu}
 use Rattle.gfx_pdu.specs.declared.pdu.Pdu.TheVariants.{WireToSurface1, SolidFill, SurfaceToSurface, SurfaceToCache, CacheToSurface, EvictCacheEntry, CreateSurface, DeleteSurface, StartFrame, EndFrame, ResetGraphics, MapSurfaceToOutput}
 use Rattle.gfx_pdu.specs.declared.pdu.Monitor.{Monitor}
@@ -23,8 +23,7 @@ use Rattle.gfx_slot_plan.specs.Plan.{Plan, plan, keeps, slot_of, touched, forgot
 use Rattle.gfx_state.specs.State.{State, fresh}
 use Rattle.gfx_state.specs.Sending.{all_steps}
 use Rattle.gfx_state.specs.Step.{UNCOMPRESSED}
-use Rattle.gfx_surface.specs.Picture.{Picture, moved}
-use Rattle.gfx_surface_map.specs.Shown.{sized}
+use Rattle.gfx_surface.specs.Picture.{Picture}
 use Rattle.gfx_planner.specs.Want.{pixels_in}
 
 -- what the server's end keeps: the state that its messages so far give, which keys have which slots, and

@@ -13,6 +13,3 @@ mod streaming;
 pub use laws::streams_show_their_scripts;
 pub use planner::{MOST_FRAMES, Planner};
 pub use streaming::put_in_frame;
-
-#[cfg(test)]
-mod tests;

@@ -16,7 +16,7 @@ use crate::paint::raw_payload;
 use gfx_base::{Bytes, Fault, NoMemory, Point, Points, Rect, Rects};
 use gfx_bitmap_cache::Cache;
 use gfx_pdu::{Monitor, Monitors, Pdu, write_pdu};
-use gfx_screen::Screen;
+use gfx_screen::State;
 use gfx_script::{Kind, Script, Step};
 use gfx_segment::wrap;
 use gfx_slot_plan::{Kept, SlotPlan};
@@ -38,7 +38,7 @@ pub const PRIMARY: u32 = 1;
 #[derive(Drop)]
 pub struct Planner {
     alloc: Global,
-    screen: Screen,
+    screen: State,
     plan: SlotPlan,
     frames: u32,
     payload: Bytes,
@@ -68,7 +68,7 @@ impl Planner {
         let plan = SlotPlan::new(alloc, small)?;
         Ok(Planner {
             alloc,
-            screen: Screen::new(alloc),
+            screen: State::new(alloc),
             plan,
             frames: 0,
             payload: Bytes::new(alloc),

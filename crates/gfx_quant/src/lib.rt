@@ -22,6 +22,3 @@ pub use gfx_dwt::Band;
 pub use quant::{Component, LEAST_BASE, Quant, check_base, quant_from, quant_to};
 pub use quantising::{cut_plane, quantise_plane, truncate_plane};
 pub use setting::{Level, Levels, MOST_LEVELS, Setting};
-
-#[cfg(test)]
-mod tests;

@@ -16,6 +16,3 @@ mod surfaces;
 pub use fault::ReportFault;
 pub use output::dump_output;
 pub use surfaces::dump;
-
-#[cfg(test)]
-mod tests;

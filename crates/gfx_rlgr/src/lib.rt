@@ -11,6 +11,3 @@ mod params;
 pub use decoder::decode;
 pub use encoder::encode;
 pub use laws::one_meaning;
-
-#[cfg(test)]
-mod tests;

@@ -5,8 +5,8 @@ use Rattle.gfx_base.specs.Format.{format_of}
 use Rattle.gfx_base.specs.Geometry.{lies_in, width_of, height_of}
 use Rattle.gfx_base.specs.Results.{and_then}
 use Rattle.gfx_base.specs.Outcome.{Applies}
-use Rattle.gfx_base.specs.declared.answer.Fault.{Fault}
-use Rattle.gfx_base.specs.declared.answer.Fault.TheVariants.{Refused, Memory}
+use Rattle.gfx_base.specs.declared.answer.Cause.{Cause}
+use Rattle.gfx_base.specs.declared.answer.Cause.TheVariants.{Refused, Memory}
 use Rattle.gfx_base.specs.declared.format.Format.{Format}
 use Rattle.gfx_base.specs.declared.geometry.Rect.{Rect}
 use Rattle.gfx_base.specs.declared.refusal.Refusal.{Refusal}
@@ -20,7 +20,7 @@ use Rattle.gfx_state.specs.State.{State}
 use Rattle.gfx_state.specs.Step.{showing, caching, surface_created, image_in, rect_stored}
 
 -- what a call did to what is shown it did to the state
-pub showing_applies : (result : Result (Unit {0}) Fault) (state : State) (shown : Shown) (due : Result Shown Refusal) → Applies result state.shown shown due → Applies result state (record state { shown = shown }) (showing state due)
+pub showing_applies : (result : Result (Unit {0}) (Cause Refusal)) (state : State) (shown : Shown) (due : Result Shown Refusal) → Applies result state.shown shown due → Applies result state (record state { shown = shown }) (showing state due)
 unfolding showing and_then
 showing_applies (Ok x) state shown due e = rw e refl
 showing_applies (Err Memory) state shown due same = λ i. record state { shown = same i }

@@ -9,7 +9,4 @@ mod bitmaps;
 mod flags;
 mod screen;
 
-pub use screen::Screen;
-
-#[cfg(test)]
-mod tests;
+pub use screen::State;

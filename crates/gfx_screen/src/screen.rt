@@ -9,7 +9,7 @@ ghost use Rattle.gfx_state.specs.Step.{step, showing, caching, frame_started, fr
 
 use crate::bitmaps::{bitmap_of, lies_on};
 use crate::flags::{has_small_cache, is_confirmed};
-use gfx_base::{Fault, Format, Pixel, Point, Rect, Refusal};
+use gfx_base::{BYTES_PER_PIXEL, Fault, Format, Pixel, Point, Rect, Refusal, all_lie_in};
 use gfx_bitmap_cache::Cache;
 use gfx_pdu::Pdu;
 use gfx_surface_map::{SurfaceMap, fits_size};
@@ -19,20 +19,17 @@ use std::marker::Model;
 /// RDPGFX_CODECID_UNCOMPRESSED.
 const UNCOMPRESSED: u16 = 0;
 
-/// How many bytes a pixel has in uncompressed data.
-const PIXEL_BYTES: usize = 4;
-
 /// What the messages change: what is shown, the cache, the open frame and the count of frames. Contracts
 /// see the state. No surface has more pixels than there is room to copy.
 #[derive(Drop)]
-pub struct Screen {
+pub struct State {
     surfaces: SurfaceMap,
     cache: Cache,
     frame: Option<u32>,
     decoded: u32,
 }
 
-impl Model for Screen {
+impl Model for State {
     ghost use Rattle.gfx_state.specs.State.{State};
     ghost use Rattle.gfx_state.specs.Codes.{state_code};
 
@@ -47,12 +44,12 @@ impl Model for Screen {
     ghost invariant = { λ s. AllHaveRoom s.surfaces };
 }
 
-impl Screen {
+impl State {
     /// The state at the start of a stream. It takes no memory.
-    pub fn new(alloc: Global) -> Screen
+    pub fn new(alloc: Global) -> State
         ensures { result ≡ fresh }
     {
-        Screen {
+        State {
             surfaces: SurfaceMap::new(alloc),
             cache: Cache::new(alloc),
             frame: None,
@@ -346,12 +343,5 @@ impl Screen {
 fn has_length(payload: &[u8], rect: Rect) -> bool
     ensures { result ≡ (length payload.now == 4 * (width_of rect * height_of rect)) }
 {
-    payload.len() == PIXEL_BYTES * (usize::from(rect.width()) * usize::from(rect.height()))
-}
-
-/// Whether all of these rectangles lie in an area of these sides.
-fn all_lie_in(rects: &[Rect], width: u16, height: u16) -> bool
-    ensures { result ≡ list_all (lies_in width height) rects.now }
-{
-    rects.iter().all(|rect| rect.lies_in(width, height))
+    payload.len() == BYTES_PER_PIXEL * (usize::from(rect.width()) * usize::from(rect.height()))
 }

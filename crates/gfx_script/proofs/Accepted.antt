@@ -10,7 +10,7 @@ use Rattle.gfx_script.specs.declared.error.ScriptKind.{ScriptKind}
 use Rattle.gfx_script.specs.declared.error.ScriptKind.TheVariants.{Range, Unframed}
 use Rattle.gfx_script.specs.declared.step.Step.{Step}
 use Rattle.gfx_script.specs.Checks.{Held, held_first, sides_of_all, held_after, held_through}
-use Rattle.gfx_script.specs.Scripted.{Scripted}
+use Rattle.gfx_script.specs.Scripted.{Script}
 use Rattle.gfx_script.specs.Script.{Top, Head, at_step, head_of, names_in, pictures_in, next_step, steps_of, is_framed, script_of, IsStep, IsAccepted}
 use Rattle.gfx_script.proofs.PictureRanges.{AreGood, pictures_of-good}
 use Rattle.gfx_script.proofs.Ranges.{step_of-fits}
@@ -80,7 +80,7 @@ head_of-good top =
     })))
 
 -- a script that is read is good
-pub accepted : (text : List ℕ) (script : Scripted) → script_of text ≡ Ok script → IsAccepted script
+pub accepted : (text : List ℕ) (script : Script) → script_of text ≡ Ok script → IsAccepted script
 unfolding script_of
 accepted text script is =
     let table = and_then_ok _ _ script is in

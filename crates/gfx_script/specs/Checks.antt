@@ -8,11 +8,9 @@ use Rattle.std.specs.FinMap as finmap
 use Rattle.std.specs.FinMap.{FinMap}
 use Rattle.gfx_base.specs.declared.geometry.Point.{Point}
 use Rattle.gfx_base.specs.declared.geometry.Rect.{Rect}
-use Rattle.gfx_base.specs.Geometry.{lies_in, width_of, height_of}
+use Rattle.gfx_base.specs.Geometry.{lies_in, width_of, height_of, moved, fit_all, sized}
 use Rattle.gfx_base.specs.Results.{◌>>=◌, check}
-use Rattle.gfx_surface.specs.Picture.{moved}
 use Rattle.gfx_surface_map.specs.declared.TheConstants.{MOST_SURFACES, MOST_CELLS}
-use Rattle.gfx_surface_map.specs.Shown.{fit_all, sized}
 use Rattle.gfx_surface_map.specs.Surfaces.{cells}
 pub use Rattle.gfx_script.specs.declared.held.Sides.{Sides}
 use Rattle.gfx_script.specs.declared.error.ScriptKind.{ScriptKind}

@@ -22,7 +22,7 @@ use Rattle.gfx_script.specs.Checks.{Held, held_first, sides_of_all, held_after, 
 use Rattle.gfx_script.specs.Clients.{small_of}
 use Rattle.gfx_script.specs.Members.{items_in, has_only}
 use Rattle.gfx_script.specs.Pictures.{Named, pictures_of, IsDrawn}
-use Rattle.gfx_script.specs.Scripted.{Scripted}
+use Rattle.gfx_script.specs.Scripted.{Script}
 use Rattle.gfx_script.specs.Words.{step_of}
 
 -- what is wrong, at which step; 0 stands for a fault outside the steps
@@ -109,7 +109,7 @@ is_framed (step ∷ []) = false
 is_framed (step ∷ next ∷ steps) = is_framed (next ∷ steps)
 
 -- the script of a text, or what is wrong first
-unfoldable pub script_of : List ℕ → Result Scripted Wrong
+unfoldable pub script_of : List ℕ → Result Script Wrong
 script_of bytes = do
   table ← at_step 0 (document_of bytes)
   top ← at_step 0 (top_of table)
@@ -119,7 +119,7 @@ script_of bytes = do
   Ok record { pictures = pictures_in head.named; small = head.small; steps = steps }
 
 -- what reading answers. Want of memory is the one free answer
-abbrev pub Reads : Result Scripted ScriptError → Result Scripted Wrong → Type 0
+abbrev pub Reads : Result Script ScriptError → Result Script Wrong → Type 0
 Reads (Ok script) due = due ≡ Ok script
 Reads (Err Memory) due = Unit {0}
 Reads (Err (Fault step kind)) due = due ≡ Err record { step = step; kind = kind }
@@ -152,7 +152,7 @@ IsStep (Paint id picture at kind) = (id < 2 ^ 16) × IsPoint at × IsSome kind
 IsStep Frame = Unit {0}
 
 -- what holds of every script that is read
-pub record IsAccepted (script : Scripted) : Type 0 where
+pub record IsAccepted (script : Script) : Type 0 where
   pub few_pictures : length script.pictures ≤ MOST_PICTURES
   pub pictures : AllByRecursion IsDrawn script.pictures
   pub few : length script.steps ≤ MOST_STEPS

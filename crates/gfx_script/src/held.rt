@@ -3,8 +3,7 @@
 ghost use Rattle.std.specs.Prelude.{◌≡◌, IsTrue, IfOk, OnOk, slice_get};
 ghost use Rattle.std.specs.FinMap as map;
 ghost use Rattle.std.specs.List.{list_all};
-ghost use Rattle.gfx_base.specs.Geometry.{lies_in};
-ghost use Rattle.gfx_surface_map.specs.Shown.{fit_all, sized};
+ghost use Rattle.gfx_base.specs.Geometry.{lies_in, fit_all, sized};
 ghost use Rattle.gfx_script.specs.Checks.{held_first, has_room, with_surface, without_surface, surface_made, surface_deleted, surface_mapped, rects_filled, rect_copied, rect_kept, key_shown, key_forgotten, picture_painted, held_after};
 ghost use Rattle.gfx_script.specs.Found.{Finds, Shows};
 
@@ -12,8 +11,7 @@ use crate::error::ScriptKind;
 use crate::flaw::Flaw;
 use crate::step::Step;
 use crate::stock::Stock;
-use gfx_base::{NoMemory, Point, Rect};
-use gfx_surface::fits_at;
+use gfx_base::{NoMemory, Point, Rect, all_lie_in, fits_at, fits_at_all};
 use gfx_surface_map::{MOST_CELLS, MOST_SURFACES, count_cells};
 use indexmap::IndexMap;
 use std::alloc::Global;
@@ -278,26 +276,5 @@ impl Holding {
 fn whole_of(sides: Sides) -> Rect
     ensures { result ≡ sized sides.width sides.height }
 {
-    Rect {
-        left: 0,
-        top: 0,
-        right: sides.width,
-        bottom: sides.height,
-    }
-}
-
-/// Whether all of these rectangles lie in an area of these sides.
-fn all_lie_in(rects: &[Rect], width: u16, height: u16) -> bool
-    ensures { result ≡ list_all (lies_in width height) rects.now }
-{
-    rects.iter().all(|rect| rect.lies_in(width, height))
-}
-
-/// Whether a rectangle, once it is taken to any of these points, lies in an area of these sides.
-fn fits_at_all(rect: Rect, points: &[Point], width: u16, height: u16) -> bool
-    ensures { result ≡ fit_all width height rect points.now }
-{
-    points
-        .iter()
-        .all(|point| fits_at(rect, *point, width, height))
+    Rect::sized(sides.width, sides.height)
 }

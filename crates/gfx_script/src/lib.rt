@@ -54,10 +54,3 @@ pub const MOST_KEY: u64 = 9223372036854775807;
 
 /// The most that an id or a coordinate is.
 pub const MOST_NUMBER: u16 = 65535;
-
-#[cfg(test)]
-mod cache_tests;
-#[cfg(test)]
-mod picture_tests;
-#[cfg(test)]
-mod tests;

@@ -35,7 +35,7 @@ pub struct Script {
 }
 
 impl Model for Script {
-    ghost use Rattle.gfx_script.specs.Scripted.{Scripted};
+    ghost use Rattle.gfx_script.specs.Scripted.{Script};
 
     ghost Value = { Scripted };
 

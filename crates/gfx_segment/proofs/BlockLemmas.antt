@@ -7,8 +7,8 @@ use Rattle.std.proofs.lemmas.Bool.{cond-true, cond-false}
 use Rattle.gfx_base.specs.Field.{field}
 use Rattle.gfx_base.specs.declared.refusal.Refusal.{Refusal}
 use Rattle.gfx_base.specs.declared.refusal.Refusal.TheVariants.{SegmentSize}
-use Rattle.gfx_base.specs.declared.answer.Fault.{Fault}
-use Rattle.gfx_base.specs.declared.answer.Fault.TheVariants.{Refused, Memory}
+use Rattle.gfx_base.specs.declared.answer.Cause.{Cause}
+use Rattle.gfx_base.specs.declared.answer.Cause.TheVariants.{Refused, Memory}
 use Rattle.gfx_base.specs.Outcome.{Gives}
 use Rattle.gfx_base.specs.Results.{and_then, check}
 use Rattle.gfx_base.proofs.ResultLemmas.{and_then_at, and_then_refused}
@@ -93,7 +93,7 @@ segments_refused bytes count size r h e =
     segments_at bytes count size h ∙ and_then_refused (blocks count (drop 6 bytes)) r _ (sym (onto_nil (blocks count (drop 6 bytes))) ∙ e)
 
 -- a call that failed at the blocks failed so
-pub segments_failed : {X : Type 0} (bytes : List ℕ) (count size : ℕ) (view : X → List ℕ × List ℕ) (fault : Fault) → Counts bytes count size → Gives view (Err fault) (onto [] (blocks count (drop 6 bytes))) → Gives (λ (p : List ℕ). p) (Err fault) (segments bytes)
+pub segments_failed : {X : Type 0} (bytes : List ℕ) (count size : ℕ) (view : X → List ℕ × List ℕ) (fault : Cause Refusal) → Counts bytes count size → Gives view (Err fault) (onto [] (blocks count (drop 6 bytes))) → Gives (λ (p : List ℕ). p) (Err fault) (segments bytes)
 segments_failed bytes count size view Memory h e = tt
 segments_failed bytes count size view (Refused r) h e = segments_refused bytes count size r h e
 

@@ -2,10 +2,10 @@
 use Rattle.std.proofs.Common.{◌≡◌, ℕ, true, List, [], ◌∷◌, Option, Some, None, is_some, Result, Ok, Err, refl, sym, ap, ◌∙◌}
 use Rattle.std.proofs.lemmas.Bool.{or_left, or_right}
 use Rattle.gfx_base.specs.declared.refusal.Refusal.{Refusal}
-use Rattle.gfx_base.specs.declared.answer.Fault.{Fault}
-use Rattle.gfx_base.specs.declared.answer.Fault.TheVariants.{Refused, Memory}
+use Rattle.gfx_base.specs.declared.answer.Cause.{Cause}
+use Rattle.gfx_base.specs.declared.answer.Cause.TheVariants.{Refused, Memory}
 use Rattle.gfx_base.specs.Results.{and_then}
-use Rattle.gfx_segment.specs.Framing.{Front, Whole, Short, Bad, front, Held, holding, refused, answer_of, behind, next_of, next, after_next, is_short, is_drained, Given, IsDue, AnyCutting, Answers}
+use Rattle.gfx_segment.specs.Framing.{Front, Whole, Short, Bad, front, Splitter, holding, refused, answer_of, behind, next_of, next, after_next, is_short, is_drained, Given, IsDue, AnyCutting, Answers}
 use Rattle.gfx_segment.proofs.FrontLemmas.{front-nil}
 use Rattle.gfx_segment.proofs.GivenLemmas.{Reader, answer_none}
 
@@ -75,11 +75,11 @@ any_cutting read bytes given others one other stands stood drained dried =
 
 -- when no message can be taken -----------------------------------------------------------------------------
 
-pub drained_short : (held : Held) → front held.rest ≡ Short → is_drained held ≡ true
+pub drained_short : (held : Splitter) → front held.rest ≡ Short → is_drained held ≡ true
 unfolding is_drained
 drained_short held e = or_right _ _ (ap is_short e)
 
-pub drained_refused : (held : Held) (r : Refusal) → held.refusal ≡ Some r → is_drained held ≡ true
+pub drained_refused : (held : Splitter) (r : Refusal) → held.refusal ≡ Some r → is_drained held ≡ true
 unfolding is_drained
 drained_refused held r e = or_left _ _ (ap is_some e)
 
@@ -87,7 +87,7 @@ drained_refused held r e = or_left _ _ (ap is_some e)
 pub drained_nil : is_drained (holding []) ≡ true
 drained_nil = drained_short (holding []) front-nil
 
-none_at : (read : Reader) (refusal : Option Refusal) (rest : List ℕ) (new : Held) → let old : Held = record { rest = rest; refusal = refusal } in next read old ≡ Ok None → new ≡ after_next read old → is_drained new ≡ true
+none_at : (read : Reader) (refusal : Option Refusal) (rest : List ℕ) (new : Splitter) → let old : Splitter = record { rest = rest; refusal = refusal } in next read old ≡ Ok None → new ≡ after_next read old → is_drained new ≡ true
 unfolding next_of behind
 none_at read (Some r) rest new e is = absurd cc
 none_at read None rest new e is =
@@ -96,27 +96,27 @@ none_at read None rest new e is =
     rw now (drained_short (holding rest) short)
 
 -- None was answered
-pub drained_none : (read : Reader) (old new : Held) → next read old ≡ Ok None → new ≡ after_next read old → is_drained new ≡ true
+pub drained_none : (read : Reader) (old new : Splitter) → next read old ≡ Ok None → new ≡ after_next read old → is_drained new ≡ true
 drained_none read old new e is = none_at read old.refusal old.rest new e is
 
-err_at : (read : Reader) (refusal : Option Refusal) (rest : List ℕ) (new : Held) (r : Refusal) → let old : Held = record { rest = rest; refusal = refusal } in next read old ≡ Err r → new ≡ after_next read old → new.refusal ≡ Some r
+err_at : (read : Reader) (refusal : Option Refusal) (rest : List ℕ) (new : Splitter) (r : Refusal) → let old : Splitter = record { rest = rest; refusal = refusal } in next read old ≡ Err r → new ≡ after_next read old → new.refusal ≡ Some r
 unfolding next_of behind
-err_at read (Some s) rest new r e is = let same : s ≡ r = cc in ap (λ (z : Held). z.refusal) is ∙ ap (λ z. Some z) same
+err_at read (Some s) rest new r e is = let same : s ≡ r = cc in ap (λ (z : Splitter). z.refusal) is ∙ ap (λ z. Some z) same
 err_at read None rest new r e is =
     let now : new ≡ refused r = is ∙ ap (λ z. behind z (front rest) rest) e in
-    ap (λ (z : Held). z.refusal) now
+    ap (λ (z : Splitter). z.refusal) now
 
 -- a refusal was answered, and is kept
-pub kept_after : (read : Reader) (old new : Held) (r : Refusal) → next read old ≡ Err r → new ≡ after_next read old → new.refusal ≡ Some r
+pub kept_after : (read : Reader) (old new : Splitter) (r : Refusal) → next read old ≡ Err r → new ≡ after_next read old → new.refusal ≡ Some r
 kept_after read old new r e is = err_at read old.refusal old.rest new r e is
 
 -- after a call that answered None, and after one that answered a refusal
-pub drained_on_none : (read : Reader) (result : Result (Option (List ℕ)) Fault) (old new : Held) → Answers result old new (next read old) (after_next read old) → result ≡ Ok None → is_drained new ≡ true
+pub drained_on_none : (read : Reader) (result : Result (Option (List ℕ)) (Cause Refusal)) (old new : Splitter) → Answers result old new (next read old) (after_next read old) → result ≡ Ok None → is_drained new ≡ true
 drained_on_none read (Ok None) old new h e = drained_none read old new h.0 h.1
 drained_on_none read (Ok (Some p)) old new h e = absurd cc
 drained_on_none read (Err fault) old new h e = absurd cc
 
-pub drained_on_refused : (read : Reader) (result : Result (Option (List ℕ)) Fault) (old new : Held) (r : Refusal) → Answers result old new (next read old) (after_next read old) → result ≡ Err (Refused r) → is_drained new ≡ true
+pub drained_on_refused : (read : Reader) (result : Result (Option (List ℕ)) (Cause Refusal)) (old new : Splitter) (r : Refusal) → Answers result old new (next read old) (after_next read old) → result ≡ Err (Refused r) → is_drained new ≡ true
 drained_on_refused read (Ok given) old new r h e = absurd cc
 drained_on_refused read (Err Memory) old new r h e = let clash : Memory ≡ Refused r = cc in absurd cc
 drained_on_refused read (Err (Refused s)) old new r h e = drained_refused new s (kept_after read old new s h.0 h.1)

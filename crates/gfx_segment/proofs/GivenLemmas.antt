@@ -2,10 +2,10 @@
 use Rattle.std.proofs.Common.{◌≡◌, ℕ, List, [], ◌∷◌, ◌++◌, Option, Some, None, Result, Ok, Err, refl, sym, ap, ◌∙◌}
 use Rattle.std.proofs.lemmas.List.{append-nil}
 use Rattle.gfx_base.specs.declared.refusal.Refusal.{Refusal}
-use Rattle.gfx_base.specs.declared.answer.Fault.{Fault}
-use Rattle.gfx_base.specs.declared.answer.Fault.TheVariants.{Refused, Memory}
+use Rattle.gfx_base.specs.declared.answer.Cause.{Cause}
+use Rattle.gfx_base.specs.declared.answer.Cause.TheVariants.{Refused, Memory}
 use Rattle.gfx_base.specs.Results.{and_then}
-use Rattle.gfx_segment.specs.Framing.{Front, Whole, Short, Bad, front, Held, holding, refused, fed, answer_of, behind, next_of, next, after_next, Given, IsDue, Stands, TakesIn, GivesOut, taken, Answers}
+use Rattle.gfx_segment.specs.Framing.{Front, Whole, Short, Bad, front, Splitter, holding, refused, fed, answer_of, behind, next_of, next, after_next, Given, IsDue, Stands, TakesIn, GivesOut, taken, Answers}
 use Rattle.gfx_segment.proofs.FrontLemmas.{front-append_whole, front-append_bad}
 
 -- how a message is read
@@ -74,18 +74,18 @@ fed_more : (read : Reader) (refusal : Option Refusal) (rest left piece : List �
 fed_more read None rest left piece e = ap (λ z. z ++ piece) e
 fed_more read (Some r) rest left piece e = answer-append read left piece r e
 
-fed_law : (old : Held) (piece : List ℕ) → TakesIn old (fed old piece) piece
+fed_law : (old : Splitter) (piece : List ℕ) → TakesIn old (fed old piece) piece
 fed_law old piece read bytes given stands = record {
   left = stands.left ++ piece;
   gave = Given-append read bytes given stands.left piece stands.gave;
   due = fed_more read old.refusal old.rest stands.left piece stands.due;
 }
 
-pub takes_in_fed : (old new : Held) (piece : List ℕ) → new ≡ fed old piece → TakesIn old new piece
+pub takes_in_fed : (old new : Splitter) (piece : List ℕ) → new ≡ fed old piece → TakesIn old new piece
 takes_in_fed old new piece e = rw e (fed_law old piece)
 
 -- nothing was given, and nothing changed
-stays : (read : Reader) (old : Held) → GivesOut read old old []
+stays : (read : Reader) (old : Splitter) → GivesOut read old old []
 stays read old bytes given stands = rw (append-nil given) stands
 
 -- a message was given: the bytes after it are held
@@ -116,7 +116,7 @@ behind_err : (found : Front) (bytes : List ℕ) (r : Refusal) → behind (Err r)
 unfolding behind
 behind_err found bytes r = refl
 
-open_law : (read : Reader) (result : Result (Option (List ℕ)) Fault) (rest : List ℕ) (new : Held) → Answers result (holding rest) new (answer_of read (front rest)) (behind (answer_of read (front rest)) (front rest) rest) → GivesOut read (holding rest) new (taken result)
+open_law : (read : Reader) (result : Result (Option (List ℕ)) (Cause Refusal)) (rest : List ℕ) (new : Splitter) → Answers result (holding rest) new (answer_of read (front rest)) (behind (answer_of read (front rest)) (front rest) rest) → GivesOut read (holding rest) new (taken result)
 open_law read (Ok (Some p)) rest new (e, is) =
     let reads = answer_some read (front rest) p e in
     let now : new ≡ holding reads.after = is ∙ ap (λ z. behind z (front rest) rest) e ∙ behind_some (front rest) (Some p) rest reads.message reads.after reads.front_is in
@@ -129,12 +129,12 @@ open_law read (Err (Refused r)) rest new (e, is) =
     let now : new ≡ refused r = is ∙ ap (λ z. behind z (front rest) rest) e ∙ behind_err (front rest) rest r in
     rw now (keeps read rest r e)
 
-next_law : (read : Reader) (result : Result (Option (List ℕ)) Fault) (refusal : Option Refusal) (rest : List ℕ) (new : Held) → let old : Held = record { rest = rest; refusal = refusal } in Answers result old new (next read old) (after_next read old) → GivesOut read old new (taken result)
+next_law : (read : Reader) (result : Result (Option (List ℕ)) (Cause Refusal)) (refusal : Option Refusal) (rest : List ℕ) (new : Splitter) → let old : Splitter = record { rest = rest; refusal = refusal } in Answers result old new (next read old) (after_next read old) → GivesOut read old new (taken result)
 unfolding next_of
 next_law read result None rest new is = open_law read result rest new is
 next_law read (Ok given) (Some r) rest new (e, is) = absurd cc
 next_law read (Err Memory) (Some r) rest new is = rw is (stays read (record { rest = rest; refusal = Some r }))
 next_law read (Err (Refused s)) (Some r) rest new (e, is) = rw is (stays read (record { rest = rest; refusal = Some r }))
 
-pub gives_out_next : (read : Reader) (result : Result (Option (List ℕ)) Fault) (old new : Held) → Answers result old new (next read old) (after_next read old) → GivesOut read old new (taken result)
+pub gives_out_next : (read : Reader) (result : Result (Option (List ℕ)) (Cause Refusal)) (old new : Splitter) → Answers result old new (next read old) (after_next read old) → GivesOut read old new (taken result)
 gives_out_next read result old new is = next_law read result old.refusal old.rest new is

@@ -3,19 +3,19 @@ use Rattle.std.proofs.Common.{◌≡◌, ℕ, List, Option, Some, None, Result, 
 use Rattle.gfx_base.specs.declared.refusal.Refusal.{Refusal}
 use Rattle.gfx_base.specs.declared.refusal.Refusal.TheVariants.{ChannelLength}
 use Rattle.gfx_base.specs.Results.{and_then}
-use Rattle.gfx_segment.specs.Framing.{Front, Whole, Short, Bad, front, Held, holding, refused, answer_of, behind, next_of, next, after_next}
+use Rattle.gfx_segment.specs.Framing.{Front, Whole, Short, Bad, front, Splitter, holding, refused, answer_of, behind, next_of, next, after_next}
 use Rattle.gfx_segment.proofs.GivenLemmas.{Reader}
 
 -- this answer is due, and this is held after it
-abbrev pub IsNext : Reader → Held → Result (Option (List ℕ)) Refusal → Held → Type 0
+abbrev pub IsNext : Reader → Splitter → Result (Option (List ℕ)) Refusal → Splitter → Type 0
 IsNext read held answer new = (next read held ≡ answer) × (new ≡ after_next read held)
 
-refused_at : (read : Reader) (refusal : Option Refusal) (rest : List ℕ) (r : Refusal) → refusal ≡ Some r → let held : Held = record { rest = rest; refusal = refusal } in IsNext read held (Err r) held
+refused_at : (read : Reader) (refusal : Option Refusal) (rest : List ℕ) (r : Refusal) → refusal ≡ Some r → let held : Splitter = record { rest = rest; refusal = refusal } in IsNext read held (Err r) held
 unfolding next_of
 refused_at read None rest r e = absurd cc
 refused_at read (Some s) rest r e = let same : s ≡ r = cc in (ap (λ z. Err z) same, refl)
 
-pub next_refused : (read : Reader) (held : Held) (r : Refusal) → held.refusal ≡ Some r → IsNext read held (Err r) held
+pub next_refused : (read : Reader) (held : Splitter) (r : Refusal) → held.refusal ≡ Some r → IsNext read held (Err r) held
 next_refused read held r e = refused_at read held.refusal held.rest r e
 
 -- where none is kept, by what is at the front
@@ -26,29 +26,29 @@ open_at read None rest found answer none is due =
     (now, sym (ap (λ z. behind z (front rest) rest) now ∙ ap (λ z. behind answer z rest) is))
 open_at read (Some s) rest found answer none is due = absurd cc
 
-same_at : (refusal : Option Refusal) (rest : List ℕ) → refusal ≡ None → let held : Held = record { rest = rest; refusal = refusal } in held ≡ holding rest
-same_at refusal rest none = ap (λ z. let held : Held = record { rest = rest; refusal = z } in held) none
+same_at : (refusal : Option Refusal) (rest : List ℕ) → refusal ≡ None → let held : Splitter = record { rest = rest; refusal = refusal } in held ≡ holding rest
+same_at refusal rest none = ap (λ z. let held : Splitter = record { rest = rest; refusal = z } in held) none
 
-with_new : (read : Reader) (held : Held) (answer : Result (Option (List ℕ)) Refusal) (new now : Held) → new ≡ now → IsNext read held answer now → IsNext read held answer new
+with_new : (read : Reader) (held : Splitter) (answer : Result (Option (List ℕ)) Refusal) (new now : Splitter) → new ≡ now → IsNext read held answer now → IsNext read held answer new
 with_new read held answer new now e is = (is.0, e ∙ is.1)
 
-pub next_short : (read : Reader) (held : Held) → held.refusal ≡ None → front held.rest ≡ Short → IsNext read held (Ok None) held
+pub next_short : (read : Reader) (held : Splitter) → held.refusal ≡ None → front held.rest ≡ Short → IsNext read held (Ok None) held
 unfolding answer_of behind
 next_short read held none is = with_new read held (Ok None) held (holding held.rest) (same_at held.refusal held.rest none) (open_at read held.refusal held.rest Short (Ok None) none is refl)
 
-pub next_bad : (read : Reader) (held new : Held) → held.refusal ≡ None → front held.rest ≡ Bad → new ≡ refused ChannelLength → IsNext read held (Err ChannelLength) new
+pub next_bad : (read : Reader) (held new : Splitter) → held.refusal ≡ None → front held.rest ≡ Bad → new ≡ refused ChannelLength → IsNext read held (Err ChannelLength) new
 unfolding answer_of behind
 next_bad read held new none is e = with_new read held (Err ChannelLength) new (refused ChannelLength) e (open_at read held.refusal held.rest Bad (Err ChannelLength) none is refl)
 
 -- the message is read
-pub next_whole : (read : Reader) (held new : Held) (m a p : List ℕ) → held.refusal ≡ None → front held.rest ≡ Whole m a → read m ≡ Ok p → new ≡ record held { rest = a } → IsNext read held (Ok (Some p)) new
+pub next_whole : (read : Reader) (held new : Splitter) (m a p : List ℕ) → held.refusal ≡ None → front held.rest ≡ Whole m a → read m ≡ Ok p → new ≡ record held { rest = a } → IsNext read held (Ok (Some p)) new
 unfolding answer_of behind and_then
 next_whole read held new m a p none is reads e =
     with_new read held (Ok (Some p)) new (holding a) (e ∙ same_at held.refusal a none)
     (open_at read held.refusal held.rest (Whole m a) (Ok (Some p)) none is (ap (λ z. and_then z (λ q. Ok (Some q))) reads))
 
 -- the message is refused
-pub next_unread : (read : Reader) (held new : Held) (m a : List ℕ) (r : Refusal) → held.refusal ≡ None → front held.rest ≡ Whole m a → read m ≡ Err r → new ≡ refused r → IsNext read held (Err r) new
+pub next_unread : (read : Reader) (held new : Splitter) (m a : List ℕ) (r : Refusal) → held.refusal ≡ None → front held.rest ≡ Whole m a → read m ≡ Err r → new ≡ refused r → IsNext read held (Err r) new
 unfolding answer_of behind and_then
 next_unread read held new m a r none is reads e =
     with_new read held (Err r) new (refused r) e

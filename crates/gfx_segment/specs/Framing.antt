@@ -7,8 +7,8 @@ use Rattle.gfx_base.specs.Field.{field}
 use Rattle.gfx_base.specs.Results.{and_then, ◌>>=◌, check}
 use Rattle.gfx_base.specs.declared.refusal.Refusal.{Refusal}
 use Rattle.gfx_base.specs.declared.refusal.Refusal.TheVariants.{ChannelTruncated, ChannelLength, Descriptor, SegmentSize, BulkCompressed}
-use Rattle.gfx_base.specs.declared.answer.Fault.{Fault}
-use Rattle.gfx_base.specs.declared.answer.Fault.TheVariants.{Refused, Memory}
+use Rattle.gfx_base.specs.declared.answer.Cause.{Cause}
+use Rattle.gfx_base.specs.declared.answer.Cause.TheVariants.{Refused, Memory}
 use Rattle.gfx_segment.specs.declared.profile.TheConstants.{PREFIX, MOST_MESSAGE, SINGLE, MULTIPART, SIZE_AT, SEGMENTS_AT, TYPES, RDP8, COMPRESSED, MOST_BLOCK}
 
 -- what bytes begin with: a whole message and the bytes after it, too few bytes yet, or a length that
@@ -106,18 +106,18 @@ pub record ReadBack (content more : List ℕ) : Type 0 where
 -- what a splitter holds --------------------------------------------------------------------------
 
 -- the bytes fed and not yet used, and the refusal that it keeps
-pub record Held : Type 0 where
+pub record Splitter : Type 0 where
   pub rest : List ℕ
   pub refusal : Option Refusal
 
-abbrev pub holding : List ℕ → Held
+abbrev pub holding : List ℕ → Splitter
 holding bytes = record { rest = bytes; refusal = None }
 
-abbrev pub refused : Refusal → Held
+abbrev pub refused : Refusal → Splitter
 refused r = record { rest = []; refusal = Some r }
 
 -- more bytes are fed; none are kept behind a refusal
-abbrev pub fed : Held → List ℕ → Held
+abbrev pub fed : Splitter → List ℕ → Splitter
 fed held piece = if is_some held.refusal then held else holding (held.rest ++ piece)
 
 -- what the bytes at the front answer, their message read by read
@@ -127,7 +127,7 @@ answer_of read Short = Ok None
 answer_of read Bad = Err ChannelLength
 
 -- what is held behind that answer
-unfoldable pub behind : Result (Option (List ℕ)) Refusal → Front → List ℕ → Held
+unfoldable pub behind : Result (Option (List ℕ)) Refusal → Front → List ℕ → Splitter
 behind (Err r) found bytes = refused r
 behind (Ok given) (Whole message after) bytes = holding after
 behind (Ok given) Short bytes = holding bytes
@@ -138,11 +138,11 @@ unfoldable pub next_of : (List ℕ → Result (List ℕ) Refusal) → Option Ref
 next_of read (Some r) bytes = Err r
 next_of read None bytes = answer_of read (front bytes)
 
-abbrev pub next : (List ℕ → Result (List ℕ) Refusal) → Held → Result (Option (List ℕ)) Refusal
+abbrev pub next : (List ℕ → Result (List ℕ) Refusal) → Splitter → Result (Option (List ℕ)) Refusal
 next read held = next_of read held.refusal held.rest
 
 -- what is held after it: all as it was where a refusal is kept
-abbrev pub after_next : (List ℕ → Result (List ℕ) Refusal) → Held → Held
+abbrev pub after_next : (List ℕ → Result (List ℕ) Refusal) → Splitter → Splitter
 after_next read held = if is_some held.refusal then held else behind (next read held) (front held.rest) held.rest
 
 abbrev pub is_short : Front → Bool
@@ -151,11 +151,11 @@ is_short Short = true
 is_short Bad = false
 
 -- no message can be taken any more
-unfoldable pub is_drained : Held → Bool
+unfoldable pub is_drained : Splitter → Bool
 is_drained held = is_some held.refusal || is_short (front held.rest)
 
 -- the end of the bytes: nothing may be left of a message, where no refusal is kept
-unfoldable pub ended : Held → Result (Unit {0}) Refusal
+unfoldable pub ended : Splitter → Result (Unit {0}) Refusal
 ended held = check ChannelTruncated (is_some held.refusal || (length held.rest == 0))
 
 -- what is given whole --------------------------------------------------------------------------
@@ -172,7 +172,7 @@ IsDue read bytes None rest = rest ≡ bytes
 IsDue read bytes (Some r) rest = answer_of read (front bytes) ≡ Err r
 
 -- a splitter that was fed these bytes and gave these
-pub record Stands (read : List ℕ → Result (List ℕ) Refusal) (bytes : List ℕ) (given : List (List ℕ)) (held : Held) : Type 0 where
+pub record Stands (read : List ℕ → Result (List ℕ) Refusal) (bytes : List ℕ) (given : List (List ℕ)) (held : Splitter) : Type 0 where
   pub left : List ℕ
   pub gave : Given read bytes given left
   pub due : IsDue read left held.refusal held.rest
@@ -181,26 +181,26 @@ pub record Stands (read : List ℕ → Result (List ℕ) Refusal) (bytes : List 
 -- same messages, and keep the same refusal
 abbrev pub AnyCutting : Type 0
 AnyCutting =
-    (read : List ℕ → Result (List ℕ) Refusal) (bytes : List ℕ) (given others : List (List ℕ)) (one other : Held) → Stands read bytes given one → Stands read bytes others other → is_drained one ≡ true → is_drained other ≡ true → (given ≡ others) × (one.refusal ≡ other.refusal)
+    (read : List ℕ → Result (List ℕ) Refusal) (bytes : List ℕ) (given others : List (List ℕ)) (one other : Splitter) → Stands read bytes given one → Stands read bytes others other → is_drained one ≡ true → is_drained other ≡ true → (given ≡ others) × (one.refusal ≡ other.refusal)
 
 -- for each way to read: what it stood for, it stands for with this piece behind the bytes
-abbrev pub TakesIn : Held → Held → List ℕ → Type 0
+abbrev pub TakesIn : Splitter → Splitter → List ℕ → Type 0
 TakesIn old new piece =
     (read : List ℕ → Result (List ℕ) Refusal) (bytes : List ℕ) (given : List (List ℕ)) → Stands read bytes given old → Stands read (bytes ++ piece) given new
 
 -- what it stood for, it stands for with these behind what was given
-abbrev pub GivesOut : (List ℕ → Result (List ℕ) Refusal) → Held → Held → List (List ℕ) → Type 0
+abbrev pub GivesOut : (List ℕ → Result (List ℕ) Refusal) → Splitter → Splitter → List (List ℕ) → Type 0
 GivesOut read old new more =
     (bytes : List ℕ) (given : List (List ℕ)) → Stands read bytes given old → Stands read bytes (given ++ more) new
 
 -- what a call gave
-abbrev pub taken : Result (Option (List ℕ)) Fault → List (List ℕ)
+abbrev pub taken : Result (Option (List ℕ)) (Cause Refusal) → List (List ℕ)
 taken (Ok (Some p)) = p ∷ []
 taken (Ok None) = []
 taken (Err fault) = []
 
 -- what a call answered and left, against what is due; want of memory leaves all as it was
-abbrev pub Answers : Result (Option (List ℕ)) Fault → Held → Held → Result (Option (List ℕ)) Refusal → Held → Type 0
+abbrev pub Answers : Result (Option (List ℕ)) (Cause Refusal) → Splitter → Splitter → Result (Option (List ℕ)) Refusal → Splitter → Type 0
 Answers (Ok given) old new due after = (due ≡ Ok given) × (new ≡ after)
 Answers (Err Memory) old new due after = new ≡ old
 Answers (Err (Refused r)) old new due after = (due ≡ Err r) × (new ≡ after)

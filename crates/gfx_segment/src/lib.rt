@@ -19,6 +19,3 @@ pub use profile::{
 };
 pub use splitter::Splitter;
 pub use writing::wrap;
-
-#[cfg(test)]
-mod tests;

@@ -1,5 +1,5 @@
 ghost use Rattle.std.specs.Prelude.{◌≡◌, ℕ, List, [], Result, ◌++◌, ◌+◌, ◌≤◌, length, take, drop, IsTrue, OnOk, OnErr, IfOk, Ok};
-ghost use Rattle.gfx_segment.specs.Framing.{Held, holding, refused, fed, payload, next, after_next, Answers, Stands, TakesIn, GivesOut, taken, is_drained, ended};
+ghost use Rattle.gfx_segment.specs.Framing.{Splitter, holding, refused, fed, payload, next, after_next, Answers, Stands, TakesIn, GivesOut, taken, is_drained, ended};
 ghost use Rattle.gfx_base.specs.declared.refusal.Refusal.{Refusal};
 
 use crate::blocks::read_payload;
@@ -21,9 +21,9 @@ pub struct Splitter {
 
 impl Model for Splitter {
     ghost use Rattle.std.specs.Prelude.{◌*◌, ◌≤◌, length, drop};
-    ghost use Rattle.gfx_segment.specs.Framing.{Held};
+    ghost use Rattle.gfx_segment.specs.Framing.{Splitter};
 
-    ghost Value = { Held };
+    ghost Value = { Splitter };
 
     ghost view = { λ s. record { rest = drop s.start s.buffer.items; refusal = s.refusal } };
 

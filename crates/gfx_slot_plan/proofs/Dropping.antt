@@ -2,12 +2,12 @@
 use Rattle.std.proofs.Common.{◌≡◌, ◌∙◌, ◌<◌, ◌≤◌, ◌+◌, ◌-◌, not, ap, sym, refl, Bool, true, false, ℕ, zero, suc, List, [], ◌∷◌, ◌++◌, length, take, drop, arith, append_assoc, append-nil}
 use Rattle.std.proofs.lemmas.List.{take_all, length-take-le}
 use Rattle.gfx_slot_plan.specs.Pool.{Pool, pool_slots, is_none}
-use Rattle.gfx_slot_plan.specs.Plan.{Places, slots_back, staying, left_for, gone_for, has_room}
+use Rattle.gfx_slot_plan.specs.Plan.{Allocations, slots_back, staying, left_for, gone_for, has_room}
 use Rattle.gfx_slot_plan.specs.Tied.{IsTied}
 use Rattle.gfx_slot_plan.proofs.Order.{staying_stops, staying_goes, room_alone, slots_back_more, take_less, full_slots}
 
 -- some of those behind the first are left; the others are dropped, and those that stay are among the left
-pub record Dropping (before now : Places) (last most bytes : ℕ) (items0 items : List ℕ) (p : Pool) (sum len cap : ℕ) : Type 0 where
+pub record Dropping (before now : Allocations) (last most bytes : ℕ) (items0 items : List ℕ) (p : Pool) (sum len cap : ℕ) : Type 0 where
   pub count : ℕ
   pub fewer : count ≤ length (drop 1 before)
   pub places : now ≡ take 1 before ++ take count (drop 1 before)
@@ -16,16 +16,16 @@ pub record Dropping (before now : Places) (last most bytes : ℕ) (items0 items 
   pub tied : IsTied (drop 1 now) p sum
   pub room : len + count ≤ cap
 
-first_and_rest : (all : Places) → all ≡ take 1 all ++ drop 1 all
+first_and_rest : (all : Allocations) → all ≡ take 1 all ++ drop 1 all
 first_and_rest [] = refl
 first_and_rest (e ∷ es) = refl
 
-none_past : (all : Places) → drop (length all) all ≡ []
+none_past : (all : Allocations) → drop (length all) all ≡ []
 none_past [] = refl
 none_past (e ∷ es) = none_past es
 
 -- at the start all are left
-pub dropping_none : (all : Places) (last most bytes : ℕ) (items : List ℕ) (p : Pool) (sum len cap : ℕ) → IsTied (drop 1 all) p sum
+pub dropping_none : (all : Allocations) (last most bytes : ℕ) (items : List ℕ) (p : Pool) (sum len cap : ℕ) → IsTied (drop 1 all) p sum
     → len + length (drop 1 all) ≤ cap → Dropping all all last most bytes items items p sum len cap
 dropping_none all last most bytes items p sum len cap tied room = record {
   count = length (drop 1 all);
@@ -47,7 +47,7 @@ granted true holds = refl
 granted false holds = let f : true ≡ false = holds in cc
 
 -- while there is no room some are left
-pub dropping_some : (before now : Places) (last most bytes : ℕ) (items0 items : List ℕ) (p : Pool) (sum len cap : ℕ) → 0 < length before
+pub dropping_some : (before now : Allocations) (last most bytes : ℕ) (items0 items : List ℕ) (p : Pool) (sum len cap : ℕ) → 0 < length before
     → Dropping before now last most bytes items0 items p sum len cap → 1 ≤ last → bytes ≤ most → has_room last most bytes (drop 1 now) ≡ false
     → (1 < length now) × (len < cap)
 dropping_some [] now last most bytes items0 items p sum len cap some d first alone full = absurd (omega arith)
@@ -65,7 +65,7 @@ dropping_some (e ∷ es) now last most bytes items0 items p sum len cap some d f
         (omega arith, omega arith)
 
 -- and one goes
-pub dropping_more : (before now next : Places) (last most bytes : ℕ) (items0 items more : List ℕ) (p q : Pool) (sum left len longer cap same : ℕ) → 0 < length before
+pub dropping_more : (before now next : Allocations) (last most bytes : ℕ) (items0 items more : List ℕ) (p q : Pool) (sum left len longer cap same : ℕ) → 0 < length before
     → Dropping before now last most bytes items0 items p sum len cap → 1 ≤ last → bytes ≤ most → has_room last most bytes (drop 1 now) ≡ false
     → next ≡ take (length now - 1) now → more ≡ items ++ slots_back (drop (length now - 1) now) → IsTied (drop 1 next) q left
     → longer ≡ len + 1 → same ≡ cap → Dropping before next last most bytes items0 more q left longer same
@@ -97,7 +97,7 @@ dropping_more (e ∷ es) now next last most bytes items0 items more p q sum left
         }
 
 -- once there is room, as many are left as stay
-pub dropping_all : (before now : Places) (last most bytes : ℕ) (items0 items : List ℕ) (p : Pool) (sum len cap : ℕ) → 0 < length before
+pub dropping_all : (before now : Allocations) (last most bytes : ℕ) (items0 items : List ℕ) (p : Pool) (sum len cap : ℕ) → 0 < length before
     → Dropping before now last most bytes items0 items p sum len cap → has_room last most bytes (drop 1 now) ≡ true
     → (now ≡ take 1 before ++ left_for last most bytes (drop 1 before)) × (items ≡ items0 ++ slots_back (gone_for last most bytes (drop 1 before)))
 dropping_all [] now last most bytes items0 items p sum len cap some d room = absurd (omega arith)
@@ -107,7 +107,7 @@ dropping_all (e ∷ es) now last most bytes items0 items p sum len cap some d ro
     (d.places ∙ ap (λ n. e ∷ take n es) (sym stays), d.dropped ∙ ap (λ n. items0 ++ slots_back (drop n es)) (sym stays))
 
 -- and a slot is free
-pub room_slots : (places : Places) (p : Pool) (b most bytes : ℕ) → IsTied places p b → has_room p.last most bytes places ≡ true → is_none (pool_slots p) ≡ false
+pub room_slots : (places : Allocations) (p : Pool) (b most bytes : ℕ) → IsTied places p b → has_room p.last most bytes places ≡ true → is_none (pool_slots p) ≡ false
 room_slots places p b most bytes tied room = by (is_none (pool_slots p)) refl
   where
     by : (t : Bool) → is_none (pool_slots p) ≡ t → is_none (pool_slots p) ≡ false

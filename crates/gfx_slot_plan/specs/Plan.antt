@@ -5,78 +5,78 @@ use Rattle.std.specs.Prelude.{◌≡◌, ℕ, zero, suc, ◌+◌, ◌≤◌, Boo
 use Rattle.std.specs.List.{list_any, sum_by, range_with_len}
 use Rattle.std.specs.Map.{lookup, lookup_entry, remove_entry}
 use Rattle.std.specs.Option.{option_map, option_map_or, option_to_list}
-use Rattle.gfx_base.specs.declared.answer.Fault.{Fault}
-use Rattle.gfx_base.specs.declared.answer.Fault.TheVariants.{Refused, Memory}
+use Rattle.gfx_base.specs.declared.answer.Cause.{Cause}
+use Rattle.gfx_base.specs.declared.answer.Cause.TheVariants.{Refused, Memory}
 use Rattle.gfx_base.specs.declared.refusal.Refusal.{Refusal}
 use Rattle.gfx_base.specs.declared.refusal.Refusal.TheVariants.{CacheBudget}
 use Rattle.gfx_base.specs.Results.{◌>>=◌, check}
 use Rattle.gfx_bitmap_cache.specs.Slots.{last_slot, budget, bytes_for}
 use Rattle.gfx_slot_plan.specs.declared.kept.Kept.{Kept}
-use Rattle.gfx_slot_plan.specs.declared.place.Place.{Place}
+use Rattle.gfx_slot_plan.specs.declared.allocation.Allocation.{Allocation}
 use Rattle.gfx_slot_plan.specs.Pool.{is_none}
 
 -- keys with their places, the most recently used first
-abbrev pub Places : Type 0
-Places = List (ℕ × Place)
+abbrev pub Allocations : Type 0
+Allocations = List (ℕ × Allocation)
 
 pub record Plan : Type 0 where
-  pub places : Places
+  pub places : Allocations
   pub small : Bool
 
-abbrev pub plan : Places → Bool → Plan
+abbrev pub plan : Allocations → Bool → Plan
 plan places small = record { places = places; small = small }
 
-abbrev pub place : ℕ → ℕ → Place
+abbrev pub place : ℕ → ℕ → Allocation
 place slot bytes = record { slot = slot; bytes = bytes }
 
 -- how many bytes all bitmaps take together
-abbrev pub total : Places → ℕ
+abbrev pub total : Allocations → ℕ
 total places = sum_by (λ held. held.1.bytes) places
 
 -- a key has this slot
-abbrev pub is_used : Places → ℕ → Bool
+abbrev pub is_used : Allocations → ℕ → Bool
 is_used places slot = list_any (λ held. nat_eq slot held.1.slot) places
 
 -- the slots up to the last that no key has, ascending
-abbrev pub free_slots : ℕ → Places → List ℕ
+abbrev pub free_slots : ℕ → Allocations → List ℕ
 free_slots last places = filter (λ slot. not (is_used places slot)) (range_with_len 1 last)
 
 -- a slot is free, and so many bytes more are within the limit
-abbrev pub has_room : ℕ → ℕ → ℕ → Places → Bool
+abbrev pub has_room : ℕ → ℕ → ℕ → Allocations → Bool
 has_room last most bytes places = not (is_none (free_slots last places)) && nat_le (total places + bytes) most
 
 -- how many of the first n stay: the last of them, which is the least recently used, goes while there is no room
-abbrev pub staying : ℕ → ℕ → ℕ → Places → ℕ → ℕ
+abbrev pub staying : ℕ → ℕ → ℕ → Allocations → ℕ → ℕ
 staying last most bytes places zero = zero
 staying last most bytes places (suc n) =
     if has_room last most bytes (take (suc n) places) then suc n else staying last most bytes places n
 
 -- which of them stay for so many bytes more
-abbrev pub left_for : ℕ → ℕ → ℕ → Places → Places
+abbrev pub left_for : ℕ → ℕ → ℕ → Allocations → Allocations
 left_for last most bytes places = take (staying last most bytes places (length places)) places
 
 -- and which go
-abbrev pub gone_for : ℕ → ℕ → ℕ → Places → Places
+abbrev pub gone_for : ℕ → ℕ → ℕ → Allocations → Allocations
 gone_for last most bytes places = drop (staying last most bytes places (length places)) places
 
 -- all but this key
-abbrev pub without : ℕ → Places → Places
+abbrev pub without : ℕ → Allocations → Allocations
 without key places = remove_entry (nat_eq key) places
 
 -- the key's slot, if it is held
-abbrev pub slot_of : ℕ → Places → Option ℕ
+abbrev pub slot_of : ℕ → Allocations → Option ℕ
 slot_of key places = option_map (λ held. held.slot) (lookup (nat_eq key) places)
 
 -- the slots of these, the last first
-abbrev pub slots_back : Places → List ℕ
+abbrev pub slots_back : Allocations → List ℕ
 slots_back places = reverse (map (λ held. held.1.slot) places)
 
 -- the least slot that no key has
-abbrev pub least_free : ℕ → Places → ℕ
+abbrev pub least_free : ℕ → Allocations → ℕ
 least_free last places = slice_index (free_slots last places) 0
 
 -- what goes where a key is kept: its own slot first, then those of the least recently used keys
-abbrev pub dropped_for : ℕ → ℕ → ℕ → ℕ → Places → List ℕ
+abbrev pub dropped_for : ℕ → ℕ → ℕ → ℕ → Allocations → List ℕ
 dropped_for last most key bytes places = option_to_list (slot_of key places) ++ slots_back (gone_for last most bytes (without key places))
 
 -- the plan after a key is kept, in the least free slot and the most recently used, and what goes for it
@@ -103,12 +103,12 @@ abbrev pub forgotten : Plan → ℕ → Plan
 forgotten old key = plan (without key old.places) old.small
 
 -- no key is held twice
-abbrev pub AreKeys : Places → Type 0
+abbrev pub AreKeys : Allocations → Type 0
 AreKeys [] = ⊤
 AreKeys (held ∷ places) = (lookup (nat_eq held.0) places ≡ None) × AreKeys places
 
 -- each slot is one, and no two keys have the same
-abbrev pub AreSlots : ℕ → Places → Type 0
+abbrev pub AreSlots : ℕ → Allocations → Type 0
 AreSlots last [] = ⊤
 AreSlots last (held ∷ places) = (1 ≤ held.1.slot) × (held.1.slot ≤ last) × (is_used places held.1.slot ≡ false) × AreSlots last places
 
@@ -119,7 +119,7 @@ pub record IsPlan (p : Plan) : Type 0 where
   pub within : total p.places ≤ budget p.small
 
 -- what a call that keeps a key answered, against what is due
-abbrev pub Chooses : Result Kept Fault → Plan → Plan → Result (Plan × Kept) Refusal → Type 0
+abbrev pub Chooses : Result Kept (Cause Refusal) → Plan → Plan → Result (Plan × Kept) Refusal → Type 0
 Chooses (Ok kept) old new due = due ≡ Ok (new, kept)
 Chooses (Err Memory) old new due = new ≡ old
 Chooses (Err (Refused r)) old new due = (due ≡ Err r) × (new ≡ old)

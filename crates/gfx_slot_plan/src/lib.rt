@@ -5,14 +5,11 @@
 //! scripts above it hold one.
 #![tactic(auto)]
 
+mod allocation;
 mod kept;
-mod place;
 mod plan;
 mod pool;
 mod shelf;
 
 pub use kept::{Kept, Slots};
 pub use plan::SlotPlan;
-
-#[cfg(test)]
-mod tests;

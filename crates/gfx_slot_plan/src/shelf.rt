@@ -7,7 +7,7 @@ ghost use Rattle.gfx_slot_plan.specs.Plan.{place, without, slot_of, slots_back, 
 ghost use Rattle.gfx_slot_plan.specs.Pool.{has_free, pool_slots, is_none};
 ghost use Rattle.gfx_slot_plan.specs.Tied.{IsTied, Gives};
 
-use crate::place::Place;
+use crate::allocation::Allocation;
 use crate::pool::FreeSlots;
 use gfx_base::NoMemory;
 use lru::LruCache;
@@ -15,7 +15,7 @@ use lru::LruCache;
 /// The places by their keys, the slots that are free, and the bytes of all places together.
 #[derive(Drop)]
 pub struct Shelf {
-    pub places: LruCache<u64, Place>,
+    pub places: LruCache<u64, Allocation>,
     pub pool: FreeSlots,
     pub bytes: u64,
 }
@@ -65,7 +65,7 @@ impl Shelf {
         ensures last { OnOk result (self.new.pool.last ≡ self.old.pool.last) }
         ensures err { OnErr result (self.new ≡ self.old) }
     {
-        let held = self.places.put(key, Place { slot: 0, bytes })?;
+        let held = self.places.put(key, Allocation { slot: 0, bytes })?;
         if let Some(own) = held {
             self.release(own);
             dropped.push_reserved(own.slot);
@@ -74,7 +74,7 @@ impl Shelf {
     }
 
     /// Lets go of a place that no key has any more.
-    pub fn release(&mut self, place: Place)
+    pub fn release(&mut self, place: Allocation)
         requires first { 1 ≤ place.slot }
         requires within { place.slot ≤ self.old.pool.last }
         requires taken { has_free self.old.pool place.slot ≡ false }
@@ -138,7 +138,7 @@ impl Shelf {
     }
 
     /// Takes out the place of the least recently used key, which stays taken.
-    fn pop_last(&mut self) -> Option<Place>
+    fn pop_last(&mut self) -> Option<Allocation>
         ensures place { result ≡ option_map (λ held. held.1) (last_entry self.old.places.entries) }
         ensures places { self.new.places ≡ lru_cache (take (length self.old.places.entries - 1) self.old.places.entries) self.old.places.cap }
         ensures pool { self.new.pool ≡ self.old.pool }
@@ -173,7 +173,7 @@ impl Shelf {
     {
         let slot = self.pool.take();
         // The key is there, so this takes no memory.
-        let _ = self.places.put(key, Place { slot, bytes });
+        let _ = self.places.put(key, Allocation { slot, bytes });
         self.bytes += bytes;
         slot
     }

@@ -4,7 +4,7 @@ use Rattle.gfx_base.specs.declared.refusal.Refusal.{Refusal}
 use Rattle.gfx_base.specs.declared.refusal.Refusal.TheVariants.{ChannelLength}
 use Rattle.gfx_pdu.specs.declared.pdu.Pdu.{Pdu}
 use Rattle.gfx_pdu.specs.Reading.{message_at}
-use Rattle.gfx_segment.specs.Framing.{Held, holding, fed, next, next_of, after_next, answer_of, behind, is_short, is_drained, Front, front, payload, Whole, Short, Bad}
+use Rattle.gfx_segment.specs.Framing.{Splitter, holding, fed, next, next_of, after_next, answer_of, behind, is_short, is_drained, Front, front, payload, Whole, Short, Bad}
 use Rattle.gfx_segment.proofs.FrontLemmas.{front-nil, length-after}
 use Rattle.gfx_state.specs.State.{State}
 use Rattle.gfx_state.specs.Step.{step}
@@ -45,14 +45,14 @@ after_held_refused run r (Some s) bytes e = close_refused run r (Some s) e
 
 -- bytes that are given -----------------------------------------------------------------------------
 
-after_fed : (run : Run) (rest : List ℕ) (refusal : Option Refusal) (piece : List ℕ) → (let held : Held = record { rest = rest; refusal = refusal } in after_held run (fed held piece).refusal (fed held piece).rest) ≡ eats (after_held run refusal rest) piece
+after_fed : (run : Run) (rest : List ℕ) (refusal : Option Refusal) (piece : List ℕ) → (let held : Splitter = record { rest = rest; refusal = refusal } in after_held run (fed held piece).refusal (fed held piece).rest) ≡ eats (after_held run refusal rest) piece
 unfolding after_held
 after_fed run rest None piece = eats-append run rest piece
 after_fed run rest (Some r) piece = sym (close_ends run r piece)
 
 pub settled-given : (cursor : Cursor) (piece : List ℕ) → settled (given cursor piece) ≡ eats (settled cursor) piece
 unfolding settled
-settled-given cursor piece = after_fed (deliver (run_at cursor) (messages_of cursor.left)) cursor.held.rest cursor.held.refusal piece
+settled-given cursor piece = after_fed (deliver (run_at cursor) (messages_of cursor.left)) cursor.splitter.rest cursor.splitter.refusal piece
 
 -- a client at its start
 pub settled_before_all : settled before_all ≡ run_of []
@@ -140,8 +140,8 @@ unfolding next_state settled deliver apply took
 keeps_taking c m s read stepped =
     let first = messages_of_more c.left m read in
     let on = ap (λ z. took (run_at c) z) stepped in
-    sym (ap (λ z. after_held (deliver (run_at c) z) c.held.refusal c.held.rest) first
-    ∙ ap (λ z. after_held (close (fold apply z (messages_of (drop m.1 c.left)).read) (messages_of (drop m.1 c.left)).refusal) c.held.refusal c.held.rest) on)
+    sym (ap (λ z. after_held (deliver (run_at c) z) c.splitter.refusal c.splitter.rest) first
+    ∙ ap (λ z. after_held (close (fold apply z (messages_of (drop m.1 c.left)).read) (messages_of (drop m.1 c.left)).refusal) c.splitter.refusal c.splitter.rest) on)
 
 -- a message is refused
 keeps_refusing : (c : Cursor) (m : Pdu × ℕ) (r : Refusal) → message_at c.left ≡ Ok (Some m) → step c.state m.0 ≡ Err r → Keeps c (next_state c m.0 m.1 (Err r))
@@ -150,24 +150,24 @@ keeps_refusing c m r read stepped =
     let first = messages_of_more c.left m read in
     let on = ap (λ z. took (run_at c) z) stepped in
     let others = messages_of (drop m.1 c.left) in
-    ap (λ z. after_held (deliver (run_at c) z) c.held.refusal c.held.rest) first
-    ∙ ap (λ z. after_held (close (fold apply z others.read) others.refusal) c.held.refusal c.held.rest) on
-    ∙ ap (λ z. after_held z c.held.refusal c.held.rest) (deliver_refused (refuse (run_at c) r) r others refl)
-    ∙ after_held_refused (refuse (run_at c) r) r c.held.refusal c.held.rest refl
+    ap (λ z. after_held (deliver (run_at c) z) c.splitter.refusal c.splitter.rest) first
+    ∙ ap (λ z. after_held (close (fold apply z others.read) others.refusal) c.splitter.refusal c.splitter.rest) on
+    ∙ ap (λ z. after_held z c.splitter.refusal c.splitter.rest) (deliver_refused (refuse (run_at c) r) r others refl)
+    ∙ after_held_refused (refuse (run_at c) r) r c.splitter.refusal c.splitter.rest refl
 
 -- a message can't be read
 keeps_unread : (c : Cursor) (r : Refusal) → message_at c.left ≡ Err r → Keeps c (Refuses r)
 unfolding settled deliver close
 keeps_unread c r read =
-    ap (λ z. after_held (deliver (run_at c) z) c.held.refusal c.held.rest) (messages_of_refused c.left r read)
-    ∙ after_held_refused (refuse (run_at c) r) r c.held.refusal c.held.rest refl
+    ap (λ z. after_held (deliver (run_at c) z) c.splitter.refusal c.splitter.rest) (messages_of_refused c.left r read)
+    ∙ after_held_refused (refuse (run_at c) r) r c.splitter.refusal c.splitter.rest refl
 
 -- the run where a payload is at its end
-at_end : (c : Cursor) → message_at c.left ≡ Ok None → settled c ≡ after_held (run_at c) c.held.refusal c.held.rest
+at_end : (c : Cursor) → message_at c.left ≡ Ok None → settled c ≡ after_held (run_at c) c.splitter.refusal c.splitter.rest
 unfolding settled deliver close
-at_end c none = ap (λ z. after_held (deliver (run_at c) z) c.held.refusal c.held.rest) (messages_of_none c.left none)
+at_end c none = ap (λ z. after_held (deliver (run_at c) z) c.splitter.refusal c.splitter.rest) (messages_of_none c.left none)
 
-pub after_gives : (held : Held) (p m a : List ℕ) → held.refusal ≡ None → next payload held ≡ Ok (Some p) → front held.rest ≡ Whole m a → after_next payload held ≡ holding a
+pub after_gives : (held : Splitter) (p m a : List ℕ) → held.refusal ≡ None → next payload held ≡ Ok (Some p) → front held.rest ≡ Whole m a → after_next payload held ≡ holding a
 unfolding behind
 after_gives held p m a none gave whole =
     ap (λ z. if is_some z then held else behind (next payload held) (front held.rest) held.rest) none
@@ -178,24 +178,24 @@ after_gives held p m a none gave whole =
 keeps_opening : (c : Cursor) (p : List ℕ) → message_at c.left ≡ Ok None → next payload c.held ≡ Ok (Some p) → Keeps c (next_payload c (Ok (Some p)))
 unfolding next_payload settled after_held opened
 keeps_opening c p none gave =
-    let g = next_gives c.held.refusal c.held.rest p gave in
+    let g = next_gives c.splitter.refusal c.splitter.rest p gave in
     let held = after_gives c.held p g.message g.after g.none gave g.whole in
     ap (λ z. after_held (deliver (run_at c) (messages_of p)) z.refusal z.rest) held
-    ∙ sym (at_end c none ∙ ap (λ z. after_held (run_at c) z c.held.rest) g.none
-    ∙ eats_whole (run_at c) c.held.rest g.message g.after refl front-nil g.whole
+    ∙ sym (at_end c none ∙ ap (λ z. after_held (run_at c) z c.splitter.rest) g.none
+    ∙ eats_whole (run_at c) c.splitter.rest g.message g.after refl front-nil g.whole
     ∙ ap (λ z. eats (opened (run_at c) z) g.after) g.reads)
 
 -- more bytes are needed
 keeps_needing : (c : Cursor) → message_at c.left ≡ Ok None → next payload c.held ≡ Ok None → Keeps c Needs
 unfolding after_held
 keeps_needing c none gave =
-    let short = next_short c.held.refusal c.held.rest gave in
-    at_end c none ∙ ap (λ z. after_held (run_at c) z c.held.rest) short.0
-    ∙ eats_short (run_at c) c.held.rest refl short.1
+    let short = next_short c.splitter.refusal c.splitter.rest gave in
+    at_end c none ∙ ap (λ z. after_held (run_at c) z c.splitter.rest) short.0
+    ∙ eats_short (run_at c) c.splitter.rest refl short.1
 
 -- the framing is refused
 keeps_ending : (c : Cursor) (r : Refusal) → message_at c.left ≡ Ok None → next payload c.held ≡ Err r → Keeps c (Refuses r)
-keeps_ending c r none gave = at_end c none ∙ next_refuses (run_at c) c.held.refusal c.held.rest r refl refl gave
+keeps_ending c r none gave = at_end c none ∙ next_refuses (run_at c) c.splitter.refusal c.splitter.rest r refl refl gave
 
 keeps_payload : (c : Cursor) (due : Result (Option (List ℕ)) Refusal) → message_at c.left ≡ Ok None → next payload c.held ≡ due → Keeps c (next_payload c due)
 unfolding next_payload
@@ -240,7 +240,7 @@ settled_reaches c d pdus (Taking from via to pdu ps e moves) = settled_reaches v
 -- what a splitter holds after it answered ------------------------------------------------------------
 
 -- nothing changes where more bytes are needed
-pub after_next_none : (held : Held) → next payload held ≡ Ok None → after_next payload held ≡ held
+pub after_next_none : (held : Splitter) → next payload held ≡ Ok None → after_next payload held ≡ held
 unfolding behind
 after_next_none held gave =
     let short = next_short held.refusal held.rest gave in
@@ -250,13 +250,13 @@ after_next_none held gave =
     ∙ ap (λ z. record { rest = held.rest; refusal = z }) (sym short.0)
 
 -- fewer bytes are held after a channel message was given
-pub after_next_fewer : (held : Held) (p : List ℕ) → next payload held ≡ Ok (Some p) → length (after_next payload held).rest < length held.rest
+pub after_next_fewer : (held : Splitter) (p : List ℕ) → next payload held ≡ Ok (Some p) → length (after_next payload held).rest < length held.rest
 after_next_fewer held p gave =
     let g = next_gives held.refusal held.rest p gave in
     rw (after_gives held p g.message g.after g.none gave g.whole) (length-after held.rest g.message g.after g.whole)
 
 -- an answer of None says that the splitter can be ended
-pub drained_by_none : (held : Held) → next payload held ≡ Ok None → is_drained held ≡ true
+pub drained_by_none : (held : Splitter) → next payload held ≡ Ok None → is_drained held ≡ true
 unfolding is_drained
 drained_by_none held gave =
     let short = next_short held.refusal held.rest gave in

@@ -100,7 +100,7 @@ payload_size (descriptor ∷ rest) p e =
 
 -- how many bytes a client has yet to use
 abbrev pub weight : Cursor → ℕ
-weight c = length c.left + length c.held.rest
+weight c = length c.left + length c.splitter.rest
 
 abbrev Lighter : Cursor → Move → Type 0
 Lighter c (Opens d) = weight d < weight c
@@ -111,9 +111,9 @@ Lighter c (Refuses r) = Unit {0}
 lighter_payload : (c : Cursor) (due : Result (Option (List ℕ)) Refusal) → next payload c.held ≡ due → Lighter c (next_payload c due)
 unfolding next_payload
 lighter_payload c (Ok (Some p)) gave =
-    let g = next_gives c.held.refusal c.held.rest p gave in
+    let g = next_gives c.splitter.refusal c.splitter.rest p gave in
     let held = after_gives c.held p g.message g.after g.none gave g.whole in
-    let sizes = length-front c.held.rest g.message g.after g.whole in
+    let sizes = length-front c.splitter.rest g.message g.after g.whole in
     let few = payload_size g.message p g.reads in
     rw held (omega arith)
 lighter_payload c (Ok None) gave = tt

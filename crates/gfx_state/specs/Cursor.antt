@@ -4,7 +4,7 @@ use Rattle.gfx_base.specs.Memory.{next_count}
 use Rattle.gfx_base.specs.declared.refusal.Refusal.{Refusal}
 use Rattle.gfx_pdu.specs.declared.pdu.Pdu.{Pdu}
 use Rattle.gfx_pdu.specs.Reading.{message_at}
-use Rattle.gfx_segment.specs.Framing.{Held, holding, fed, next, after_next, payload}
+use Rattle.gfx_segment.specs.Framing.{Splitter, holding, fed, next, after_next, payload}
 use Rattle.gfx_state.specs.State.{State, fresh}
 use Rattle.gfx_state.specs.Step.{step}
 use Rattle.gfx_state.specs.Payload.{messages_of}
@@ -12,18 +12,18 @@ use Rattle.gfx_state.specs.Run.{Run, eats, deliver, close}
 
 -- the bytes that are not used yet, what is left of the present payload, and what was applied
 pub record Cursor : Type 0 where
-  pub held : Held
+  pub splitter : Splitter
   pub left : List ℕ
   pub state : State
   pub applied : ℕ
 
 -- nothing was given yet
 abbrev pub before_all : Cursor
-before_all = record { held = holding []; left = []; state = fresh; applied = 0 }
+before_all = record { splitter = holding []; left = []; state = fresh; applied = 0 }
 
 -- more bytes are given
 abbrev pub given : Cursor → List ℕ → Cursor
-given cursor piece = record cursor { held = fed cursor.held piece }
+given cursor piece = record cursor { splitter = fed cursor.splitter piece }
 
 -- what comes next: a channel message is opened, a message is applied, more bytes are needed, or
 -- there is a refusal
@@ -36,7 +36,7 @@ pub data Move : Type 0 where
 -- the payload is at its end: the next channel message
 unfoldable pub next_payload : Cursor → Result (Option (List ℕ)) Refusal → Move
 next_payload cursor (Ok (Some payload_bytes)) =
-    Opens (record cursor { held = after_next payload cursor.held; left = payload_bytes })
+    Opens (record cursor { splitter = after_next payload cursor.splitter; left = payload_bytes })
 next_payload cursor (Ok None) = Needs
 next_payload cursor (Err r) = Refuses r
 
@@ -48,7 +48,7 @@ next_state cursor pdu size (Err r) = Refuses r
 
 unfoldable pub next_message : Cursor → Result (Option (Pdu × ℕ)) Refusal → Move
 next_message cursor (Ok (Some message)) = next_state cursor message.0 message.1 (step cursor.state message.0)
-next_message cursor (Ok None) = next_payload cursor (next payload cursor.held)
+next_message cursor (Ok None) = next_payload cursor (next payload cursor.splitter)
 next_message cursor (Err r) = Refuses r
 
 unfoldable pub what_next : Cursor → Move
@@ -71,8 +71,8 @@ run_at cursor = record { state = cursor.state; applied = cursor.applied; rest = 
 
 -- the run at a cursor that needs more bytes
 abbrev pub waiting : Cursor → Run
-waiting cursor = record { state = cursor.state; applied = cursor.applied; rest = cursor.held.rest; refusal = None }
+waiting cursor = record { state = cursor.state; applied = cursor.applied; rest = cursor.splitter.rest; refusal = None }
 
 -- the run that the cursor will come to with no more bytes
 unfoldable pub settled : Cursor → Run
-settled cursor = after_held (deliver (run_at cursor) (messages_of cursor.left)) cursor.held.refusal cursor.held.rest
+settled cursor = after_held (deliver (run_at cursor) (messages_of cursor.left)) cursor.splitter.refusal cursor.splitter.rest

@@ -8,7 +8,7 @@ use Rattle.std.specs.Int.{w32}
 use Rattle.gfx_base.specs.Results.{◌>>=◌, check}
 use Rattle.gfx_base.specs.Field.{number_at}
 use Rattle.gfx_base.specs.Format.{format_of}
-use Rattle.gfx_base.specs.Geometry.{lies_in, width_of, height_of}
+use Rattle.gfx_base.specs.Geometry.{lies_in, width_of, height_of, sized}
 use Rattle.gfx_base.specs.declared.geometry.Point.{Point}
 use Rattle.gfx_base.specs.declared.geometry.Rect.{Rect}
 use Rattle.gfx_base.specs.declared.pixel.Pixel.{Pixel}
@@ -20,7 +20,7 @@ use Rattle.gfx_bitmap_cache.specs.Slots.{Cached, Image, cached, entry, takes_slo
 use Rattle.gfx_bitmap_cache.specs.Slots.{shown as image_at}
 use Rattle.gfx_surface.specs.Picture.{Picture, overlaid, raw_pixels, rect_of}
 use Rattle.gfx_surface_map.specs.Surfaces.{is_size, painted}
-use Rattle.gfx_surface_map.specs.Shown.{Shown, with_picture, surface_made, surface_deleted, surface_copied, sized, pixels_put, output_reset, output_mapped}
+use Rattle.gfx_surface_map.specs.Shown.{Shown, with_picture, surface_made, surface_deleted, surface_copied, pixels_put, output_reset, output_mapped}
 use Rattle.gfx_state.specs.State.{State}
 use Rattle.gfx_state.specs.declared.caps.TheConstants.{VERSION_8, VERSION_8_1, VERSION_10, FLAGS_SIZE, SMALL_CACHE}
 

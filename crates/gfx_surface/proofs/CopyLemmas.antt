@@ -10,8 +10,8 @@ use Rattle.gfx_base.specs.declared.format.Format.TheVariants.{Argb}
 use Rattle.gfx_base.specs.declared.geometry.Point.{Point}
 use Rattle.gfx_base.specs.declared.geometry.Rect.{Rect}
 use Rattle.gfx_base.specs.declared.pixel.Pixel.{Pixel}
-use Rattle.gfx_base.specs.Geometry.{lies_in, width_of, height_of}
-use Rattle.gfx_surface.specs.Picture.{shade, moved, no_pixel, in_rect, raw_pixels}
+use Rattle.gfx_base.specs.Geometry.{lies_in, width_of, height_of, moved}
+use Rattle.gfx_surface.specs.Picture.{shade, no_pixel, in_rect, raw_pixels}
 use Rattle.gfx_surface.specs.Rows.{WritesRows, WritesRun, taken_from}
 use Rattle.gfx_surface.proofs.Places.{InRow, in_row, same_run, unwritten, rows_more, rows_above, left_in, right_in, bottom_in}
 

@@ -9,8 +9,8 @@ use Rattle.gfx_base.specs.declared.format.Format.TheVariants.{Xrgb, Argb}
 use Rattle.gfx_base.specs.declared.geometry.Point.{Point}
 use Rattle.gfx_base.specs.declared.geometry.Rect.{Rect}
 use Rattle.gfx_base.specs.declared.pixel.Pixel.{Pixel}
-use Rattle.gfx_base.specs.Geometry.{holds, lies_in, width_of, height_of}
-use Rattle.gfx_surface.specs.Picture.{Picture, IsPicture, filled, copied, overlaid, redrawn, moved, rect_of, in_rect, raw_pixels, shade, zero_colour, no_pixel, pixel_at, drawn}
+use Rattle.gfx_base.specs.Geometry.{holds, lies_in, width_of, height_of, moved}
+use Rattle.gfx_surface.specs.Picture.{Picture, IsPicture, filled, copied, overlaid, redrawn, rect_of, in_rect, raw_pixels, shade, zero_colour, no_pixel, pixel_at, drawn}
 use Rattle.gfx_surface.specs.Rows.{WritesRows, taken_from}
 use Rattle.std.proofs.lemmas.Nat.{mul-add-lt, div-mul-add, mod-mul-add, div_below}
 use Rattle.gfx_surface.proofs.Places.{some_columns}

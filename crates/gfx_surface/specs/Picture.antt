@@ -8,7 +8,7 @@ use Rattle.gfx_base.specs.declared.format.Format.TheVariants.{Xrgb, Argb}
 use Rattle.gfx_base.specs.declared.geometry.Point.{Point}
 use Rattle.gfx_base.specs.declared.geometry.Rect.{Rect}
 use Rattle.gfx_base.specs.declared.pixel.Pixel.{Pixel}
-use Rattle.gfx_base.specs.Geometry.{holds, width_of, height_of}
+use Rattle.gfx_base.specs.Geometry.{holds, width_of, height_of, moved}
 use Rattle.gfx_surface.specs.declared.TheConstants.{MOST_SIDE}
 
 -- the pixels stand row by row from the top
@@ -66,10 +66,6 @@ redrawn picture f = record picture { pixels = drawn picture.width picture.height
 unfoldable pub filled : Picture → Rect → Pixel → Picture
 filled picture rect colour =
     redrawn picture (λ x y. if holds rect x y then shade picture.format colour else pixel_at picture x y)
-
--- the rectangle whose left and top sides are taken to a point
-abbrev pub moved : Rect → Point → Rect
-moved rect to = record { left = to.x; top = to.y; right = to.x + width_of rect; bottom = to.y + height_of rect }
 
 -- a picture with a rectangle of a source at a point
 unfoldable pub copied : Picture → Rect → Point → Picture → Picture

@@ -1,7 +1,7 @@
 //! Rectangles of pixels taken from rows to other rows.
 ghost use Rattle.std.specs.Prelude.{◌≡◌, ◌≤◌, ◌+◌, ◌-◌, ◌*◌, length, map, slice_index_or, IsTrue};
-ghost use Rattle.gfx_base.specs.Geometry.{lies_in};
-ghost use Rattle.gfx_surface.specs.Picture.{shade, moved, no_pixel};
+ghost use Rattle.gfx_base.specs.Geometry.{lies_in, moved};
+ghost use Rattle.gfx_surface.specs.Picture.{shade, no_pixel};
 ghost use Rattle.gfx_base.specs.declared.format.Format.TheVariants.{Xrgb};
 ghost use Rattle.gfx_surface.specs.Rows.{WritesRows, WritesRun, taken_from};
 

@@ -6,18 +6,13 @@
 
 mod colour;
 mod copies;
-mod fitting;
 mod moves;
 mod raw;
 mod rows;
 mod surface;
 
 pub use copies::copy_run;
-pub use fitting::{fits_at, moved_to};
 pub use surface::Surface;
 
 /// The longest side of a surface, in pixels. This project's own rule.
 pub const MOST_SIDE: u16 = 8192;
-
-#[cfg(test)]
-mod tests;

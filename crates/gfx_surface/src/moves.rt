@@ -1,7 +1,6 @@
 //! Rectangles of pixels taken to another place of the same rows: nothing is read after it was written.
 ghost use Rattle.std.specs.Prelude.{◌≡◌, ◌≤◌, ◌<◌, ◌*◌, length, IsTrue};
-ghost use Rattle.gfx_base.specs.Geometry.{lies_in};
-ghost use Rattle.gfx_surface.specs.Picture.{moved};
+ghost use Rattle.gfx_base.specs.Geometry.{lies_in, moved};
 ghost use Rattle.gfx_surface.specs.Rows.{WritesRows, taken_from};
 
 use crate::rows::{Sides, run_in_row};

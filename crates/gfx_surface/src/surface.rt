@@ -1,6 +1,6 @@
 ghost use Rattle.std.specs.Prelude.{◌≡◌, ◌≤◌, ◌<◌, ◌*◌, length, IsTrue, IfOk};
-ghost use Rattle.gfx_base.specs.Geometry.{lies_in, width_of, height_of};
-ghost use Rattle.gfx_surface.specs.Picture.{IsPicture, blank, pixel_at, row_of, filled, moved, copied, rect_of, overlaid, raw_pixels};
+ghost use Rattle.gfx_base.specs.Geometry.{lies_in, width_of, height_of, moved};
+ghost use Rattle.gfx_surface.specs.Picture.{IsPicture, blank, pixel_at, row_of, filled, copied, rect_of, overlaid, raw_pixels};
 
 use crate::MOST_SIDE;
 use crate::colour::{empty_colour, kept_by_both, shaded};

@@ -10,13 +10,13 @@ use Rattle.std.proofs.lemmas.Nat.{mul-le}
 use Rattle.gfx_base.specs.declared.geometry.Point.{Point}
 use Rattle.gfx_base.specs.declared.geometry.Rect.{Rect}
 use Rattle.gfx_base.specs.declared.pixel.Pixel.{Pixel}
-use Rattle.gfx_base.specs.Geometry.{holds, lies_in, width_of, height_of}
-use Rattle.gfx_surface.specs.Picture.{Picture, moved, copied, overlaid, redrawn, rect_of, in_rect, shade, pixel_at, no_pixel}
+use Rattle.gfx_base.specs.Geometry.{holds, lies_in, width_of, height_of, moved, fit_all}
+use Rattle.gfx_surface.specs.Picture.{Picture, copied, overlaid, redrawn, rect_of, in_rect, shade, pixel_at, no_pixel}
 use Rattle.gfx_surface.proofs.PictureLemmas.{choose, pixel_at-drawn}
 use Rattle.gfx_surface_map.specs.declared.place.Place.{Place}
 use Rattle.gfx_surface_map.specs.declared.place.Output.{Output}
 use Rattle.gfx_surface_map.specs.Surfaces.{Surfaces}
-use Rattle.gfx_surface_map.specs.Shown.{Kept, with_picture, copied_to, fit_all, stamped}
+use Rattle.gfx_surface_map.specs.Shown.{SurfaceMap, with_picture, copied_to, stamped}
 
 -- a column and a row of a moved rectangle are among the rectangle's own
 own_column : (rect : Rect) (to : Point) (x y : ℕ) → holds (moved rect to) x y ≡ true → x - to.x < width_of rect
@@ -103,19 +103,19 @@ area_within width height rect inside = mul-le (width_of rect) (height_of rect) w
     down width height rect inside = grind (arith, nat_tests)
 
 -- what is kept once a surface was copied to
-pub copied_back : (old : Kept) (table after : Surfaces) (output : Output) (maps : List (ℕ × Place)) (room new_room from to : ℕ) (rect : Rect) (points : List Point)
+pub copied_back : (old : SurfaceMap) (table after : Surfaces) (output : Output) (maps : List (ℕ × Place)) (room new_room from to : ℕ) (rect : Rect) (points : List Point)
     → record { shown = record { surfaces = table; output = output; maps = maps }; room = room } ≡ old → new_room ≡ room
     → IfSome (get table from) (λ source. IfSome (get table to) (λ target. after ≡ insert table to (copied_to source rect points target)))
     → IfSome (get old.shown.surfaces from) (λ source. IfSome (get old.shown.surfaces to) (λ target.
     record { shown = record { surfaces = after; output = output; maps = maps }; room = new_room } ≡ record old { shown = with_picture old.shown to (copied_to source rect points target) }))
 copied_back old table after output maps room new_room from to rect points is same copies =
-    subst (λ (old : Kept). IfSome (get old.shown.surfaces from) (λ source. IfSome (get old.shown.surfaces to) (λ target.
+    subst (λ (old : SurfaceMap). IfSome (get old.shown.surfaces from) (λ source. IfSome (get old.shown.surfaces to) (λ target.
     record { shown = record { surfaces = after; output = output; maps = maps }; room = new_room } ≡ record old { shown = with_picture old.shown to (copied_to source rect points target) })))
     is (by (get table from) (get table to) copies)
   where
     by : (s t : Option Picture) → IfSome s (λ source. IfSome t (λ target. after ≡ insert table to (copied_to source rect points target)))
         → IfSome s (λ source. IfSome t (λ target.
-        ◌≡◌ {A = Kept} (record { shown = record { surfaces = after; output = output; maps = maps }; room = new_room })
+        ◌≡◌ {A = SurfaceMap} (record { shown = record { surfaces = after; output = output; maps = maps }; room = new_room })
         (record { shown = record { surfaces = insert table to (copied_to source rect points target); output = output; maps = maps }; room = room })))
     by (Some s) (Some t) e = λ i. record { shown = record { surfaces = e i; output = output; maps = maps }; room = same i }
     by (Some s) None e = e

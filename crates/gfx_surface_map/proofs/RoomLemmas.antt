@@ -5,21 +5,21 @@ use Rattle.std.specs.Option.{ok_or}
 use Rattle.std.specs.Ordering.{nat_cmp, eq_by_cmp}
 use Rattle.std.specs.Cmp.{nat_cmp_total}
 use Rattle.std.specs.FinMap.{get, insert, remove, get-insert, get-remove, get-empty}
-use Rattle.gfx_base.specs.declared.answer.Fault.{Fault}
-use Rattle.gfx_base.specs.declared.answer.Fault.TheVariants.{Refused, Memory}
+use Rattle.gfx_base.specs.declared.answer.Cause.{Cause}
+use Rattle.gfx_base.specs.declared.answer.Cause.TheVariants.{Refused, Memory}
 use Rattle.gfx_base.specs.declared.format.Format.{Format}
 use Rattle.gfx_base.specs.declared.geometry.Point.{Point}
 use Rattle.gfx_base.specs.declared.geometry.Rect.{Rect}
 use Rattle.gfx_base.specs.declared.pixel.Pixel.{Pixel}
 use Rattle.gfx_base.specs.declared.refusal.Refusal.{Refusal}
-use Rattle.gfx_base.specs.Outcome.{Applies}
+use Rattle.gfx_base.specs.Outcome.{Applies, Performs}
 use Rattle.gfx_base.proofs.ResultLemmas.{and_then_ok}
-use Rattle.gfx_surface.specs.Picture.{Picture, blank, moved, copied, overlaid}
+use Rattle.gfx_surface.specs.Picture.{Picture, blank, copied, overlaid}
+use Rattle.gfx_base.specs.Geometry.{moved}
 use Rattle.gfx_surface.proofs.PictureLemmas.{copied-width, copied-height, overlaid-width, overlaid-height}
 use Rattle.gfx_surface_map.specs.declared.place.Place.{Place}
-use Rattle.gfx_surface_map.specs.Outcome.{Performs}
 use Rattle.gfx_surface_map.specs.Surfaces.{Surfaces, created}
-use Rattle.gfx_surface_map.specs.Shown.{Shown, Kept, nothing_shown, AllHaveRoom, copied_to, stamped, surface_made, surface_deleted, surface_copied, pixels_put, output_reset, output_mapped}
+use Rattle.gfx_surface_map.specs.Shown.{Shown, SurfaceMap, nothing_shown, AllHaveRoom, copied_to, stamped, surface_made, surface_deleted, surface_copied, pixels_put, output_reset, output_mapped}
 
 -- there is room for a surface, if there is one
 abbrev HasRoom : ℕ → Option Picture → Type 0
@@ -33,11 +33,11 @@ more None less room grows fits = fits
 pub room_none : (room : ℕ) → AllHaveRoom (record { shown = nothing_shown; room = room })
 room_none room id = subst (HasRoom room) (sym (get-empty nat_cmp id)) tt
 
-pub room_same : (old new : Kept) → new.shown.surfaces ≡ old.shown.surfaces → old.room ≤ new.room → AllHaveRoom old → AllHaveRoom new
+pub room_same : (old new : SurfaceMap) → new.shown.surfaces ≡ old.shown.surfaces → old.room ≤ new.room → AllHaveRoom old → AllHaveRoom new
 room_same old new same grows all id =
     more (get new.shown.surfaces id) old.room new.room grows (subst (λ (m : Surfaces). HasRoom old.room (get m id)) (sym same) (all id))
 
-pub room_insert : (old new : Kept) (id : ℕ) (picture : Picture) → new.shown.surfaces ≡ insert old.shown.surfaces id picture → old.room ≤ new.room
+pub room_insert : (old new : SurfaceMap) (id : ℕ) (picture : Picture) → new.shown.surfaces ≡ insert old.shown.surfaces id picture → old.room ≤ new.room
     → picture.width * picture.height ≤ new.room → AllHaveRoom old → AllHaveRoom new
 room_insert old new id picture same grows fits all q =
     subst (λ (m : Surfaces). HasRoom new.room (get m q)) (sym same)
@@ -47,7 +47,7 @@ room_insert old new id picture same grows fits all q =
     by true = fits
     by false = more (get old.shown.surfaces q) old.room new.room grows (all q)
 
-room_remove : (old new : Kept) (id : ℕ) → new.shown.surfaces ≡ remove old.shown.surfaces id → old.room ≤ new.room → AllHaveRoom old → AllHaveRoom new
+room_remove : (old new : SurfaceMap) (id : ℕ) → new.shown.surfaces ≡ remove old.shown.surfaces id → old.room ≤ new.room → AllHaveRoom old → AllHaveRoom new
 room_remove old new id same grows all q =
     subst (λ (m : Surfaces). HasRoom new.room (get m q)) (sym same)
     (subst (HasRoom new.room) (sym (get-remove nat_cmp_total old.shown.surfaces id q)) (by (eq_by_cmp nat_cmp q id)))
@@ -57,7 +57,7 @@ room_remove old new id same grows all q =
     by false = more (get old.shown.surfaces q) old.room new.room grows (all q)
 
 -- a surface whose sides are as they were
-pub room_drawn : (old new : Kept) (id : ℕ) (picture changed : Picture) → get old.shown.surfaces id ≡ Some picture → changed.width ≡ picture.width → changed.height ≡ picture.height
+pub room_drawn : (old new : SurfaceMap) (id : ℕ) (picture changed : Picture) → get old.shown.surfaces id ≡ Some picture → changed.width ≡ picture.width → changed.height ≡ picture.height
     → new.shown.surfaces ≡ insert old.shown.surfaces id changed → new.room ≡ old.room → AllHaveRoom old → AllHaveRoom new
 room_drawn old new id picture changed found wide high same room all =
     let fits : picture.width * picture.height ≤ old.room = subst (HasRoom old.room) found (all id) in
@@ -101,7 +101,7 @@ made_is surfaces after id width height format e =
     let room = and_then_ok _ _ after sides.2 in
     sym (same_Ok _ after room.2)
 
-pub room_made : (result : Result (Unit {0}) Fault) (old new : Kept) (id width height : ℕ) (format : Format)
+pub room_made : (result : Result (Unit {0}) (Cause Refusal)) (old new : SurfaceMap) (id width height : ℕ) (format : Format)
     → Applies result old.shown new.shown (surface_made old.shown id width height format) → old.room ≤ new.room → OnOk result (width * height ≤ new.room)
     → AllHaveRoom old → AllHaveRoom new
 unfolding surface_made
@@ -112,7 +112,7 @@ room_made (Ok x) old new id width height format due grows enough all =
 room_made (Err Memory) old new id width height format due grows enough all = room_same old new (ap (λ (s : Shown). s.surfaces) due) grows all
 room_made (Err (Refused r)) old new id width height format due grows enough all = room_same old new (ap (λ (s : Shown). s.surfaces) due.1) grows all
 
-pub room_deleted : (result : Result (Unit {0}) Refusal) (old new : Kept) (id : ℕ) → Performs result old.shown new.shown (surface_deleted old.shown id)
+pub room_deleted : (result : Result (Unit {0}) Refusal) (old new : SurfaceMap) (id : ℕ) → Performs result old.shown new.shown (surface_deleted old.shown id)
     → new.room ≡ old.room → AllHaveRoom old → AllHaveRoom new
 unfolding surface_deleted
 room_deleted (Ok x) old new id due same all =
@@ -120,7 +120,7 @@ room_deleted (Ok x) old new id due same all =
     room_remove old new id (ap (λ (s : Shown). s.surfaces) (sym (same_Ok _ new.shown step.2))) (omega arith) all
 room_deleted (Err r) old new id due same all = room_same old new (ap (λ (s : Shown). s.surfaces) due.1) (omega arith) all
 
-pub room_copied : (result : Result (Unit {0}) Refusal) (old new : Kept) (from to : ℕ) (rect : Rect) (points : List Point)
+pub room_copied : (result : Result (Unit {0}) Refusal) (old new : SurfaceMap) (from to : ℕ) (rect : Rect) (points : List Point)
     → Performs result old.shown new.shown (surface_copied old.shown from to rect points) → new.room ≡ old.room → AllHaveRoom old → AllHaveRoom new
 unfolding surface_copied
 room_copied (Ok x) old new from to rect points due same all =
@@ -133,7 +133,7 @@ room_copied (Ok x) old new from to rect points due same all =
     (ap (λ (s : Shown). s.surfaces) (sym (same_Ok _ new.shown fits.2))) same all
 room_copied (Err r) old new from to rect points due same all = room_same old new (ap (λ (s : Shown). s.surfaces) due.1) (omega arith) all
 
-pub room_put : (result : Result (Unit {0}) Refusal) (old new : Kept) (id : ℕ) (rect : Rect) (pixels : List Pixel) (points : List Point)
+pub room_put : (result : Result (Unit {0}) Refusal) (old new : SurfaceMap) (id : ℕ) (rect : Rect) (pixels : List Pixel) (points : List Point)
     → Performs result old.shown new.shown (pixels_put old.shown id rect pixels points) → new.room ≡ old.room → AllHaveRoom old → AllHaveRoom new
 unfolding pixels_put
 room_put (Ok x) old new id rect pixels points due same all =
@@ -144,7 +144,7 @@ room_put (Ok x) old new id rect pixels points due same all =
     (ap (λ (s : Shown). s.surfaces) (sym (same_Ok _ new.shown fits.2))) same all
 room_put (Err r) old new id rect pixels points due same all = room_same old new (ap (λ (s : Shown). s.surfaces) due.1) (omega arith) all
 
-pub room_reset : (result : Result (Unit {0}) Refusal) (old new : Kept) (width height : ℕ) → Performs result old.shown new.shown (output_reset old.shown width height)
+pub room_reset : (result : Result (Unit {0}) Refusal) (old new : SurfaceMap) (width height : ℕ) → Performs result old.shown new.shown (output_reset old.shown width height)
     → new.room ≡ old.room → AllHaveRoom old → AllHaveRoom new
 unfolding output_reset
 room_reset (Ok x) old new width height due same all =
@@ -152,7 +152,7 @@ room_reset (Ok x) old new width height due same all =
     room_same old new (ap (λ (s : Shown). s.surfaces) (sym (same_Ok _ new.shown step.2))) (omega arith) all
 room_reset (Err r) old new width height due same all = room_same old new (ap (λ (s : Shown). s.surfaces) due.1) (omega arith) all
 
-pub room_mapped : (result : Result (Unit {0}) Fault) (old new : Kept) (id : ℕ) (place : Place) → Applies result old.shown new.shown (output_mapped old.shown id place)
+pub room_mapped : (result : Result (Unit {0}) (Cause Refusal)) (old new : SurfaceMap) (id : ℕ) (place : Place) → Applies result old.shown new.shown (output_mapped old.shown id place)
     → new.room ≡ old.room → AllHaveRoom old → AllHaveRoom new
 unfolding output_mapped
 room_mapped (Ok x) old new id place due same all =

@@ -1,7 +1,6 @@
 pub mod Surfaces
 pub mod Shown
 pub mod Composed
-pub mod Outcome
 pub mod Order
 pub mod Inside
 pub mod Lending

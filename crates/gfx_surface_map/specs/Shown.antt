@@ -4,7 +4,6 @@
 -- its rectangle once, and that maps outlive a reset are this project's own rules.
 use Rattle.std.specs.Prelude.{refl, ℕ, ◌*◌, ◌≤◌, Bool, ◌&&◌, nat_eq, nat_le, IfSome, List, [], fold, Result, Ok}
 use Rattle.std.specs.Coded.{Coded, code_by, coded×, coded_ℕ, coded_list}
-use Rattle.std.specs.List.{list_all}
 use Rattle.std.specs.Map.{remove_entry}
 use Rattle.std.specs.Option.{ok_or}
 use Rattle.std.specs.FinMap as finmap
@@ -15,9 +14,9 @@ use Rattle.gfx_base.specs.declared.geometry.Rect.{Rect}
 use Rattle.gfx_base.specs.declared.pixel.Pixel.{Pixel}
 use Rattle.gfx_base.specs.declared.refusal.Refusal.{Refusal}
 use Rattle.gfx_base.specs.declared.refusal.Refusal.TheVariants.{NoSurface, RectOutside, OutputSize}
-use Rattle.gfx_base.specs.Geometry.{lies_in}
+use Rattle.gfx_base.specs.Geometry.{lies_in, moved, fit_all}
 use Rattle.gfx_base.specs.Results.{◌>>=◌, check}
-use Rattle.gfx_surface.specs.Picture.{Picture, moved, copied, overlaid}
+use Rattle.gfx_surface.specs.Picture.{Picture, copied, overlaid}
 use Rattle.gfx_surface_map.specs.declared.place.TheConstants.{MOST_OUTPUT_SIDE}
 use Rattle.gfx_surface_map.specs.declared.place.Output.{Output}
 use Rattle.gfx_surface_map.specs.declared.place.Place.{Place}
@@ -31,7 +30,7 @@ pub record Shown : Type 0 where
   pub maps : List (ℕ × Place)
 
 -- what is shown, and for how many pixels there is room to copy them
-pub record Kept : Type 0 where
+pub record SurfaceMap : Type 0 where
   pub shown : Shown
   pub room : ℕ
 
@@ -44,7 +43,7 @@ abbrev pub with_picture : Shown → ℕ → Picture → Shown
 with_picture shown id picture = record shown { surfaces = finmap.insert shown.surfaces id picture }
 
 -- no surface has more pixels than there is room for
-abbrev pub AllHaveRoom : Kept → Type 0
+abbrev pub AllHaveRoom : SurfaceMap → Type 0
 AllHaveRoom kept =
     (id : ℕ) → IfSome (finmap.get kept.shown.surfaces id) (λ picture. picture.width * picture.height ≤ kept.room)
 
@@ -64,10 +63,6 @@ surface_deleted shown id = do
 abbrev pub copied_to : Picture → Rect → List Point → Picture → Picture
 copied_to source rect points picture = fold (λ done point. copied source rect point done) picture points
 
--- the rectangle lies in an area of these sides at each point
-abbrev pub fit_all : ℕ → ℕ → Rect → List Point → Bool
-fit_all width height rect points = list_all (λ point. lies_in width height (moved rect point)) points
-
 -- a rectangle is copied to points, from its surface as it was
 unfoldable pub surface_copied : Shown → ℕ → ℕ → Rect → List Point → Result Shown Refusal
 surface_copied shown from to rect points = do
@@ -76,10 +71,6 @@ surface_copied shown from to rect points = do
   inside ← check RectOutside (lies_in source.width source.height rect)
   fits ← check RectOutside (fit_all target.width target.height rect points)
   Ok (with_picture shown to (copied_to source rect points target))
-
--- the rectangle of these sides that begins at the top left
-abbrev pub sized : ℕ → ℕ → Rect
-sized width height = record { left = 0; top = 0; right = width; bottom = height }
 
 -- a picture with the pixels of a rectangle at these points, one after another
 abbrev pub stamped : Rect → List Pixel → List Point → Picture → Picture
@@ -121,6 +112,6 @@ shown_code =
     (λ s. (s.surfaces, (s.output, s.maps)))
     (λ t. record { surfaces = t.0; output = t.1.0; maps = t.1.1 }) (λ _. refl)
 
-abbrev pub kept_code : Coded Kept
+abbrev pub kept_code : Coded SurfaceMap
 kept_code =
     code_by (Shown × ℕ) (coded× shown_code coded_ℕ) (λ k. (k.shown, k.room)) (λ t. record { shown = t.0; room = t.1 }) (λ _. refl)

@@ -1,13 +1,13 @@
 //! A rectangle of a surface that is copied to several points.
 ghost use Rattle.std.specs.Prelude.{◌≡◌, ◌≤◌, ◌*◌, IfSome, IsSomeAnd, IsTrue, length};
 ghost use Rattle.std.specs.FinMap as map;
-ghost use Rattle.gfx_base.specs.Geometry.{lies_in, width_of, height_of};
-ghost use Rattle.gfx_surface.specs.Picture.{moved, rect_of, overlaid};
-ghost use Rattle.gfx_surface_map.specs.Shown.{copied_to, fit_all, stamped};
+ghost use Rattle.gfx_base.specs.Geometry.{lies_in, width_of, height_of, moved, fit_all};
+ghost use Rattle.gfx_surface.specs.Picture.{rect_of, overlaid};
+ghost use Rattle.gfx_surface_map.specs.Shown.{copied_to, stamped};
 
 use crate::table::Table;
-use gfx_base::{Pixel, Point, Rect};
-use gfx_surface::{Surface, moved_to};
+use gfx_base::{Pixel, Point, Rect, moved_to};
+use gfx_surface::Surface;
 
 /// Copies a rectangle of a surface to points of a surface, also of the same, by way of a scratch: what is
 /// read was there before anything is written.

@@ -1,16 +1,16 @@
 //! What messages draw on a surface that is named by its id.
 ghost use Rattle.std.specs.Prelude.{◌≡◌, ◌≤◌, ◌*◌, IfSome, IsSomeAnd, IsTrue, length};
 ghost use Rattle.std.specs.FinMap as map;
-ghost use Rattle.gfx_base.specs.Geometry.{lies_in, width_of, height_of};
+ghost use Rattle.gfx_base.specs.Geometry.{lies_in, width_of, height_of, fit_all, sized};
 ghost use Rattle.gfx_surface.specs.Picture.{overlaid, raw_pixels};
 ghost use Rattle.gfx_surface_map.specs.Surfaces.{painted, AllLieIn};
-ghost use Rattle.gfx_surface_map.specs.Shown.{with_picture, surface_copied, fit_all, sized, stamped, pixels_put};
-ghost use Rattle.gfx_surface_map.specs.Outcome.{Performs};
+ghost use Rattle.gfx_surface_map.specs.Shown.{with_picture, surface_copied, stamped, pixels_put};
+ghost use Rattle.gfx_base.specs.Outcome.{Performs};
 
 use crate::copying::put_at_all;
 use crate::map::SurfaceMap;
-use gfx_base::{Bitmap, Format, Pixel, Point, Rect, Refusal};
-use gfx_surface::{Surface, fits_at};
+use gfx_base::{Bitmap, Format, Pixel, Point, Rect, Refusal, fits_at_all};
+use gfx_surface::Surface;
 
 impl SurfaceMap {
     /// Gives rectangles of the id's surface this colour, one after another ([MS-RDPEGFX]
@@ -73,7 +73,7 @@ impl SurfaceMap {
             (pixels_put self.old.shown id (sized bitmap.now.width bitmap.now.height) bitmap.now.pixels points.now) }
         ensures room { self.new.room ≡ self.old.room }
     {
-        let rect = sized(bitmap.width, bitmap.height);
+        let rect = Rect::sized(bitmap.width, bitmap.height);
         let Some(surface) = self.get(id) else {
             return Err(Refusal::NoSurface);
         };
@@ -98,18 +98,6 @@ impl SurfaceMap {
     }
 }
 
-/// The rectangle of these sides that begins at the top left.
-fn sized(width: u16, height: u16) -> Rect
-    ensures { result ≡ sized width height }
-{
-    Rect {
-        left: 0,
-        top: 0,
-        right: width,
-        bottom: height,
-    }
-}
-
 /// Gives rectangles this colour, one after another.
 fn fill_all(surface: &mut Surface, rects: &[Rect], colour: Pixel)
     requires { AllLieIn surface.old rects.now }
@@ -118,13 +106,4 @@ fn fill_all(surface: &mut Surface, rects: &[Rect], colour: Pixel)
     'rects: for rect in rects {
         surface.fill(*rect, colour);
     }
-}
-
-/// Whether a rectangle, once it is taken to any of these points, lies in an area of these sides.
-fn fits_at_all(rect: Rect, points: &[Point], width: u16, height: u16) -> bool
-    ensures { result ≡ fit_all width height rect points.now }
-{
-    points
-        .iter()
-        .all(|point| fits_at(rect, *point, width, height))
 }

@@ -26,6 +26,3 @@ pub const MOST_SURFACES: usize = 1024;
 
 /// The most cells of all surfaces together, part cells counted whole. This project's own rule.
 pub const MOST_CELLS: u32 = 16384;
-
-#[cfg(test)]
-mod tests;

@@ -2,12 +2,11 @@ ghost use Rattle.std.specs.Prelude.{◌≡◌, ℕ, ◌≤◌, ◌<◌, ◌*◌,
 ghost use Rattle.std.specs.Option.{option_copied, option_copied_mut};
 ghost use Rattle.std.specs.Borrow.{sem};
 ghost use Rattle.std.specs.FinMap as map;
-ghost use Rattle.gfx_base.specs.Geometry.{lies_in, width_of, height_of};
-ghost use Rattle.gfx_base.specs.Outcome.{Applies};
-ghost use Rattle.gfx_surface_map.specs.Shown.{nothing_shown, with_picture, surface_made, surface_deleted, copied_to, fit_all, output_reset, output_mapped};
+ghost use Rattle.gfx_base.specs.Geometry.{lies_in, width_of, height_of, fit_all};
+ghost use Rattle.gfx_base.specs.Outcome.{Applies, Performs};
+ghost use Rattle.gfx_surface_map.specs.Shown.{nothing_shown, with_picture, surface_made, surface_deleted, copied_to, output_reset, output_mapped};
 ghost use Rattle.gfx_surface_map.specs.Composed.{output_row, PaintsMap};
 ghost use Rattle.gfx_surface_map.specs.declared.place.Place.{Place as AnyPlace};
-ghost use Rattle.gfx_surface_map.specs.Outcome.{Performs};
 ghost use Rattle.gfx_surface_map.specs.Order.{from_id, first_id};
 ghost use Rattle.gfx_surface_map.specs.Lending.{LendsSurface};
 
@@ -42,9 +41,9 @@ pub struct SurfaceMap {
 
 impl Model for SurfaceMap {
     ghost use Rattle.std.specs.Prelude.{length};
-    ghost use Rattle.gfx_surface_map.specs.Shown.{Kept, kept_code};
+    ghost use Rattle.gfx_surface_map.specs.Shown.{SurfaceMap, kept_code};
 
-    ghost Value = { Kept };
+    ghost Value = { SurfaceMap };
 
     ghost coded = { kept_code };
 

@@ -9,6 +9,3 @@ mod table;
 pub use laws::{only_render_and_its_flag_are_render_output, only_their_names_are_commands};
 pub use line::command_of;
 pub use table::{Command, USAGE};
-
-#[cfg(test)]
-mod tests;

@@ -5,7 +5,7 @@ use Rattle.gfx_base.specs.Stream.{Change, change, Gains, GainsPart, FailsAfter}
 use Rattle.gfx_base.proofs.Streams.{Gained_none, Gains_none}
 use Rattle.gfx_planner.specs.Stream.{stream_of}
 use Rattle.gfx_script.specs.Script.{Wrong, script_of, Reads}
-use Rattle.gfx_script.specs.Scripted.{Scripted}
+use Rattle.gfx_script.specs.Scripted.{Script}
 use Rattle.gfx_script.specs.declared.error.ScriptError.{ScriptError}
 use Rattle.gfx_script.specs.declared.error.ScriptError.TheVariants as error
 use Rattle.gfxpipe.specs.declared.encode.Verdict.TheVariants as verdict
@@ -47,7 +47,7 @@ pub too_long : (limit m : ℕ) (i : Change) (held : Option (List ℕ)) → Takes
 too_long limit m i held t = (t.0, (verdict_long limit (text_of t.0) t.1, t.2, Gains_none m held))
 
 -- a text within the limit, and what it is found to be
-found : (limit : ℕ) (text bytes : List ℕ) (due : Result Scripted Wrong) → text ≡ bytes → length text ≤ limit → script_of text ≡ due
+found : (limit : ℕ) (text bytes : List ℕ) (due : Result Script Wrong) → text ≡ bytes → length text ≤ limit → script_of text ≡ due
     → (verdict_of limit bytes ≡ verdict_by due) × (encoded limit bytes ≡ stream_by due)
 found limit text bytes due same within is =
     let short = subst (λ z. length z ≤ limit) same within in
@@ -63,14 +63,14 @@ unread limit m i held text (error.Fault step k) t is =
 unread limit m i held text error.Memory t is = (t.0, (t.3, refl, nothing_gained m held _))
 
 -- the stream was written
-pub written : (limit : ℕ) (i o : Change) (text : List ℕ) (script : Scripted) → TakesText (Ok (Some text)) limit i → script_of text ≡ Ok script → Gains o (stream_of script script.steps)
+pub written : (limit : ℕ) (i o : Change) (text : List ℕ) (script : Script) → TakesText (Ok (Some text)) limit i → script_of text ≡ Ok script → Gains o (stream_of script script.steps)
     → Encoded (Ok (Judged verdict.Accepted)) limit i o
 written limit i o text script t is gains =
     let f = found limit text (text_of t.0) (Ok script) t.1 t.2 is in
     (t.0, (f.0, t.3, t.4, subst (Gains o) (sym f.1) gains))
 
 -- it was not
-pub not_written : (fault : Trouble) (limit : ℕ) (i o : Change) (text : List ℕ) (script : Scripted) → TakesText (Ok (Some text)) limit i → script_of text ≡ Ok script → WritesStream (Err fault) o (stream_of script script.steps)
+pub not_written : (fault : Trouble) (limit : ℕ) (i o : Change) (text : List ℕ) (script : Script) → TakesText (Ok (Some text)) limit i → script_of text ≡ Ok script → WritesStream (Err fault) o (stream_of script script.steps)
     → Encoded (Err fault) limit i o
 not_written trouble.Read limit i o text script t is w = absurd w
 not_written trouble.Write limit i o text script t is w =

@@ -99,8 +99,8 @@ end_is_stop limit bytes client within h =
     let at = cursor_of client in
     let run : played limit bytes ≡ end (waiting at) = played_short limit bytes within ∙ ap end (run_there client bytes h) in
     let stop_there = stop_at limit bytes (end (waiting at)) stop.End run (last_short limit bytes within) in
-    let by_rest = elim (length at.held.rest == 0) as (λ b. (if b then stop.End else stop.Refused (next_count at.applied) ChannelTruncated) ≡ stop_by (if b then waiting at else refuse (waiting at) ChannelTruncated).refusal (if b then waiting at else refuse (waiting at) ChannelTruncated).applied stop.End) [ true ↦ refl | false ↦ refl ] in
-    let same_state = elim (length at.held.rest == 0) as (λ b. at.state ≡ (if b then waiting at else refuse (waiting at) ChannelTruncated).state) [ true ↦ refl | false ↦ refl ] in
+    let by_rest = elim (length at.splitter.rest == 0) as (λ b. (if b then stop.End else stop.Refused (next_count at.applied) ChannelTruncated) ≡ stop_by (if b then waiting at else refuse (waiting at) ChannelTruncated).refusal (if b then waiting at else refuse (waiting at) ChannelTruncated).applied stop.End) [ true ↦ refl | false ↦ refl ] in
+    let same_state = elim (length at.splitter.rest == 0) as (λ b. at.state ≡ (if b then waiting at else refuse (waiting at) ChannelTruncated).state) [ true ↦ refl | false ↦ refl ] in
     record {
       stop_is = by_rest ∙ sym stop_there;
       shows = same_state ∙ ap (λ (z : Run). z.state) (sym run);

@@ -17,7 +17,7 @@ use Rattle.gfx_planner.specs.declared.planner.TheConstants.{MOST_FRAMES}
 use Rattle.gfx_planner.proofs.Streams.{along, stream-cons, stream-nil, stream-append}
 use Rattle.gfx_script.specs.Checks.{Held, held_after, held_through}
 use Rattle.gfx_script.specs.Script.{IsAccepted, step_at}
-use Rattle.gfx_script.specs.Scripted.{Scripted}
+use Rattle.gfx_script.specs.Scripted.{Script}
 use Rattle.gfx_script.specs.declared.picture.Picture.{Picture as Source}
 use Rattle.gfx_script.specs.declared.step.Step.{Step}
 use Rattle.gfx_state.specs.Sending.{sent}
@@ -73,7 +73,7 @@ is_at steps number step found =
 -- planning ------------------------------------------------------------------------------------------
 
 -- the steps from the first number on, up to this one, are planned
-pub record Planning (script : Scripted) (first number : ℕ) (planned : Planned) (before now : List ℕ) : Type 0 where
+pub record Planning (script : Script) (first number : ℕ) (planned : Planned) (before now : List ℕ) : Type 0 where
   pub further : first ≤ number
   pub within : number ≤ length script.steps + 1
   pub planner : planned ≡ ready (end_after script (take (number - 1) script.steps))
@@ -81,7 +81,7 @@ pub record Planning (script : Scripted) (first number : ℕ) (planned : Planned)
   pub gained : now ≡ before ++ bytes
   pub due : stream_of script (take (number - 1) script.steps) ≡ stream_of script (take (first - 1) script.steps) ++ bytes
 
-pub planning_none : (script : Scripted) (first : ℕ) (planned : Planned) (before : List ℕ) → first ≤ length script.steps → planned ≡ ready (end_after script (take (first - 1) script.steps)) → Planning script first first planned before before
+pub planning_none : (script : Script) (first : ℕ) (planned : Planned) (before : List ℕ) → first ≤ length script.steps → planned ≡ ready (end_after script (take (first - 1) script.steps)) → Planning script first first planned before before
 planning_none script first planned before there is = record {
   further = omega arith;
   within = omega arith;
@@ -105,7 +105,7 @@ pub record MayPut (pictures : List Source) (server : Server) (step : Option Step
   pub few : server.frames < MOST_FRAMES
   pub allowed : IsAllowedStep pictures server step
 
-pub may_put : (script : Scripted) (number : ℕ) (step : Step) → IsAccepted script → step_at script.steps number ≡ Some step
+pub may_put : (script : Script) (number : ℕ) (step : Step) → IsAccepted script → step_at script.steps number ≡ Some step
     → MayPut script.pictures (end_after script (take (number - 1) script.steps)) (step_at script.steps number)
 may_put script number step good found =
     let steps = script.steps in
@@ -121,20 +121,20 @@ may_put script number step good found =
           (record { numbers = a.numbers.0; held = a.held; holds = stands.holds; after = c.0; checked = c.1 });
     }
 
-end_after-one : (script : Scripted) (xs : List Step) (step : Step) → end_after script (xs ++ step ∷ []) ≡ served script.pictures (end_after script xs) step
+end_after-one : (script : Script) (xs : List Step) (step : Step) → end_after script (xs ++ step ∷ []) ≡ served script.pictures (end_after script xs) step
 end_after-one script xs step = fold-append (served script.pictures) (at_start script.small) xs (step ∷ [])
 
 stream-one : (pictures : List Source) (server : Server) (step : Step) → stream pictures server (step ∷ []) ≡ sends pictures server step
 stream-one pictures server step =
     stream-cons pictures server step [] ∙ ap (λ z. sends pictures server step ++ z) (stream-nil pictures (served pictures server step)) ∙ append-nil (sends pictures server step)
 
-stream_of-one : (script : Scripted) (xs : List Step) (step : Step) → stream_of script (xs ++ step ∷ []) ≡ stream_of script xs ++ sent (sends script.pictures (end_after script xs) step)
+stream_of-one : (script : Script) (xs : List Step) (step : Step) → stream_of script (xs ++ step ∷ []) ≡ stream_of script xs ++ sent (sends script.pictures (end_after script xs) step)
 stream_of-one script xs step =
     let start = at_start script.small in
     ap sent (stream-append script.pictures start xs (step ∷ []) ∙ ap (λ z. stream script.pictures start xs ++ z) (stream-one script.pictures (end_after script xs) step))
     ∙ sent-append (stream script.pictures start xs) (sends script.pictures (end_after script xs) step)
 
-pub planning_more : (script : Scripted) (first number : ℕ) (old new : Planned) (before mid now : List ℕ) (step : Step) (p : Planning script first number old before mid)
+pub planning_more : (script : Script) (first number : ℕ) (old new : Planned) (before mid now : List ℕ) (step : Step) (p : Planning script first number old before mid)
     → step_at script.steps number ≡ Some step → PutsInFrame script.pictures (Ok tt) old.server new mid now (step_at script.steps number) → Planning script first (number + 1) new before now
 planning_more script first number old new before mid now step p found put =
     let place = is_at script.steps number step found in
@@ -152,25 +152,25 @@ planning_more script first number old new before mid now step p found put =
       due = ap (stream_of script) grown ∙ stream_of-one script front step ∙ ap (λ z. z ++ sent (sends script.pictures server step)) p.due ∙ append_assoc (stream_of script (take (first - 1) script.steps)) p.bytes (sent (sends script.pictures server step));
     }
 
-pub planned_to : (script : Scripted) (first number : ℕ) (planned : Planned) (before now : List ℕ) → Planning script first number planned before now → first < number → Plans script first number planned before now
+pub planned_to : (script : Script) (first number : ℕ) (planned : Planned) (before now : List ℕ) → Planning script first number planned before now → first < number → Plans script first number planned before now
 planned_to script first number planned before now p further = record { further = further; within = p.within; planner = p.planner; bytes = p.bytes; gained = p.gained; due = p.due }
 
 -- writing -------------------------------------------------------------------------------------------
 
 -- the stream of the steps before a number is written
-pub record Streaming (script : Scripted) (next : ℕ) (planned : Planned) (frame : List ℕ) (o : Change) : Type 0 where
+pub record Streaming (script : Script) (next : ℕ) (planned : Planned) (frame : List ℕ) (o : Change) : Type 0 where
   pub from : 1 ≤ next
   pub within : next ≤ length script.steps + 1
   pub planner : planned ≡ ready (end_after script (take (next - 1) script.steps))
   pub empty : frame ≡ []
   pub gains : Gains o (stream_of script (take (next - 1) script.steps))
 
-pub streaming_none : (script : Scripted) (m : ℕ) (held : Option (List ℕ)) → Streaming script 1 (ready (at_start script.small)) [] (change m m held held)
+pub streaming_none : (script : Script) (m : ℕ) (held : Option (List ℕ)) → Streaming script 1 (ready (at_start script.small)) [] (change m m held held)
 unfolding stream sent
 streaming_none script m held = record { from = omega arith; within = omega arith; planner = refl; empty = refl; gains = Gains_none m held }
 
 -- the stream of a front, and what follows
-due_behind : (script : Scripted) (k : ℕ) → stream_of script script.steps
+due_behind : (script : Script) (k : ℕ) → stream_of script script.steps
     ≡ stream_of script (take k script.steps) ++ sent (stream script.pictures (end_after script (take k script.steps)) (drop k script.steps))
 due_behind script k =
     let start = at_start script.small in
@@ -178,7 +178,7 @@ due_behind script k =
     ∙ sent-append (stream script.pictures start (take k script.steps)) (stream script.pictures (end_after script (take k script.steps)) (drop k script.steps))
 
 -- a frame was planned and written
-pub streaming_more : (script : Scripted) (next further : ℕ) (old new : Planned) (frame bytes : List ℕ) (x y z : ℕ) (a b d : Option (List ℕ)) → Streaming script next old frame (change x y a b)
+pub streaming_more : (script : Script) (next further : ℕ) (old new : Planned) (frame bytes : List ℕ) (x y z : ℕ) (a b d : Option (List ℕ)) → Streaming script next old frame (change x y a b)
     → Plans script next further new frame bytes → Gains (change y z b d) bytes → Streaming script further new [] (change x z a d)
 streaming_more script next further old new frame bytes x y z a b d s p g =
     let wrote : bytes ≡ p.bytes = p.gained ∙ ap (λ f. f ++ p.bytes) s.empty in
@@ -192,7 +192,7 @@ streaming_more script next further old new frame bytes x y z a b d s p g =
     }
 
 -- a frame was planned, and could not be written whole
-pub streaming_fails : (script : Scripted) (next further : ℕ) (old new : Planned) (frame bytes : List ℕ) (x y z : ℕ) (a b d : Option (List ℕ)) → Streaming script next old frame (change x y a b)
+pub streaming_fails : (script : Script) (next further : ℕ) (old new : Planned) (frame bytes : List ℕ) (x y z : ℕ) (a b d : Option (List ℕ)) → Streaming script next old frame (change x y a b)
     → Plans script next further new frame bytes → FailsAfter (change y z b d) bytes → FailsAfter (change x z a d) (stream_of script script.steps)
 streaming_fails script next further old new frame bytes x y z a b d s p f =
     let wrote : bytes ≡ p.bytes = p.gained ∙ ap (λ h. h ++ p.bytes) s.empty in
@@ -202,7 +202,7 @@ streaming_fails script next further old new frame bytes x y z a b d s p f =
     (FailsAfter_more (change x z a d) (stream_of script (take (further - 1) script.steps)) (sent (stream script.pictures (end_after script (take (further - 1) script.steps)) (drop (further - 1) script.steps))) front)
 
 -- no memory is left for the next frame
-pub streaming_starved : (script : Scripted) (next : ℕ) (old : Planned) (frame : List ℕ) (o : Change) → Streaming script next old frame o → (o.now ≡ o.before) × GainsPart o (stream_of script script.steps)
+pub streaming_starved : (script : Script) (next : ℕ) (old : Planned) (frame : List ℕ) (o : Change) → Streaming script next old frame o → (o.now ≡ o.before) × GainsPart o (stream_of script script.steps)
 streaming_starved script next old frame o s = (
   s.gains.count,
   record {
@@ -214,7 +214,7 @@ streaming_starved script next old frame o s = (
 )
 
 -- all frames are written
-pub streaming_ends : (script : Scripted) (next : ℕ) (old : Planned) (frame : List ℕ) (o : Change) → Streaming script next old frame o → step_at script.steps next ≡ None → Gains o (stream_of script script.steps)
+pub streaming_ends : (script : Script) (next : ℕ) (old : Planned) (frame : List ℕ) (o : Change) → Streaming script next old frame o → step_at script.steps next ≡ None → Gains o (stream_of script script.steps)
 streaming_ends script next old frame o s none =
     let past = is_past script.steps next s.from none in
     subst (λ z. Gains o (stream_of script z)) (take_all (next - 1) script.steps (omega arith)) s.gains

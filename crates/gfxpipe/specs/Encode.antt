@@ -5,7 +5,7 @@ use Rattle.gfx_base.specs.declared.answer.NoMemory.{NoMemory}
 use Rattle.gfx_planner.specs.Planned.{Planned, ready}
 use Rattle.gfx_planner.specs.Stream.{end_after, stream_of}
 use Rattle.gfx_script.specs.Script.{Wrong, script_of}
-use Rattle.gfx_script.specs.Scripted.{Scripted}
+use Rattle.gfx_script.specs.Scripted.{Script}
 use Rattle.gfx_script.specs.declared.error.ScriptError.{ScriptError}
 use Rattle.gfx_script.specs.declared.error.ScriptError.TheVariants.{Fault, Memory}
 use Rattle.gfxpipe.specs.declared.encode.Verdict.{Verdict}
@@ -16,7 +16,7 @@ use Rattle.gfxpipe.specs.declared.trouble.Trouble.{Trouble}
 use Rattle.gfxpipe.specs.declared.trouble.Trouble.TheVariants as trouble
 
 -- what a text is found to be, within the limit on its length
-abbrev pub verdict_by : Result Scripted Wrong → Verdict
+abbrev pub verdict_by : Result Script Wrong → Verdict
 verdict_by (Ok script) = Accepted
 verdict_by (Err wrong) = Faulty wrong.step wrong.kind
 
@@ -24,7 +24,7 @@ unfoldable pub verdict_of : ℕ → List ℕ → Verdict
 verdict_of limit bytes = if nat_le (length bytes) limit then verdict_by (script_of bytes) else TooLong
 
 -- the stream that is written for it: none unless it is accepted
-abbrev pub stream_by : Result Scripted Wrong → List ℕ
+abbrev pub stream_by : Result Script Wrong → List ℕ
 stream_by (Ok script) = stream_of script script.steps
 stream_by (Err wrong) = []
 
@@ -44,7 +44,7 @@ WritesStream (Err trouble.Memory) o due = (o.now ≡ o.before) × GainsPart o du
 WritesStream (Err trouble.Read) o due = ⊥
 
 -- the planner has gone on by the steps from one number up to another, and their stream was put out
-pub record Plans (script : Scripted) (first next : ℕ) (planned : Planned) (before now : List ℕ) : Type 0 where
+pub record Plans (script : Script) (first next : ℕ) (planned : Planned) (before now : List ℕ) : Type 0 where
   pub further : first < next
   pub within : next ≤ length script.steps + 1
   pub planner : planned ≡ ready (end_after script (take (next - 1) script.steps))
@@ -53,6 +53,6 @@ pub record Plans (script : Scripted) (first next : ℕ) (planned : Planned) (bef
   pub due : stream_of script (take (next - 1) script.steps) ≡ stream_of script (take (first - 1) script.steps) ++ bytes
 
 -- what planning a frame answers
-abbrev pub PlansFrame : Result ℕ NoMemory → Scripted → ℕ → Planned → List ℕ → List ℕ → Type 0
+abbrev pub PlansFrame : Result ℕ NoMemory → Script → ℕ → Planned → List ℕ → List ℕ → Type 0
 PlansFrame (Ok next) script first planned before now = Plans script first next planned before now
 PlansFrame (Err e) script first planned before now = Unit {0}

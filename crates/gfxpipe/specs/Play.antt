@@ -107,7 +107,7 @@ Plays (Err trouble.Write) limit i new = ⊥
 
 -- the end of a recording at a cursor that needs more bytes
 abbrev pub end_stop : Cursor → Stop
-end_stop at = if length at.held.rest == 0 then stop.End else stop.Refused (next_count at.applied) ChannelTruncated
+end_stop at = if length at.splitter.rest == 0 then stop.End else stop.Refused (next_count at.applied) ChannelTruncated
 
 -- bytes are given and played
 pub record HasTaken (old new : Client) (piece : List ℕ) : Type 0 where

@@ -24,6 +24,3 @@ pub use program::{SCRIPT_LIMIT, STREAM_LIMIT, run};
 pub use render::Dump;
 pub use status::Status;
 pub use trouble::Trouble;
-
-#[cfg(test)]
-mod tests;

@@ -1,5 +1,6 @@
 use Rattle.std.proofs.Common.{◌+◌}
-use Rattle.gfx_surface.specs.Picture.{shade, moved}
+use Rattle.gfx_surface.specs.Picture.{shade}
+use Rattle.gfx_base.specs.Geometry.{moved}
 use Rattle.gfx_surface.specs.Rows.{WritesRows, taken_from}
 use Rattle.gfx_surface.proofs.copies.copy_rows.Given as goal
 

@@ -1,5 +1,5 @@
 use Rattle.std.proofs.Common.{arith, ◌+◌}
-use Rattle.gfx_surface.specs.Picture.{moved}
+use Rattle.gfx_base.specs.Geometry.{moved}
 use Rattle.gfx_surface.specs.Rows.{taken_from}
 use Rattle.gfx_surface.proofs.Places.{rows_none}
 use Rattle.gfx_surface.proofs.CopyLemmas.{moved_down, moved_all}

@@ -1,6 +1,5 @@
 use Rattle.std.proofs.Common.{◌≤◌, ◌+◌}
-use Rattle.gfx_base.specs.Geometry.{height_of}
-use Rattle.gfx_surface.specs.Picture.{moved}
+use Rattle.gfx_base.specs.Geometry.{height_of, moved}
 use Rattle.gfx_surface.specs.Rows.{WritesRows, taken_from}
 use Rattle.gfx_surface.proofs.moves.move_down.Given as goal
 

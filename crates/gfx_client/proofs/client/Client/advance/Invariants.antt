@@ -6,4 +6,4 @@ abbrev pub invariant-messages : goal.invariant-messages
 invariant-messages l = Moves l.fn.self l.self []
 
 abbrev pub decreases-messages : goal.decreases-messages
-decreases-messages l = length (cursor_of l.self).held.rest
+decreases-messages l = length (cursor_of l.self).splitter.rest

@@ -1,5 +1,0 @@
-use Rattle.std.proofs.Common.{arith}
-use Rattle.gfx_dwt.proofs.tests.draw_samples.Goals as goal
-
-pub returns : goal.returns
-returns c = λ j h. c.loop-k.invariant.drawn j (omega arith)

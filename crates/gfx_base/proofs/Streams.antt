@@ -1,12 +1,28 @@
 -- What several calls on one sink or source come to.
 use Rattle.std.proofs.Common.{◌≡◌, ℕ, ◌≤◌, ◌<◌, List, [], ◌∷◌, ◌++◌, length, take, drop, Option, Some, None, Result, Ok, Err, refl, sym, ap, ◌∙◌, subst, append_assoc, arith}
 use Rattle.std.proofs.lemmas.List.{append-nil, take-append-drop, nil_from_length}
-use Rattle.gfx_base.specs.Stream.{Rose, Gained, Gave, Tells, Change, change, Gains, GainsPart, FailsAfter, Writes}
+use Rattle.gfx_base.specs.Stream.{Rose, Gained, Gave, Keeps, Tells, Change, change, Gains, GainsPart, FailsAfter, Writes}
 
 -- nothing was gained
 pub Gained_none : (held : Option (List ℕ)) → Gained held [] held
 Gained_none None = tt
 Gained_none (Some old) = sym (append-nil old)
+
+-- what is as it was gained nothing
+pub Gained_kept : (a : Option (List ℕ)) (xs : List ℕ) (b c : Option (List ℕ)) → Gained a xs b → Keeps b c → Gained a xs c
+Gained_kept None xs b c g k = tt
+Gained_kept (Some a) xs None c g k = absurd g
+Gained_kept (Some a) xs (Some b) c g k = rw k g
+
+-- what was told twice to be as it was, is
+pub Keeps_then : (a b c : Option (List ℕ)) → Keeps a b → Keeps b c → Keeps a c
+Keeps_then None b c p q = tt
+Keeps_then (Some a) b c p q = subst (λ z. Keeps z c) p q
+
+-- what is as it was is told as it was
+pub Keeps_same : (a : Option (List ℕ)) → Keeps a a
+Keeps_same None = tt
+Keeps_same (Some a) = refl
 
 -- two gains, one after the other, are one
 pub Gained-append : (a : Option (List ℕ)) (xs : List ℕ) (b : Option (List ℕ)) (ys : List ℕ) (c : Option (List ℕ)) → Gained a xs b → Gained b ys c → Gained a (xs ++ ys) c
@@ -31,11 +47,11 @@ Sent_more a b b' x y z due rest n s e g = record {
   gains = record { count = e ∙ s.gains.count; gained = Gained-append x s.sent y (take n rest) z s.gains.gained g };
 }
 
-pub Sent_fails : (a b d : ℕ) (x y z : Option (List ℕ)) (due rest : List ℕ) → Sent (change a b x y) due rest → b ≤ d → Rose b d → z ≡ y → FailsAfter (change a d x z) due
+pub Sent_fails : (a b d : ℕ) (x y z : Option (List ℕ)) (due rest : List ℕ) → Sent (change a b x y) due rest → b ≤ d → Rose b d → Keeps y z → FailsAfter (change a d x z) due
 Sent_fails a b d x y z due rest s le rose e = record {
   falls = omega arith;
   rose = λ below. let up : b < d = rose below in omega arith;
-  part = record { sent = s.sent; rest = rest; cut = s.cut; gained = rw e s.gains.gained };
+  part = record { sent = s.sent; rest = rest; cut = s.cut; gained = Gained_kept x s.sent y z s.gains.gained e };
 }
 
 pub Sent_all : (c : Change) (due rest : List ℕ) → Sent c due rest → length rest ≡ 0 → Gains c due
@@ -79,11 +95,11 @@ FailsAfter_more c xs ys f = record {
 }
 
 -- a fault with nothing gained
-pub FailsAfter_none : (a b : ℕ) (x y : Option (List ℕ)) (due : List ℕ) → a ≤ b → Rose a b → y ≡ x → FailsAfter (change a b x y) due
+pub FailsAfter_none : (a b : ℕ) (x y : Option (List ℕ)) (due : List ℕ) → a ≤ b → Rose a b → Keeps x y → FailsAfter (change a b x y) due
 FailsAfter_none a b x y due le rose same = record {
   falls = le;
   rose = rose;
-  part = record { sent = []; rest = due; cut = refl; gained = rw same (Gained_none x) };
+  part = record { sent = []; rest = due; cut = refl; gained = Gained_kept x [] x y (Gained_none x) same };
 }
 
 -- all of the bytes are a part of them
@@ -101,6 +117,11 @@ then_Rose a b d le rose = λ below. let up : b < d = rose below in omega arith
 -- what is told is the one list that it may be
 pub Tells_same : (told : List ℕ) (bytes : List ℕ) → Tells (Some told) bytes → bytes ≡ told
 Tells_same told bytes e = e
+
+-- what is left is as it was, and what is told of it
+pub Tells-Keeps : (old new : Option (List ℕ)) (rest : List ℕ) → Keeps old new → Tells new rest → Tells old rest
+Tells-Keeps None new rest k t = tt
+Tells-Keeps (Some old) new rest k t = subst (λ z. Tells z rest) k t
 
 -- what was given, and what is told to be left, was told before
 pub Tells-Gave : (old new : Option (List ℕ)) (given rest : List ℕ) → Gave old given new → Tells new rest → Tells old (given ++ rest)

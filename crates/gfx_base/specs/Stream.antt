@@ -19,6 +19,11 @@ Gave None bytes new = Unit {0}
 Gave (Some old) bytes None = ⊥
 Gave (Some old) bytes (Some new) = (old ≡ bytes ++ new) × (bytes ≡ [] → new ≡ [])
 
+-- what was told is as it was
+abbrev pub Keeps : Option (List ℕ) → Option (List ℕ) → Type 0
+Keeps None new = Unit {0}
+Keeps (Some old) new = new ≡ Some old
+
 -- where it is told, it is this
 abbrev pub Tells : Option (List ℕ) → List ℕ → Type 0
 Tells None bytes = Unit {0}

@@ -1,5 +1,5 @@
 ghost use Rattle.std.specs.Prelude.{◌≡◌, ℕ, ◌<◌, ◌≤◌, List, Option, Some, length, take, IfOk, OnErr};
-ghost use Rattle.gfx_base.specs.Stream.{Gained, Rose, Writes, change};
+ghost use Rattle.gfx_base.specs.Stream.{Gained, Keeps, Rose, Writes, change};
 ghost use Rattle.gfx_base.specs.Memory.{writing_of, write_answer, write_after};
 
 use crate::answer::{Failed, NoMemory};
@@ -21,7 +21,7 @@ pub trait Sink {
         ensures gained { IfOk result (λ n. Gained (held self.old) (take n piece.now) (held self.new)) }
         ensures count { IfOk result (λ _. faults self.new ≡ faults self.old) }
         ensures failed { OnErr result (Rose (faults self.old) (faults self.new)) }
-        ensures kept { OnErr result (held self.new ≡ held self.old) }
+        ensures kept { OnErr result (Keeps (held self.old) (held self.new)) }
         ensures never_falls { faults self.old ≤ faults self.new };
 }
 
@@ -95,7 +95,7 @@ impl<'a> Sink for VecSink<'a> {
         ensures gained { IfOk result (λ n. Gained (Some self.old.held) (take n piece.now) (Some self.new.held)) }
         ensures count { IfOk result (λ _. self.new.faults ≡ self.old.faults) }
         ensures failed { OnErr result (Rose self.old.faults self.new.faults) }
-        ensures kept { OnErr result (Some self.new.held ≡ Some self.old.held) }
+        ensures kept { OnErr result (Keeps (Some self.old.held) (Some self.new.held)) }
         ensures never_falls { self.old.faults ≤ self.new.faults }
 
         ensures fails { result ≡ write_answer self.old piece.now }

@@ -1,5 +1,5 @@
 ghost use Rattle.std.specs.Prelude.{◌≡◌, ℕ, ◌<◌, ◌≤◌, List, Option, Some, length, take, drop, IfOk, OnErr};
-ghost use Rattle.gfx_base.specs.Stream.{Gave, Rose};
+ghost use Rattle.gfx_base.specs.Stream.{Gave, Keeps, Rose};
 ghost use Rattle.gfx_base.specs.Memory.{reading_of, read_count, read_answer, read_after};
 
 use crate::answer::Failed;
@@ -23,7 +23,7 @@ pub trait Source {
         ensures given { IfOk result (λ n. Gave (left self.old) (take n buf.new) (left self.new)) }
         ensures count { IfOk result (λ _. faults self.new ≡ faults self.old) }
         ensures failed { OnErr result (Rose (faults self.old) (faults self.new)) }
-        ensures kept { OnErr result (left self.new ≡ left self.old) }
+        ensures kept { OnErr result (Keeps (left self.old) (left self.new)) }
         ensures never_falls { faults self.old ≤ faults self.new };
 }
 
@@ -77,7 +77,7 @@ impl<'a> Source for SliceSource<'a> {
         ensures given { IfOk result (λ n. Gave (Some self.old.left) (take n buf.new) (Some self.new.left)) }
         ensures count { IfOk result (λ _. self.new.faults ≡ self.old.faults) }
         ensures failed { OnErr result (Rose self.old.faults self.new.faults) }
-        ensures kept { OnErr result (Some self.new.left ≡ Some self.old.left) }
+        ensures kept { OnErr result (Keeps (Some self.old.left) (Some self.new.left)) }
         ensures never_falls { self.old.faults ≤ self.new.faults }
 
         ensures fails { result ≡ read_answer self.old (length buf.old) }

@@ -125,6 +125,7 @@ Tells-Keeps (Some old) new rest k t = subst (λ z. Tells z rest) k t
 
 -- what was given, and what is told to be left, was told before
 pub Tells-Gave : (old new : Option (List ℕ)) (given rest : List ℕ) → Gave old given new → Tells new rest → Tells old (given ++ rest)
-Tells-Gave None new given rest g t = tt
+Tells-Gave None None given rest g t = tt
+Tells-Gave None (Some new) given rest g t = tt
 Tells-Gave (Some old) None given rest g t = absurd g
 Tells-Gave (Some old) (Some new) given rest g t = ap (λ w. given ++ w) t ∙ sym g.0

@@ -15,7 +15,8 @@ Gained (Some old) bytes (Some new) = new ≡ old ++ bytes
 
 -- what is left, where it was told, lost these bytes at its front; no bytes only where none was left
 abbrev pub Gave : Option (List ℕ) → List ℕ → Option (List ℕ) → Type 0
-Gave None bytes new = Unit {0}
+Gave None bytes None = Unit {0}
+Gave None bytes (Some new) = bytes ≡ [] → new ≡ []
 Gave (Some old) bytes None = ⊥
 Gave (Some old) bytes (Some new) = (old ≡ bytes ++ new) × (bytes ≡ [] → new ≡ [])
 

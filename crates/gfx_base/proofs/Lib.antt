@@ -1,3 +1,5 @@
 pub mod Streams
 pub mod ResultLemmas
 pub mod FieldLemmas
+pub mod MapLemmas
+pub mod Numbers

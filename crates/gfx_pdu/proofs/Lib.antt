@@ -1,9 +1,4 @@
-pub mod Lists
 pub mod Sizes
-pub mod Ids
-pub mod Fitting
-pub mod Pieces
-pub mod Again
-pub mod Taken
+pub mod Bodies
 pub mod Framing
 pub mod Laws

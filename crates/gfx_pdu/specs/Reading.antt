@@ -5,30 +5,29 @@ use Rattle.std.specs.Int.{w16, w32}
 use Rattle.gfx_base.specs.Field.{number_at}
 use Rattle.gfx_base.specs.Results.{◌>>=◌}
 use Rattle.gfx_base.specs.declared.refusal.Refusal.{Refusal}
-use Rattle.gfx_base.specs.declared.refusal.Refusal.TheVariants.{PduTruncated, PduLength, PduUnknown}
+use Rattle.gfx_base.specs.declared.refusal.Refusal.TheVariants.{PduTruncated, PduLength, PduUnknown, CountMismatch}
+use Rattle.gfx_layout.specs.declared.stop.Stop.{Stop}
+use Rattle.gfx_layout.specs.declared.stop.Stop.TheVariants.{Short, Long, Rule}
+use Rattle.gfx_layout.specs.Reading.{read_whole}
 use Rattle.gfx_pdu.specs.declared.id.Id.{Id}
-use Rattle.gfx_pdu.specs.declared.id.Id.TheVariants as ids
 use Rattle.gfx_pdu.specs.declared.pdu.Pdu.{Pdu}
 use Rattle.gfx_pdu.specs.Id.{id_of_number}
-use Rattle.gfx_pdu.specs.Bodies.{wire_to_surface_1, wire_to_surface_2, delete_encoding_context, solid_fill, surface_to_surface, surface_to_cache, cache_to_surface, evict_cache_entry, create_surface, delete_surface, start_frame, end_frame, reset_graphics, map_surface_to_output, caps_confirm}
+use Rattle.gfx_pdu.specs.Layouts.{layout_of}
+
+-- why a body is refused: one that doesn't end with its fields is CountMismatch
+abbrev pub refusal_of : Stop → Refusal
+refusal_of Short = CountMismatch
+refusal_of Long = CountMismatch
+refusal_of (Rule refusal) = refusal
+
+-- what was read of a body, or its refusal
+abbrev pub refused : {X : Type 0} → Result X Stop → Result X Refusal
+refused (Ok x) = Ok x
+refused (Err stop) = Err (refusal_of stop)
 
 -- the message of this id with this body
 unfoldable pub body_of : Id → List ℕ → Result Pdu Refusal
-body_of ids.WireToSurface1 body = wire_to_surface_1 body
-body_of ids.WireToSurface2 body = wire_to_surface_2 body
-body_of ids.DeleteEncodingContext body = delete_encoding_context body
-body_of ids.SolidFill body = solid_fill body
-body_of ids.SurfaceToSurface body = surface_to_surface body
-body_of ids.SurfaceToCache body = surface_to_cache body
-body_of ids.CacheToSurface body = cache_to_surface body
-body_of ids.EvictCacheEntry body = evict_cache_entry body
-body_of ids.CreateSurface body = create_surface body
-body_of ids.DeleteSurface body = delete_surface body
-body_of ids.StartFrame body = start_frame body
-body_of ids.EndFrame body = end_frame body
-body_of ids.ResetGraphics body = reset_graphics body
-body_of ids.MapSurfaceToOutput body = map_surface_to_output body
-body_of ids.CapsConfirm body = caps_confirm body
+body_of id body = refused (read_whole (layout_of id) body)
 
 -- how many bytes the message at the front has, its header's 8 among them
 unfoldable pub size_of : List ℕ → Result ℕ Refusal

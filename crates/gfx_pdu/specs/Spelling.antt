@@ -1,25 +1,77 @@
--- The bytes of a message: its header ([MS-RDPEGFX] 2.2.1.5), its fields, and padding where it has some.
-use Rattle.std.specs.Prelude.{◌≡◌, ℕ, ◌+◌, ◌≤◌, ◌<◌, ◌^◌, List, [], ◌∷◌, ◌++◌, length, replicate}
+-- The bytes of a message: its header ([MS-RDPEGFX] 2.2.1.5) and its body.
+use Rattle.std.specs.Prelude.{◌≡◌, ℕ, ◌+◌, ◌-◌, ◌*◌, ◌≤◌, ◌<◌, ◌^◌, List, [], ◌∷◌, ◌++◌, length, replicate}
 use Rattle.std.specs.List.{AllByRecursion}
 use Rattle.gfx_base.specs.Geometry.{IsPoint, IsRect}
+use Rattle.gfx_layout.specs.Shape.{digits, u16, u32}
+use Rattle.gfx_layout.specs.Layout.{Parts, spelled, measured}
 use Rattle.gfx_pdu.specs.declared.id.Id.{Id}
+use Rattle.gfx_pdu.specs.declared.id.Id.TheVariants as ids
 use Rattle.gfx_pdu.specs.declared.pdu.Monitor.{Monitor}
 use Rattle.gfx_pdu.specs.declared.pdu.Pdu.{Pdu}
 use Rattle.gfx_pdu.specs.declared.pdu.Pdu.TheVariants.{WireToSurface1, WireToSurface2, DeleteEncodingContext, SolidFill, SurfaceToSurface, SurfaceToCache, CacheToSurface, EvictCacheEntry, CreateSurface, DeleteSurface, StartFrame, EndFrame, ResetGraphics, MapSurfaceToOutput, CapsConfirm}
 use Rattle.gfx_pdu.specs.Id.{number_of}
-use Rattle.gfx_pdu.specs.Rows.{u16, u32, id_of, fields, padding_of}
+use Rattle.gfx_pdu.specs.Layouts.{layout_of}
+
+-- the id of a message
+abbrev pub id_of : Pdu → Id
+id_of (WireToSurface1 surface codec format area payload) = ids.WireToSurface1
+id_of (WireToSurface2 surface codec context format payload) = ids.WireToSurface2
+id_of (DeleteEncodingContext surface context) = ids.DeleteEncodingContext
+id_of (SolidFill surface colour rects) = ids.SolidFill
+id_of (SurfaceToSurface source destination area points) = ids.SurfaceToSurface
+id_of (SurfaceToCache surface key slot area) = ids.SurfaceToCache
+id_of (CacheToSurface slot surface points) = ids.CacheToSurface
+id_of (EvictCacheEntry slot) = ids.EvictCacheEntry
+id_of (CreateSurface id width height format) = ids.CreateSurface
+id_of (DeleteSurface id) = ids.DeleteSurface
+id_of (StartFrame timestamp frame) = ids.StartFrame
+id_of (EndFrame frame) = ids.EndFrame
+id_of (ResetGraphics width height monitors) = ids.ResetGraphics
+id_of (MapSurfaceToOutput id reserved x y) = ids.MapSurfaceToOutput
+id_of (CapsConfirm version payload) = ids.CapsConfirm
+
+-- the parts of a message in the order of its layout, with this padding
+abbrev pub parts_of : (pdu : Pdu) → List ℕ → Parts (layout_of (id_of pdu))
+parts_of (WireToSurface1 surface codec format area payload) padding = (surface, (codec, (format, (area, (payload, tt)))))
+parts_of (WireToSurface2 surface codec context format payload) padding = (surface, (codec, (context, (format, (payload, tt)))))
+parts_of (DeleteEncodingContext surface context) padding = (surface, (context, tt))
+parts_of (SolidFill surface colour rects) padding = (surface, (colour, (rects, tt)))
+parts_of (SurfaceToSurface source destination area points) padding = (source, (destination, (area, (points, tt))))
+parts_of (SurfaceToCache surface key slot area) padding = (surface, (key, (slot, (area, tt))))
+parts_of (CacheToSurface slot surface points) padding = (slot, (surface, (points, tt)))
+parts_of (EvictCacheEntry slot) padding = (slot, tt)
+parts_of (CreateSurface id width height format) padding = (id, (width, (height, (format, tt))))
+parts_of (DeleteSurface id) padding = (id, tt)
+parts_of (StartFrame timestamp frame) padding = (timestamp, (frame, tt))
+parts_of (EndFrame frame) padding = (frame, tt)
+parts_of (ResetGraphics width height monitors) padding = (width, (height, (length monitors, (monitors, (padding, tt)))))
+parts_of (MapSurfaceToOutput id reserved x y) padding = (id, (reserved, (x, (y, tt))))
+parts_of (CapsConfirm version payload) padding = (version, (payload, tt))
+
+-- how much padding a message has: ResetGraphics always has the room of 16 monitors
+abbrev pub padding_of : Pdu → ℕ
+padding_of (ResetGraphics width height monitors) = (16 - length monitors) * 20
+padding_of pdu = 0
+
+-- the body of a message, with this padding
+abbrev pub body : Pdu → List ℕ → List ℕ
+body pdu padding = spelled (layout_of (id_of pdu)) (parts_of pdu padding)
+
+-- the padding that is written
+abbrev pub no_padding : Pdu → List ℕ
+no_padding pdu = replicate (padding_of pdu) 0
+
+-- the body that is written
+unfoldable pub written_body : Pdu → List ℕ
+written_body pdu = body pdu (no_padding pdu)
 
 -- how many bytes a message has, its header's 8 among them
 unfoldable pub size : Pdu → ℕ
-size pdu = 8 + (length (fields pdu) + padding_of pdu)
+size pdu = 8 + measured (layout_of (id_of pdu)) (parts_of pdu (no_padding pdu))
 
--- a header ([MS-RDPEGFX] 2.2.1.5: id, flags, length of the whole message), and what stands behind it
-unfoldable pub framed : Id → List ℕ → ℕ → List ℕ → List ℕ
-framed id flags whole body = u16 (number_of id) ++ (flags ++ (u32 whole ++ body))
-
--- the message with these flags and this padding
-abbrev pub spelled : List ℕ → Pdu → List ℕ → List ℕ
-spelled flags pdu padding = framed (id_of pdu) flags (size pdu) (fields pdu ++ padding)
+-- a header ([MS-RDPEGFX] 2.2.1.5): id, flags, length of the whole message
+unfoldable pub header : Id → List ℕ → ℕ → List ℕ
+header id flags whole = digits u16 (number_of id) ++ (flags ++ digits u32 whole)
 
 -- the flags that are written
 abbrev pub no_flags : List ℕ
@@ -27,7 +79,7 @@ no_flags = 0 ∷ 0 ∷ []
 
 -- the one spelling that is written: flags and padding are zero
 unfoldable pub spelling : Pdu → List ℕ
-spelling pdu = spelled no_flags pdu (replicate (padding_of pdu) 0)
+spelling pdu = header (id_of pdu) no_flags (size pdu) ++ written_body pdu
 
 -- these bytes are this message; its flags and its padding may be anything
 pub record Spells (bytes : List ℕ) (pdu : Pdu) : Type 0 where
@@ -35,7 +87,7 @@ pub record Spells (bytes : List ℕ) (pdu : Pdu) : Type 0 where
   pub two : length flags ≡ 2
   pub padding : List ℕ
   pub as_long : length padding ≡ padding_of pdu
-  pub bytes_are : bytes ≡ spelled flags pdu padding
+  pub bytes_are : bytes ≡ header (id_of pdu) flags (size pdu) ++ body pdu padding
 
 -- each count fits its field, and there are at most 16 monitors
 abbrev pub CountsFit : Pdu → Type 0

@@ -1,58 +1,38 @@
-//! The messages that draw on a surface.
+//! The messages that draw: on a surface, and by the cache of bitmaps.
+#![tactic(auto, unfolding(gfx_layout::specs::Reading::read_whole, gfx_layout::specs::Reading::read, gfx_base::specs::Results::and_then, crate::specs::Spelling::spelling, crate::specs::Spelling::size, crate::specs::Spelling::written_body))]
 
-ghost use Rattle.std.specs.Prelude.{◌≡◌, ◌++◌, OnOk, OnErr};
+ghost use Rattle.std.specs.Prelude.{◌≡◌};
 ghost use Rattle.gfx_base.specs.Outcome.{Gives};
+ghost use Rattle.gfx_layout.specs.Reading.{read_whole};
+ghost use Rattle.gfx_layout.specs.Writing.{Puts};
 ghost use Rattle.gfx_pdu.specs.declared.pdu.Pdu.TheVariants as pdus;
+ghost use Rattle.gfx_pdu.specs.Layouts.{wire_to_surface_1, wire_to_surface_2, delete_encoding_context, solid_fill, surface_to_surface, surface_to_cache, cache_to_surface, evict_cache_entry};
 ghost use Rattle.gfx_pdu.specs.Spelling.{spelling, IsSpellable};
-ghost use Rattle.gfx_pdu.specs.Bodies.{wire_to_surface_1, wire_to_surface_2, delete_encoding_context, solid_fill, surface_to_surface};
 
-use crate::field::Field;
-use crate::header::put_message;
+use crate::header::put_header;
 use crate::id::Id;
-use crate::items::{read_bytes, read_items};
 use crate::pdu::Pdu;
-use crate::places::{POINT_SIZE, RECT_SIZE, read_pixel, read_rect, u16_at, u32_at};
-use gfx_base::{Bytes, Fault, NoMemory, Pixel, Points, Rect, Rects, Refusal};
+use gfx_base::{Bytes, Cause, NoMemory, Pixel, Point, Points, Rect, Rects};
+use gfx_layout::{Fields, Part, Stop, kept, put_list, put_sized};
 use std::alloc::Global;
 
-/// How many bytes the body of WireToSurface1 has before its data.
-const WIRE_TO_SURFACE_1: usize = 17;
-
-/// How many bytes the body of WireToSurface2 has before its data.
-const WIRE_TO_SURFACE_2: usize = 13;
-
-/// How many bytes the body of DeleteEncodingContext has.
-const DELETE_ENCODING_CONTEXT: usize = 6;
-
-/// How many bytes the body of SolidFill has before its rectangles.
-const SOLID_FILL: usize = 8;
-
-/// How many bytes the body of SurfaceToSurface has before its points.
-const SURFACE_TO_SURFACE: usize = 14;
-
 /// Reads the body of RDPGFX_WIRE_TO_SURFACE_PDU_1 ([MS-RDPEGFX] 2.2.2.1).
-#[tactic(auto, unfolding(crate::specs::Bodies::wire_to_surface_1))]
-pub fn read_wire_to_surface_1(alloc: Global, body: &[u8]) -> Result<Pdu, Fault>
-    ensures { Gives (λ p. p) result (wire_to_surface_1 body.now) }
+pub fn read_wire_to_surface_1(alloc: Global, body: &[u8]) -> Result<Pdu, Cause<Stop>>
+    ensures { Gives (λ p. p) result (read_whole wire_to_surface_1 body.now) }
 {
-    if body.len() < WIRE_TO_SURFACE_1 {
-        return Err(Fault::Refused(Refusal::CountMismatch));
-    }
-    let (_, rest) = body.split_at(WIRE_TO_SURFACE_1);
-    if rest.len() != u32_at(body, 13) as usize {
-        return Err(Fault::Refused(Refusal::CountMismatch));
-    }
-    Ok(Pdu::WireToSurface1 {
-        surface: u16_at(body, 0),
-        codec: u16_at(body, 2),
-        format: body[4],
-        rect: read_rect(body, 5),
-        payload: read_bytes(alloc, rest)?,
-    })
+    let mut fields = Fields::new(body);
+    let pdu = Pdu::WireToSurface1 {
+        surface: fields.u16()?,
+        codec: fields.u16()?,
+        format: fields.u8()?,
+        rect: fields.one()?,
+        payload: kept(alloc, fields.sized()?)?,
+    };
+    fields.end()?;
+    Ok(pdu)
 }
 
-/// Puts RDPGFX_WIRE_TO_SURFACE_PDU_1 at the end, all or nothing.
-#[tactic(auto, unfolding(crate::specs::Spelling::spelling, crate::specs::Spelling::size))]
+/// Puts RDPGFX_WIRE_TO_SURFACE_PDU_1 at the end.
 pub fn put_wire_to_surface_1(
     out: &mut Bytes,
     surface: u16,
@@ -62,47 +42,37 @@ pub fn put_wire_to_surface_1(
     payload: &Bytes,
 ) -> Result<(), NoMemory>
     requires { IsSpellable (pdus.WireToSurface1 surface codec format rect payload.now) }
-    ensures ok { OnOk result (out.new ≡ out.old ++ spelling (pdus.WireToSurface1 surface codec format rect payload.now)) }
-    ensures err { OnErr result (out.new ≡ out.old) }
+    ensures { Puts result out.old out.new (spelling (pdus.WireToSurface1 surface codec format rect payload.now)) }
 {
-    put_message(
+    put_header(
         out,
         Id::WireToSurface1,
-        WIRE_TO_SURFACE_1 + payload.len(),
-        &[
-            Field::U16(surface),
-            Field::U16(codec),
-            Field::U8(format),
-            Field::Rect(rect),
-            Field::U32(payload.len() as u32),
-            Field::Bytes(payload.as_slice()),
-        ],
-    )
+        2 * u16::SIZE + u8::SIZE + Rect::SIZE + u32::SIZE + payload.len(),
+    )?;
+    surface.put(out)?;
+    codec.put(out)?;
+    format.put(out)?;
+    rect.put(out)?;
+    put_sized(out, payload.as_slice())
 }
 
 /// Reads the body of RDPGFX_WIRE_TO_SURFACE_PDU_2 ([MS-RDPEGFX] 2.2.2.2).
-#[tactic(auto, unfolding(crate::specs::Bodies::wire_to_surface_2))]
-pub fn read_wire_to_surface_2(alloc: Global, body: &[u8]) -> Result<Pdu, Fault>
-    ensures { Gives (λ p. p) result (wire_to_surface_2 body.now) }
+pub fn read_wire_to_surface_2(alloc: Global, body: &[u8]) -> Result<Pdu, Cause<Stop>>
+    ensures { Gives (λ p. p) result (read_whole wire_to_surface_2 body.now) }
 {
-    if body.len() < WIRE_TO_SURFACE_2 {
-        return Err(Fault::Refused(Refusal::CountMismatch));
-    }
-    let (_, rest) = body.split_at(WIRE_TO_SURFACE_2);
-    if rest.len() != u32_at(body, 9) as usize {
-        return Err(Fault::Refused(Refusal::CountMismatch));
-    }
-    Ok(Pdu::WireToSurface2 {
-        surface: u16_at(body, 0),
-        codec: u16_at(body, 2),
-        context: u32_at(body, 4),
-        format: body[8],
-        payload: read_bytes(alloc, rest)?,
-    })
+    let mut fields = Fields::new(body);
+    let pdu = Pdu::WireToSurface2 {
+        surface: fields.u16()?,
+        codec: fields.u16()?,
+        context: fields.u32()?,
+        format: fields.u8()?,
+        payload: kept(alloc, fields.sized()?)?,
+    };
+    fields.end()?;
+    Ok(pdu)
 }
 
-/// Puts RDPGFX_WIRE_TO_SURFACE_PDU_2 at the end, all or nothing.
-#[tactic(auto, unfolding(crate::specs::Spelling::spelling, crate::specs::Spelling::size))]
+/// Puts RDPGFX_WIRE_TO_SURFACE_PDU_2 at the end.
 pub fn put_wire_to_surface_2(
     out: &mut Bytes,
     surface: u16,
@@ -112,78 +82,59 @@ pub fn put_wire_to_surface_2(
     payload: &Bytes,
 ) -> Result<(), NoMemory>
     requires { IsSpellable (pdus.WireToSurface2 surface codec context format payload.now) }
-    ensures ok { OnOk result (out.new ≡ out.old ++ spelling (pdus.WireToSurface2 surface codec context format payload.now)) }
-    ensures err { OnErr result (out.new ≡ out.old) }
+    ensures { Puts result out.old out.new (spelling (pdus.WireToSurface2 surface codec context format payload.now)) }
 {
-    put_message(
+    put_header(
         out,
         Id::WireToSurface2,
-        WIRE_TO_SURFACE_2 + payload.len(),
-        &[
-            Field::U16(surface),
-            Field::U16(codec),
-            Field::U32(context),
-            Field::U8(format),
-            Field::U32(payload.len() as u32),
-            Field::Bytes(payload.as_slice()),
-        ],
-    )
+        2 * u16::SIZE + u32::SIZE + u8::SIZE + u32::SIZE + payload.len(),
+    )?;
+    surface.put(out)?;
+    codec.put(out)?;
+    context.put(out)?;
+    format.put(out)?;
+    put_sized(out, payload.as_slice())
 }
 
 /// Reads the body of RDPGFX_DELETE_ENCODING_CONTEXT_PDU ([MS-RDPEGFX] 2.2.2.3).
-#[tactic(auto, unfolding(crate::specs::Bodies::delete_encoding_context))]
-pub fn read_delete_encoding_context(body: &[u8]) -> Result<Pdu, Refusal>
-    ensures { result ≡ delete_encoding_context body.now }
+pub fn read_delete_encoding_context(body: &[u8]) -> Result<Pdu, Stop>
+    ensures { result ≡ read_whole delete_encoding_context body.now }
 {
-    if body.len() != DELETE_ENCODING_CONTEXT {
-        return Err(Refusal::CountMismatch);
-    }
-    Ok(Pdu::DeleteEncodingContext {
-        surface: u16_at(body, 0),
-        context: u32_at(body, 2),
-    })
+    let mut fields = Fields::new(body);
+    let surface = fields.u16()?;
+    let context = fields.u32()?;
+    fields.end()?;
+    Ok(Pdu::DeleteEncodingContext { surface, context })
 }
 
-/// Puts RDPGFX_DELETE_ENCODING_CONTEXT_PDU at the end, all or nothing.
-#[tactic(auto, unfolding(crate::specs::Spelling::spelling, crate::specs::Spelling::size))]
+/// Puts RDPGFX_DELETE_ENCODING_CONTEXT_PDU at the end.
 pub fn put_delete_encoding_context(
     out: &mut Bytes,
     surface: u16,
     context: u32,
 ) -> Result<(), NoMemory>
-    ensures ok { OnOk result (out.new ≡ out.old ++ spelling (pdus.DeleteEncodingContext surface context)) }
-    ensures err { OnErr result (out.new ≡ out.old) }
+    ensures { Puts result out.old out.new (spelling (pdus.DeleteEncodingContext surface context)) }
 {
-    put_message(
-        out,
-        Id::DeleteEncodingContext,
-        DELETE_ENCODING_CONTEXT,
-        &[Field::U16(surface), Field::U32(context)],
-    )
+    put_header(out, Id::DeleteEncodingContext, u16::SIZE + u32::SIZE)?;
+    surface.put(out)?;
+    context.put(out)
 }
 
 /// Reads the body of RDPGFX_SOLIDFILL_PDU ([MS-RDPEGFX] 2.2.2.4).
-#[tactic(auto, unfolding(crate::specs::Bodies::solid_fill))]
-pub fn read_solid_fill(alloc: Global, body: &[u8]) -> Result<Pdu, Fault>
-    ensures { Gives (λ p. p) result (solid_fill body.now) }
+pub fn read_solid_fill(alloc: Global, body: &[u8]) -> Result<Pdu, Cause<Stop>>
+    ensures { Gives (λ p. p) result (read_whole solid_fill body.now) }
 {
-    if body.len() < SOLID_FILL {
-        return Err(Fault::Refused(Refusal::CountMismatch));
-    }
-    let (_, rest) = body.split_at(SOLID_FILL);
-    let count = u16_at(body, 6) as usize;
-    if rest.len() != count * RECT_SIZE {
-        return Err(Fault::Refused(Refusal::CountMismatch));
-    }
-    Ok(Pdu::SolidFill {
-        surface: u16_at(body, 0),
-        colour: read_pixel(body, 2),
-        rects: read_items(alloc, rest, count)?,
-    })
+    let mut fields = Fields::new(body);
+    let pdu = Pdu::SolidFill {
+        surface: fields.u16()?,
+        colour: fields.one()?,
+        rects: fields.list(alloc)?,
+    };
+    fields.end()?;
+    Ok(pdu)
 }
 
-/// Puts RDPGFX_SOLIDFILL_PDU at the end, all or nothing.
-#[tactic(auto, using(crate::proofs::Sizes::size_of_solid_fill), unfolding(crate::specs::Spelling::spelling))]
+/// Puts RDPGFX_SOLIDFILL_PDU at the end.
 pub fn put_solid_fill(
     out: &mut Bytes,
     surface: u16,
@@ -191,45 +142,34 @@ pub fn put_solid_fill(
     rects: &Rects,
 ) -> Result<(), NoMemory>
     requires { IsSpellable (pdus.SolidFill surface colour rects.now) }
-    ensures ok { OnOk result (out.new ≡ out.old ++ spelling (pdus.SolidFill surface colour rects.now)) }
-    ensures err { OnErr result (out.new ≡ out.old) }
+    ensures { Puts result out.old out.new (spelling (pdus.SolidFill surface colour rects.now)) }
 {
-    put_message(
+    put_header(
         out,
         Id::SolidFill,
-        SOLID_FILL + rects.len() * RECT_SIZE,
-        &[
-            Field::U16(surface),
-            Field::Pixel(colour),
-            Field::U16(rects.len() as u16),
-            Field::Rects(rects.as_slice()),
-        ],
-    )
+        2 * u16::SIZE + Pixel::SIZE + rects.len() * Rect::SIZE,
+    )?;
+    surface.put(out)?;
+    colour.put(out)?;
+    put_list(out, rects.as_slice())
 }
 
 /// Reads the body of RDPGFX_SURFACE_TO_SURFACE_PDU ([MS-RDPEGFX] 2.2.2.5).
-#[tactic(auto, unfolding(crate::specs::Bodies::surface_to_surface))]
-pub fn read_surface_to_surface(alloc: Global, body: &[u8]) -> Result<Pdu, Fault>
-    ensures { Gives (λ p. p) result (surface_to_surface body.now) }
+pub fn read_surface_to_surface(alloc: Global, body: &[u8]) -> Result<Pdu, Cause<Stop>>
+    ensures { Gives (λ p. p) result (read_whole surface_to_surface body.now) }
 {
-    if body.len() < SURFACE_TO_SURFACE {
-        return Err(Fault::Refused(Refusal::CountMismatch));
-    }
-    let (_, rest) = body.split_at(SURFACE_TO_SURFACE);
-    let count = u16_at(body, 12) as usize;
-    if rest.len() != count * POINT_SIZE {
-        return Err(Fault::Refused(Refusal::CountMismatch));
-    }
-    Ok(Pdu::SurfaceToSurface {
-        source: u16_at(body, 0),
-        destination: u16_at(body, 2),
-        rect: read_rect(body, 4),
-        points: read_items(alloc, rest, count)?,
-    })
+    let mut fields = Fields::new(body);
+    let pdu = Pdu::SurfaceToSurface {
+        source: fields.u16()?,
+        destination: fields.u16()?,
+        rect: fields.one()?,
+        points: fields.list(alloc)?,
+    };
+    fields.end()?;
+    Ok(pdu)
 }
 
-/// Puts RDPGFX_SURFACE_TO_SURFACE_PDU at the end, all or nothing.
-#[tactic(auto, using(crate::proofs::Sizes::size_of_surface_to_surface), unfolding(crate::specs::Spelling::spelling))]
+/// Puts RDPGFX_SURFACE_TO_SURFACE_PDU at the end.
 pub fn put_surface_to_surface(
     out: &mut Bytes,
     source: u16,
@@ -238,19 +178,103 @@ pub fn put_surface_to_surface(
     points: &Points,
 ) -> Result<(), NoMemory>
     requires { IsSpellable (pdus.SurfaceToSurface source destination rect points.now) }
-    ensures ok { OnOk result (out.new ≡ out.old ++ spelling (pdus.SurfaceToSurface source destination rect points.now)) }
-    ensures err { OnErr result (out.new ≡ out.old) }
+    ensures { Puts result out.old out.new (spelling (pdus.SurfaceToSurface source destination rect points.now)) }
 {
-    put_message(
+    put_header(
         out,
         Id::SurfaceToSurface,
-        SURFACE_TO_SURFACE + points.len() * POINT_SIZE,
-        &[
-            Field::U16(source),
-            Field::U16(destination),
-            Field::Rect(rect),
-            Field::U16(points.len() as u16),
-            Field::Points(points.as_slice()),
-        ],
-    )
+        3 * u16::SIZE + Rect::SIZE + points.len() * Point::SIZE,
+    )?;
+    source.put(out)?;
+    destination.put(out)?;
+    rect.put(out)?;
+    put_list(out, points.as_slice())
+}
+
+/// Reads the body of RDPGFX_SURFACE_TO_CACHE_PDU ([MS-RDPEGFX] 2.2.2.6).
+pub fn read_surface_to_cache(body: &[u8]) -> Result<Pdu, Stop>
+    ensures { result ≡ read_whole surface_to_cache body.now }
+{
+    let mut fields = Fields::new(body);
+    let pdu = Pdu::SurfaceToCache {
+        surface: fields.u16()?,
+        key: fields.u64()?,
+        slot: fields.u16()?,
+        rect: fields.one()?,
+    };
+    fields.end()?;
+    Ok(pdu)
+}
+
+/// Puts RDPGFX_SURFACE_TO_CACHE_PDU at the end.
+pub fn put_surface_to_cache(
+    out: &mut Bytes,
+    surface: u16,
+    key: u64,
+    slot: u16,
+    rect: Rect,
+) -> Result<(), NoMemory>
+    ensures { Puts result out.old out.new (spelling (pdus.SurfaceToCache surface key slot rect)) }
+{
+    put_header(
+        out,
+        Id::SurfaceToCache,
+        2 * u16::SIZE + u64::SIZE + Rect::SIZE,
+    )?;
+    surface.put(out)?;
+    key.put(out)?;
+    slot.put(out)?;
+    rect.put(out)
+}
+
+/// Reads the body of RDPGFX_CACHE_TO_SURFACE_PDU ([MS-RDPEGFX] 2.2.2.7).
+pub fn read_cache_to_surface(alloc: Global, body: &[u8]) -> Result<Pdu, Cause<Stop>>
+    ensures { Gives (λ p. p) result (read_whole cache_to_surface body.now) }
+{
+    let mut fields = Fields::new(body);
+    let pdu = Pdu::CacheToSurface {
+        slot: fields.u16()?,
+        surface: fields.u16()?,
+        points: fields.list(alloc)?,
+    };
+    fields.end()?;
+    Ok(pdu)
+}
+
+/// Puts RDPGFX_CACHE_TO_SURFACE_PDU at the end.
+pub fn put_cache_to_surface(
+    out: &mut Bytes,
+    slot: u16,
+    surface: u16,
+    points: &Points,
+) -> Result<(), NoMemory>
+    requires { IsSpellable (pdus.CacheToSurface slot surface points.now) }
+    ensures { Puts result out.old out.new (spelling (pdus.CacheToSurface slot surface points.now)) }
+{
+    put_header(
+        out,
+        Id::CacheToSurface,
+        3 * u16::SIZE + points.len() * Point::SIZE,
+    )?;
+    slot.put(out)?;
+    surface.put(out)?;
+    put_list(out, points.as_slice())
+}
+
+/// Reads the body of RDPGFX_EVICT_CACHE_ENTRY_PDU ([MS-RDPEGFX] 2.2.2.8).
+pub fn read_evict_cache_entry(body: &[u8]) -> Result<Pdu, Stop>
+    ensures { result ≡ read_whole evict_cache_entry body.now }
+{
+    let mut fields = Fields::new(body);
+    let slot = fields.u16()?;
+    fields.end()?;
+    Ok(Pdu::EvictCacheEntry { slot })
+}
+
+/// Puts RDPGFX_EVICT_CACHE_ENTRY_PDU at the end.
+pub fn put_evict_cache_entry(out: &mut Bytes, slot: u16) -> Result<(), NoMemory>
+    ensures { Puts result out.old out.new (spelling (pdus.EvictCacheEntry slot)) }
+{
+    put_header(out, Id::EvictCacheEntry, u16::SIZE)?;
+    slot.put(out)
 }

@@ -1,25 +1,25 @@
 //! The header of a message ([MS-RDPEGFX] 2.2.1.5), read and written.
+#![tactic(auto, unfolding(crate::specs::Reading::size_of, crate::specs::Reading::kind_of, crate::specs::Spelling::header, gfx_layout::specs::Shape::part_in, gfx_layout::specs::Shape::text))]
 
-ghost use Rattle.std.specs.Prelude.{◌≡◌, ◌+◌, ◌≤◌, ◌<◌, ◌^◌, ◌++◌, length, IfOk, OnOk, OnErr};
-ghost use Rattle.std.specs.List.{flat_map};
-ghost use Rattle.gfx_pdu.specs.Field.{field_bytes};
+ghost use Rattle.std.specs.Prelude.{◌≡◌, ◌+◌, ◌≤◌, ◌<◌, ◌^◌, length, IfOk};
+ghost use Rattle.gfx_layout.specs.Writing.{Puts};
 ghost use Rattle.gfx_pdu.specs.Reading.{size_of, kind_of};
-ghost use Rattle.gfx_pdu.specs.Spelling.{framed, no_flags};
+ghost use Rattle.gfx_pdu.specs.Spelling.{header, no_flags};
 
-use crate::field::Field;
 use crate::id::Id;
-use crate::places::{u16_at, u32_at};
-use crate::spelled::put_each;
 use gfx_base::{Bytes, NoMemory, Refusal};
+use gfx_layout::Part;
 
 /// How many bytes a header has.
 pub const HEADER: usize = 8;
+
+/// Where the length of the message stands in its header.
+const LENGTH: usize = 4;
 
 /// The flags that are written: the standard has none.
 const NO_FLAGS: u16 = 0;
 
 /// How many bytes the message at the front has, its header among them.
-#[tactic(auto, unfolding(crate::specs::Reading::size_of))]
 pub fn read_size(bytes: &[u8]) -> Result<usize, Refusal>
     ensures value { result ≡ size_of bytes.now }
     ensures within { IfOk result (λ size. (8 ≤ size) × (size ≤ length bytes.now)) }
@@ -27,7 +27,8 @@ pub fn read_size(bytes: &[u8]) -> Result<usize, Refusal>
     if bytes.len() < HEADER {
         return Err(Refusal::PduTruncated);
     }
-    let size = u32_at(bytes, 4) as usize;
+    let (_, length) = bytes.split_at(LENGTH);
+    let size = u32::read(length) as usize;
     if size < HEADER {
         return Err(Refusal::PduLength);
     }
@@ -38,34 +39,19 @@ pub fn read_size(bytes: &[u8]) -> Result<usize, Refusal>
 }
 
 /// Which message a header announces.
-#[tactic(auto, unfolding(crate::specs::Reading::kind_of))]
 pub fn read_kind(bytes: &[u8]) -> Result<Id, Refusal>
     requires { 8 ≤ length bytes.now }
     ensures { result ≡ kind_of bytes.now }
 {
-    Id::from_number(u16_at(bytes, 0)).ok_or(Refusal::PduUnknown)
+    Id::from_number(u16::read(bytes)).ok_or(Refusal::PduUnknown)
 }
 
-/// Puts a message at the end, all or nothing: a header, and a row that has `body` bytes.
-#[tactic(auto, unfolding(crate::specs::Spelling::framed))]
-pub fn put_message(out: &mut Bytes, id: Id, body: usize, row: &[Field<'_>]) -> Result<(), NoMemory>
+/// Puts the header of a message at the end whose body has so many bytes.
+pub fn put_header(out: &mut Bytes, id: Id, body: usize) -> Result<(), NoMemory>
     requires { 8 + body < 2 ^ 32 }
-    ensures ok { OnOk result (out.new ≡ out.old
-        ++ framed id no_flags (8 + body) (flat_map field_bytes row.now)) }
-    ensures err { OnErr result (out.new ≡ out.old) }
+    ensures { Puts result out.old out.new (header id no_flags (8 + body)) }
 {
-    let start = out.len();
-    put_each(
-        out,
-        &[
-            Field::U16(id.number()),
-            Field::U16(NO_FLAGS),
-            Field::U32((HEADER + body) as u32),
-        ],
-    )?;
-    if put_each(out, row).is_err() {
-        out.truncate(start);
-        return Err(NoMemory);
-    }
-    Ok(())
+    id.number().put(out)?;
+    NO_FLAGS.put(out)?;
+    ((HEADER + body) as u32).put(out)
 }

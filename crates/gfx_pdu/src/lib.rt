@@ -6,24 +6,19 @@
 //! for each message.
 #![tactic(auto)]
 
-mod cache;
+mod codec;
 mod drawing;
-mod field;
-mod frames;
 mod header;
 mod id;
-mod items;
 mod output;
 mod pdu;
-mod places;
 mod promises;
 mod reading;
-mod spelled;
-mod surfaces;
 mod writing;
 
+pub use codec::{CLEAR_CODEC, PROGRESSIVE, UNCOMPRESSED};
 pub use id::Id;
-pub use pdu::{Monitor, Monitors, Pdu};
+pub use pdu::{MOST_MONITORS, Monitor, Monitors, Pdu};
 pub use promises::{
     a_cut_message_is_truncated, what_is_read_is_spelled, what_is_spelled_is_read,
     what_is_written_is_spelled,

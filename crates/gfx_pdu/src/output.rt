@@ -1,60 +1,161 @@
-//! The messages of the output and of the capabilities.
+//! The messages of surfaces, frames, the output and the capabilities.
+#![tactic(auto, unfolding(gfx_layout::specs::Reading::read_whole, gfx_layout::specs::Reading::read, gfx_base::specs::Results::and_then, crate::specs::Spelling::spelling, crate::specs::Spelling::size, crate::specs::Spelling::written_body))]
 
-ghost use Rattle.std.specs.Prelude.{◌≡◌, ◌++◌, OnOk, OnErr};
+ghost use Rattle.std.specs.Prelude.{◌≡◌, refl};
 ghost use Rattle.gfx_base.specs.Outcome.{Gives};
+ghost use Rattle.gfx_layout.specs.Reading.{read_whole};
+ghost use Rattle.gfx_layout.specs.Writing.{Puts};
 ghost use Rattle.gfx_pdu.specs.declared.pdu.Pdu.TheVariants as pdus;
+ghost use Rattle.gfx_pdu.specs.Layouts.{monitor, create_surface, delete_surface, start_frame, end_frame, reset_graphics, map_surface_to_output, caps_confirm};
 ghost use Rattle.gfx_pdu.specs.Spelling.{spelling, IsSpellable};
-ghost use Rattle.gfx_pdu.specs.Bodies.{reset_graphics, map_surface_to_output, caps_confirm};
 
-use crate::field::Field;
-use crate::header::put_message;
+use crate::header::put_header;
 use crate::id::Id;
-use crate::items::{read_bytes, read_items};
-use crate::pdu::{Monitors, Pdu};
-use crate::places::{MONITOR_SIZE, u16_at, u32_at};
-use gfx_base::{Bytes, Fault, NoMemory, Refusal};
+use crate::pdu::{MOST_MONITORS, Monitor, Monitors, Pdu};
+use gfx_base::{Bytes, Cause, NoMemory, Refusal};
+use gfx_layout::{Fields, Part, Stop, kept, put_items, put_sized, put_zeros};
 use std::alloc::Global;
 
-/// How many bytes the body of ResetGraphics has before its monitors.
-const RESET_GRAPHICS: usize = 12;
+impl Part for Monitor {
+    ghost shape = { monitor };
 
-/// How many bytes the body of ResetGraphics has, its padding among them.
-const PADDED_RESET_GRAPHICS: usize = 332;
+    const SIZE: usize = 20;
 
-/// The most monitors that ResetGraphics has room for.
-const MOST_MONITORS: usize = 16;
+    ghost SIZE = { 20 };
 
-/// How many bytes the body of MapSurfaceToOutput has.
-const MAP_SURFACE_TO_OUTPUT: usize = 12;
+    ghost sized = { refl };
 
-/// How many bytes the body of CapsConfirm has before its data.
-const CAPS_CONFIRM: usize = 8;
+    #[inline(always)]
+    #[tactic(auto, unfolding(gfx_layout::specs::Shape::part_in))]
+    fn read(bytes: &[u8]) -> Monitor {
+        Monitor {
+            left: u32::read(bytes),
+            top: u32::read(&bytes[4..]),
+            right: u32::read(&bytes[8..]),
+            bottom: u32::read(&bytes[12..]),
+            flags: u32::read(&bytes[16..]),
+        }
+    }
+
+    #[tactic(auto, unfolding(gfx_layout::specs::Shape::text))]
+    fn put(self, out: &mut Bytes) -> Result<(), NoMemory> {
+        put_items(
+            out,
+            &[self.left, self.top, self.right, self.bottom, self.flags],
+        )
+    }
+}
+
+/// Reads the body of RDPGFX_CREATE_SURFACE_PDU ([MS-RDPEGFX] 2.2.2.9).
+pub fn read_create_surface(body: &[u8]) -> Result<Pdu, Stop>
+    ensures { result ≡ read_whole create_surface body.now }
+{
+    let mut fields = Fields::new(body);
+    let pdu = Pdu::CreateSurface {
+        id: fields.u16()?,
+        width: fields.u16()?,
+        height: fields.u16()?,
+        format: fields.u8()?,
+    };
+    fields.end()?;
+    Ok(pdu)
+}
+
+/// Puts RDPGFX_CREATE_SURFACE_PDU at the end.
+pub fn put_create_surface(
+    out: &mut Bytes,
+    id: u16,
+    width: u16,
+    height: u16,
+    format: u8,
+) -> Result<(), NoMemory>
+    ensures { Puts result out.old out.new (spelling (pdus.CreateSurface id width height format)) }
+{
+    put_header(out, Id::CreateSurface, 3 * u16::SIZE + u8::SIZE)?;
+    id.put(out)?;
+    width.put(out)?;
+    height.put(out)?;
+    format.put(out)
+}
+
+/// Reads the body of RDPGFX_DELETE_SURFACE_PDU ([MS-RDPEGFX] 2.2.2.10).
+pub fn read_delete_surface(body: &[u8]) -> Result<Pdu, Stop>
+    ensures { result ≡ read_whole delete_surface body.now }
+{
+    let mut fields = Fields::new(body);
+    let id = fields.u16()?;
+    fields.end()?;
+    Ok(Pdu::DeleteSurface { id })
+}
+
+/// Puts RDPGFX_DELETE_SURFACE_PDU at the end.
+pub fn put_delete_surface(out: &mut Bytes, id: u16) -> Result<(), NoMemory>
+    ensures { Puts result out.old out.new (spelling (pdus.DeleteSurface id)) }
+{
+    put_header(out, Id::DeleteSurface, u16::SIZE)?;
+    id.put(out)
+}
+
+/// Reads the body of RDPGFX_START_FRAME_PDU ([MS-RDPEGFX] 2.2.2.11).
+pub fn read_start_frame(body: &[u8]) -> Result<Pdu, Stop>
+    ensures { result ≡ read_whole start_frame body.now }
+{
+    let mut fields = Fields::new(body);
+    let timestamp = fields.u32()?;
+    let frame = fields.u32()?;
+    fields.end()?;
+    Ok(Pdu::StartFrame { timestamp, frame })
+}
+
+/// Puts RDPGFX_START_FRAME_PDU at the end.
+pub fn put_start_frame(out: &mut Bytes, timestamp: u32, frame: u32) -> Result<(), NoMemory>
+    ensures { Puts result out.old out.new (spelling (pdus.StartFrame timestamp frame)) }
+{
+    put_header(out, Id::StartFrame, 2 * u32::SIZE)?;
+    timestamp.put(out)?;
+    frame.put(out)
+}
+
+/// Reads the body of RDPGFX_END_FRAME_PDU ([MS-RDPEGFX] 2.2.2.12).
+pub fn read_end_frame(body: &[u8]) -> Result<Pdu, Stop>
+    ensures { result ≡ read_whole end_frame body.now }
+{
+    let mut fields = Fields::new(body);
+    let frame = fields.u32()?;
+    fields.end()?;
+    Ok(Pdu::EndFrame { frame })
+}
+
+/// Puts RDPGFX_END_FRAME_PDU at the end.
+pub fn put_end_frame(out: &mut Bytes, frame: u32) -> Result<(), NoMemory>
+    ensures { Puts result out.old out.new (spelling (pdus.EndFrame frame)) }
+{
+    put_header(out, Id::EndFrame, u32::SIZE)?;
+    frame.put(out)
+}
 
 /// Reads the body of RDPGFX_RESET_GRAPHICS_PDU ([MS-RDPEGFX] 2.2.2.14).
-#[tactic(auto, unfolding(crate::specs::Bodies::reset_graphics))]
-pub fn read_reset_graphics(alloc: Global, body: &[u8]) -> Result<Pdu, Fault>
-    ensures { Gives (λ p. p) result (reset_graphics body.now) }
+pub fn read_reset_graphics(alloc: Global, body: &[u8]) -> Result<Pdu, Cause<Stop>>
+    ensures { Gives (λ p. p) result (read_whole reset_graphics body.now) }
 {
-    if body.len() < RESET_GRAPHICS {
-        return Err(Fault::Refused(Refusal::CountMismatch));
-    }
-    let (_, rest) = body.split_at(RESET_GRAPHICS);
-    let count = u32_at(body, 8) as usize;
+    let mut fields = Fields::new(body);
+    let width = fields.u32()?;
+    let height = fields.u32()?;
+    let count = fields.u32()? as usize;
     if count > MOST_MONITORS {
-        return Err(Fault::Refused(Refusal::MonitorCount));
+        return Err(Cause::Refused(Stop::Rule(Refusal::MonitorCount)));
     }
-    if body.len() != PADDED_RESET_GRAPHICS {
-        return Err(Fault::Refused(Refusal::CountMismatch));
-    }
+    let monitors = fields.items(alloc, count)?;
+    fields.bytes((MOST_MONITORS - count) * Monitor::SIZE)?;
+    fields.end()?;
     Ok(Pdu::ResetGraphics {
-        width: u32_at(body, 0),
-        height: u32_at(body, 4),
-        monitors: read_items(alloc, rest, count)?,
+        width,
+        height,
+        monitors,
     })
 }
 
-/// Puts RDPGFX_RESET_GRAPHICS_PDU at the end, all or nothing.
-#[tactic(auto, using(crate::proofs::Sizes::size_of_reset_graphics), unfolding(crate::specs::Spelling::spelling))]
+/// Puts RDPGFX_RESET_GRAPHICS_PDU at the end.
 pub fn put_reset_graphics(
     out: &mut Bytes,
     width: u32,
@@ -62,41 +163,34 @@ pub fn put_reset_graphics(
     monitors: &Monitors,
 ) -> Result<(), NoMemory>
     requires { IsSpellable (pdus.ResetGraphics width height monitors.now) }
-    ensures ok { OnOk result (out.new ≡ out.old ++ spelling (pdus.ResetGraphics width height monitors.now)) }
-    ensures err { OnErr result (out.new ≡ out.old) }
+    ensures { Puts result out.old out.new (spelling (pdus.ResetGraphics width height monitors.now)) }
 {
-    put_message(
+    put_header(
         out,
         Id::ResetGraphics,
-        PADDED_RESET_GRAPHICS,
-        &[
-            Field::U32(width),
-            Field::U32(height),
-            Field::U32(monitors.len() as u32),
-            Field::Monitors(monitors.as_slice()),
-            Field::Padding((MOST_MONITORS - monitors.len()) * MONITOR_SIZE),
-        ],
-    )
+        3 * u32::SIZE + MOST_MONITORS * Monitor::SIZE,
+    )?;
+    width.put(out)?;
+    height.put(out)?;
+    (monitors.len() as u32).put(out)?;
+    put_items(out, monitors.as_slice())?;
+    put_zeros(out, (MOST_MONITORS - monitors.len()) * Monitor::SIZE)
 }
 
 /// Reads the body of RDPGFX_MAP_SURFACE_TO_OUTPUT_PDU ([MS-RDPEGFX] 2.2.2.15).
-#[tactic(auto, unfolding(crate::specs::Bodies::map_surface_to_output))]
-pub fn read_map_surface_to_output(body: &[u8]) -> Result<Pdu, Refusal>
-    ensures { result ≡ map_surface_to_output body.now }
+pub fn read_map_surface_to_output(body: &[u8]) -> Result<Pdu, Stop>
+    ensures { result ≡ read_whole map_surface_to_output body.now }
 {
-    if body.len() != MAP_SURFACE_TO_OUTPUT {
-        return Err(Refusal::CountMismatch);
-    }
-    Ok(Pdu::MapSurfaceToOutput {
-        id: u16_at(body, 0),
-        reserved: u16_at(body, 2),
-        x: u32_at(body, 4),
-        y: u32_at(body, 8),
-    })
+    let mut fields = Fields::new(body);
+    let id = fields.u16()?;
+    let reserved = fields.u16()?;
+    let x = fields.u32()?;
+    let y = fields.u32()?;
+    fields.end()?;
+    Ok(Pdu::MapSurfaceToOutput { id, reserved, x, y })
 }
 
-/// Puts RDPGFX_MAP_SURFACE_TO_OUTPUT_PDU at the end, all or nothing.
-#[tactic(auto, unfolding(crate::specs::Spelling::spelling, crate::specs::Spelling::size))]
+/// Puts RDPGFX_MAP_SURFACE_TO_OUTPUT_PDU at the end.
 pub fn put_map_surface_to_output(
     out: &mut Bytes,
     id: u16,
@@ -104,55 +198,34 @@ pub fn put_map_surface_to_output(
     x: u32,
     y: u32,
 ) -> Result<(), NoMemory>
-    ensures ok { OnOk result (out.new ≡ out.old ++ spelling (pdus.MapSurfaceToOutput id reserved x y)) }
-    ensures err { OnErr result (out.new ≡ out.old) }
+    ensures { Puts result out.old out.new (spelling (pdus.MapSurfaceToOutput id reserved x y)) }
 {
-    put_message(
-        out,
-        Id::MapSurfaceToOutput,
-        MAP_SURFACE_TO_OUTPUT,
-        &[
-            Field::U16(id),
-            Field::U16(reserved),
-            Field::U32(x),
-            Field::U32(y),
-        ],
-    )
+    put_header(out, Id::MapSurfaceToOutput, 2 * u16::SIZE + 2 * u32::SIZE)?;
+    id.put(out)?;
+    reserved.put(out)?;
+    x.put(out)?;
+    y.put(out)
 }
 
 /// Reads the body of RDPGFX_CAPS_CONFIRM_PDU ([MS-RDPEGFX] 2.2.2.19).
-#[tactic(auto, unfolding(crate::specs::Bodies::caps_confirm))]
-pub fn read_caps_confirm(alloc: Global, body: &[u8]) -> Result<Pdu, Fault>
-    ensures { Gives (λ p. p) result (caps_confirm body.now) }
+pub fn read_caps_confirm(alloc: Global, body: &[u8]) -> Result<Pdu, Cause<Stop>>
+    ensures { Gives (λ p. p) result (read_whole caps_confirm body.now) }
 {
-    if body.len() < CAPS_CONFIRM {
-        return Err(Fault::Refused(Refusal::CountMismatch));
-    }
-    let (_, rest) = body.split_at(CAPS_CONFIRM);
-    if rest.len() != u32_at(body, 4) as usize {
-        return Err(Fault::Refused(Refusal::CountMismatch));
-    }
-    Ok(Pdu::CapsConfirm {
-        version: u32_at(body, 0),
-        payload: read_bytes(alloc, rest)?,
-    })
+    let mut fields = Fields::new(body);
+    let pdu = Pdu::CapsConfirm {
+        version: fields.u32()?,
+        payload: kept(alloc, fields.sized()?)?,
+    };
+    fields.end()?;
+    Ok(pdu)
 }
 
-/// Puts RDPGFX_CAPS_CONFIRM_PDU at the end, all or nothing.
-#[tactic(auto, unfolding(crate::specs::Spelling::spelling, crate::specs::Spelling::size))]
+/// Puts RDPGFX_CAPS_CONFIRM_PDU at the end.
 pub fn put_caps_confirm(out: &mut Bytes, version: u32, payload: &Bytes) -> Result<(), NoMemory>
     requires { IsSpellable (pdus.CapsConfirm version payload.now) }
-    ensures ok { OnOk result (out.new ≡ out.old ++ spelling (pdus.CapsConfirm version payload.now)) }
-    ensures err { OnErr result (out.new ≡ out.old) }
+    ensures { Puts result out.old out.new (spelling (pdus.CapsConfirm version payload.now)) }
 {
-    put_message(
-        out,
-        Id::CapsConfirm,
-        CAPS_CONFIRM + payload.len(),
-        &[
-            Field::U32(version),
-            Field::U32(payload.len() as u32),
-            Field::Bytes(payload.as_slice()),
-        ],
-    )
+    put_header(out, Id::CapsConfirm, 2 * u32::SIZE + payload.len())?;
+    version.put(out)?;
+    put_sized(out, payload.as_slice())
 }

@@ -1,5 +1,8 @@
 use gfx_base::{Bytes, Items, Pixel, Points, Rect, Rects};
 
+/// The most monitors that ResetGraphics has room for ([MS-RDPEGFX] 2.2.2.14).
+pub const MOST_MONITORS: usize = 16;
+
 /// A monitor of the output ([MS-RDPBCGR] TS_MONITOR_DEF), as it was read: its sides, all included,
 /// are signed numbers in the standard, and the lowest bit of the flags marks the primary monitor.
 #[derive(Clone, Copy, Debug, PartialEq, Eq)]

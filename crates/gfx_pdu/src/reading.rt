@@ -2,27 +2,29 @@
 
 ghost use Rattle.std.specs.Prelude.{◌≡◌, ◌+◌, ◌-◌, ◌<◌, ◌≤◌, length, drop, IfOk, IfSome};
 ghost use Rattle.gfx_base.specs.Outcome.{Gives};
+ghost use Rattle.gfx_layout.specs.Reading.{read_whole};
+ghost use Rattle.gfx_pdu.specs.Layouts.{layout_of};
 ghost use Rattle.gfx_pdu.specs.Reading.{body_of, front, next_pdu};
 ghost use Rattle.gfx_pdu.specs.Spelling.{Begins};
 
-use crate::cache::{read_cache_to_surface, read_evict_cache_entry, read_surface_to_cache};
 use crate::drawing::{
-    read_delete_encoding_context, read_solid_fill, read_surface_to_surface, read_wire_to_surface_1,
-    read_wire_to_surface_2,
+    read_cache_to_surface, read_delete_encoding_context, read_evict_cache_entry, read_solid_fill,
+    read_surface_to_cache, read_surface_to_surface, read_wire_to_surface_1, read_wire_to_surface_2,
 };
-use crate::frames::{read_end_frame, read_start_frame};
 use crate::header::{HEADER, read_kind, read_size};
 use crate::id::Id;
-use crate::output::{read_caps_confirm, read_map_surface_to_output, read_reset_graphics};
+use crate::output::{
+    read_caps_confirm, read_create_surface, read_delete_surface, read_end_frame,
+    read_map_surface_to_output, read_reset_graphics, read_start_frame,
+};
 use crate::pdu::Pdu;
-use crate::surfaces::{read_create_surface, read_delete_surface};
-use gfx_base::Fault;
+use gfx_base::{Cause, Fault, Refusal};
+use gfx_layout::Stop;
 use std::alloc::Global;
 
-/// Reads the body of a message with this id.
-#[tactic(auto, unfolding(crate::specs::Reading::body_of))]
-fn read_body(alloc: Global, id: Id, body: &[u8]) -> Result<Pdu, Fault>
-    ensures { Gives (λ p. p) result (body_of id body.now) }
+/// Reads the body of a message with this id by its layout.
+fn read_by_layout(alloc: Global, id: Id, body: &[u8]) -> Result<Pdu, Cause<Stop>>
+    ensures { Gives (λ p. p) result (read_whole (layout_of id) body.now) }
 {
     match id {
         Id::WireToSurface1 => read_wire_to_surface_1(alloc, body),
@@ -40,6 +42,19 @@ fn read_body(alloc: Global, id: Id, body: &[u8]) -> Result<Pdu, Fault>
         Id::ResetGraphics => read_reset_graphics(alloc, body),
         Id::MapSurfaceToOutput => Ok(read_map_surface_to_output(body)?),
         Id::CapsConfirm => read_caps_confirm(alloc, body),
+    }
+}
+
+/// Reads the body of a message with this id. One that doesn't end with its fields is CountMismatch.
+#[tactic(auto, unfolding(crate::specs::Reading::body_of))]
+fn read_body(alloc: Global, id: Id, body: &[u8]) -> Result<Pdu, Fault>
+    ensures { Gives (λ p. p) result (body_of id body.now) }
+{
+    match read_by_layout(alloc, id, body) {
+        Ok(pdu) => Ok(pdu),
+        Err(Cause::Refused(Stop::Rule(refusal))) => Err(Fault::Refused(refusal)),
+        Err(Cause::Refused(_)) => Err(Fault::Refused(Refusal::CountMismatch)),
+        Err(Cause::Memory) => Err(Fault::Memory),
     }
 }
 

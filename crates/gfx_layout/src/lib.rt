@@ -1,0 +1,16 @@
+//! Formats, each described once: a description of bytes from which reading, spelling, length and the
+//! laws between them follow (`specs/Layout`), and on the code's side a reader that goes forward field
+//! by field and the parts and lists that are put at an end.
+//!
+//! Formats stand on it: the messages of `gfx_pdu`, and those that codecs have in their data.
+#![tactic(auto)]
+
+mod fields;
+mod part;
+mod putting;
+mod stop;
+
+pub use fields::Fields;
+pub use part::Part;
+pub use putting::{kept, put_bytes, put_items, put_list, put_sized, put_zeros};
+pub use stop::Stop;

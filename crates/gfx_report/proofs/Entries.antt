@@ -9,7 +9,7 @@ use Rattle.std.specs.Option.{option_copied}
 use Rattle.gfx_surface.specs.Picture.{Picture}
 use Rattle.gfx_surface_map.specs.Surfaces.{Surfaces}
 use Rattle.gfx_surface_map.specs.Order.{from_id, first_id}
-use Rattle.gfx_surface_map.proofs.OrderLemmas.{next_some, from_id-zero}
+use Rattle.gfx_base.proofs.MapLemmas.{next_some, from_key-zero}
 use Rattle.gfx_report.specs.Texts.{dump_text, surface_text}
 
 -- the surfaces from an id on
@@ -21,13 +21,13 @@ texts entries = flat_map (λ entry. surface_text entry.0 entry.1) entries
 
 pub dump_text-from_on : (surfaces : Surfaces) → dump_text surfaces ≡ texts (from_on surfaces 0)
 unfolding dump_text
-dump_text-from_on surfaces = ap texts (sym (from_id-zero (finmap.entries surfaces)))
+dump_text-from_on surfaces = ap texts (sym (from_key-zero (finmap.entries surfaces)))
 
 -- the next surface's text stands first
 pub next_text : (surfaces : Surfaces) (from id : ℕ) (picture : Picture) → first_id (from_on surfaces from) ≡ Some id → finmap.get surfaces id ≡ Some picture → texts (from_on surfaces from) ≡ surface_text id picture ++ texts (from_on surfaces (id + 1))
 next_text surfaces from id picture first here =
     let next = next_some surfaces from id first in
-    let same : next.picture ≡ picture = let found = next.found in cc in
+    let same : next.value ≡ picture = let found = next.found in cc in
     ap texts next.cut ∙ ap (λ p. surface_text id p ++ texts (from_on surfaces (id + 1))) same
 
 -- the next surface as it was looked up: its text is due first

@@ -1,9 +1,11 @@
 -- One write after another on a sink.
-use Rattle.std.proofs.Common.{◌≡◌, ℕ, List, [], ◌++◌, Option, Result, Ok, Err, sym, ◌∙◌, append_assoc, take, drop}
+use Rattle.std.proofs.Common.{◌≡◌, ℕ, ◌+◌, List, [], ◌++◌, Option, Result, Ok, Err, ap, sym, ◌∙◌, append_assoc, take, drop}
 use Rattle.std.specs.List.{flat_map}
-use Rattle.std.proofs.lemmas.List.{take-append-drop}
+use Rattle.std.proofs.lemmas.List.{take-append-drop, drop-drop}
 use Rattle.std.proofs.lemmas.Grind.{flat_map-append}
 use Rattle.std.specs.Prelude.{IsErr}
+use Rattle.gfx_base.specs.declared.pixel.Pixel.{Pixel}
+use Rattle.gfx_surface.specs.Picture.{Picture, row_of, run_of}
 use Rattle.gfx_base.specs.Stream.{Change, change, Gains, FailsAfter, Writes}
 use Rattle.gfx_base.proofs.Streams.{Sent, Gains_none, Gains-append, FailsAfter-append, FailsAfter_more}
 
@@ -42,3 +44,10 @@ Writes_failed (Err _) c due e f = f
 pub Sent_cut : {X : Type 0} (f : X → List ℕ) (c : Change) (due : List ℕ) (xs front back : List X) (n : ℕ) → front ≡ take n xs → back ≡ drop n xs → Sent c due (flat_map f xs) → Sent c due (flat_map f front ++ flat_map f back)
 Sent_cut f c due xs front back n e d s =
     rw (e, d, ← flat_map-append f (take n xs) (drop n xs), take-append-drop n xs) s
+
+-- what is still due of a row is due of a run of it and of the pixels behind
+pub Sent_run : (f : Pixel → List ℕ) (c : Change) (due : List ℕ) (picture : Picture) (x y count n : ℕ) → n ≡ count
+    → Sent c due (flat_map f (drop x (row_of picture y))) → Sent c due (flat_map f (run_of picture x y n) ++ flat_map f (drop (x + count) (row_of picture y)))
+Sent_run f c due picture x y count n same s =
+    let row = row_of picture y in
+    Sent_cut f c due (drop x row) (run_of picture x y n) (drop (x + count) row) count (ap (λ k. take k (drop x row)) same) (sym (drop-drop count x row)) s

@@ -5,20 +5,13 @@ ghost use Rattle.gfx_surface_map.specs.Composed.{output_row};
 ghost use Rattle.gfx_report.specs.Reports.{Reports};
 ghost use Rattle.gfx_report.specs.Texts.{output_text, rows_text};
 
+use crate::digits::PIXEL_DIGITS;
 use crate::fault::ReportFault;
 use crate::line::write_output_line;
-use crate::row::write_row;
+use crate::row::{PIECE, write_row};
 use gfx_base::{Failed, Pixel, Sink};
 use gfx_surface_map::SurfaceMap;
 use std::alloc::Global;
-
-/// What a row holds before it is put together.
-const NO_PIXEL: Pixel = Pixel {
-    b: 0,
-    g: 0,
-    r: 0,
-    a: 0,
-};
 
 /// Writes the output: a line with its sides, and a line for each row as `dump` has it. Before the first
 /// reset there are no rows. It takes memory for one row, before anything is written; after a fault the
@@ -33,7 +26,7 @@ pub fn dump_output<O: Sink>(
         (output_text surfaces.now.shown) }
 {
     let (width, _) = surfaces.output_size();
-    let Ok(mut row) = Vec::from_elem(alloc, NO_PIXEL, width as usize) else {
+    let Ok(mut row) = Vec::from_elem(alloc, Pixel::default(), width as usize) else {
         return Err(ReportFault::Memory);
     };
     match write_output(surfaces, &mut row, out) {
@@ -70,9 +63,10 @@ fn write_output_rows<O: Sink>(
         (rows_text (output_row surfaces.now.shown) surfaces.now.shown.output.height) }
 {
     let (_, height) = surfaces.output_size();
+    let mut digits = [0; PIXEL_DIGITS * PIECE];
     'rows: for y in 0..height {
         surfaces.compose_row(y, row);
-        write_row(row, out)?;
+        write_row(row, &mut digits, out)?;
     }
     Ok(())
 }

@@ -3,9 +3,10 @@ ghost use Rattle.gfx_base.specs.Stream.{Writes, change};
 ghost use Rattle.gfx_surface.specs.Picture.{row_of};
 ghost use Rattle.gfx_report.specs.Texts.{rows_text, surface_text};
 
+use crate::digits::PIXEL_DIGITS;
 use crate::line::write_surface_line;
-use crate::row::write_row;
-use gfx_base::{Failed, Sink};
+use crate::row::{PIECE, write_surface_row};
+use gfx_base::{Failed, Pixel, Sink};
 use gfx_surface::Surface;
 
 /// Writes a surface: its line, and its rows.
@@ -25,8 +26,10 @@ fn write_rows<O: Sink>(surface: &Surface, out: &mut O) -> Result<(), Failed>
         (rows_text (row_of surface.now) surface.now.height) }
 {
     let (_, height) = surface.size();
+    let mut pixels = [Pixel::default(); PIECE];
+    let mut digits = [0; PIXEL_DIGITS * PIECE];
     'rows: for y in 0..height {
-        write_row(surface.row(y), out)?;
+        write_surface_row(surface, y, &mut pixels, &mut digits, out)?;
     }
     Ok(())
 }

@@ -1,3 +1,4 @@
 pub mod Places
 pub mod CopyLemmas
 pub mod PictureLemmas
+pub mod Numbers

@@ -1,6 +1,6 @@
 -- Pictures from their lists of pixels, and what each change leaves.
-use Rattle.std.proofs.Common.{◌≡◌, refl, sym, ap, ◌∙◌, subst, IsTrue, true, false, Bool, if◌then◌else◌, ℕ, ◌+◌, ◌-◌, ◌*◌, ◌/◌, ◌%◌, ◌<◌, ◌&&◌, nat_le, nat_lt, List, [], ◌∷◌, map, length, get_or, replicate, All, arith}
-use Rattle.std.proofs.lemmas.List.{get_or-map}
+use Rattle.std.proofs.Common.{◌≡◌, refl, sym, ap, ◌∙◌, subst, IsTrue, true, false, Bool, if◌then◌else◌, ℕ, ◌+◌, ◌-◌, ◌*◌, ◌/◌, ◌%◌, ◌<◌, ◌≤◌, ◌&&◌, nat_le, nat_lt, List, [], ◌∷◌, map, length, take, drop, get_or, get_or-take, get_or-drop, length-take, length-drop, replicate, All, arith}
+use Rattle.std.proofs.lemmas.List.{get_or-map, drop-drop, drop-take, take-take}
 use Rattle.std.proofs.lemmas.List.Elements.{All-replicate, All-from_get_or, All-get_or}
 use Rattle.std.proofs.lemmas.List.FromFn.{fill_by_all, length-map-range_with_len, get_or-map-range_with_len}
 use Rattle.std.proofs.lemmas.Bool.Decides.{nat_tests}
@@ -10,9 +10,9 @@ use Rattle.gfx_base.specs.declared.geometry.Point.{Point}
 use Rattle.gfx_base.specs.declared.geometry.Rect.{Rect}
 use Rattle.gfx_base.specs.declared.pixel.Pixel.{Pixel}
 use Rattle.gfx_base.specs.Geometry.{holds, lies_in, width_of, height_of, moved}
-use Rattle.gfx_surface.specs.Picture.{Picture, IsPicture, filled, copied, overlaid, redrawn, rect_of, in_rect, raw_pixels, shade, zero_colour, no_pixel, pixel_at, drawn}
+use Rattle.gfx_surface.specs.Picture.{Picture, IsPicture, filled, copied, overlaid, redrawn, rect_of, in_rect, raw_pixels, shade, zero_colour, no_pixel, pixel_at, row_of, run_of, drawn}
 use Rattle.gfx_surface.specs.Rows.{WritesRows, taken_from}
-use Rattle.std.proofs.lemmas.Nat.{mul-add-lt, div-mul-add, mod-mul-add, div_below}
+use Rattle.std.proofs.lemmas.Nat.{mul-add-lt, div-mul-add, mod-mul-add, div_below, row_fits}
 use Rattle.gfx_surface.proofs.Places.{some_columns}
 use Rattle.gfx_surface.proofs.CopyLemmas.{length-raw_pixels}
 
@@ -34,6 +34,35 @@ pub pixel_at-drawn : (width height x y : ℕ) (f : ℕ → ℕ → Pixel) (d : P
 pixel_at-drawn width height x y f d column row =
     get_or-map-range_with_len (λ k. f (k % width) (k / width)) 0 (width * height) (y * width + x) (y * width + x) d (mul-add-lt y width x height row column) (omega arith)
     ∙ (λ i. f (mod-mul-add y width x column i) (div-mul-add y width x column i))
+
+-- a row of a picture has as many pixels as the picture has columns
+pub length-row_of : (picture : Picture) (y : ℕ) → IsPicture picture → y < picture.height → length (row_of picture y) ≡ picture.width
+length-row_of picture y shape row =
+    let fits : y * picture.width + picture.width ≤ picture.height * picture.width = row_fits y picture.width picture.height picture.width row (omega arith) in
+    let full : length picture.pixels ≡ picture.width * picture.height = shape.full in
+    simp (length-take, length-drop) (omega arith)
+
+pub get_or-row_of : (picture : Picture) (y x : ℕ) → x < picture.width → get_or (row_of picture y) x no_pixel ≡ pixel_at picture x y
+get_or-row_of picture y x column =
+    get_or-take picture.width (drop (y * picture.width) picture.pixels) x no_pixel column ∙ get_or-drop (y * picture.width) picture.pixels x no_pixel
+
+-- a run of a row is a run of the pixels
+pub run_of-pixels : (picture : Picture) (x y count : ℕ) → x + count ≤ picture.width
+    → take count (drop (y * picture.width + x) picture.pixels) ≡ run_of picture x y count
+run_of-pixels picture x y count within =
+    let rest : ℕ = picture.width - x in
+    let whole : x + rest ≡ picture.width = omega arith in
+    let less : count ≤ rest = omega arith in
+    ap (take count) (sym (drop-drop x (y * picture.width) picture.pixels))
+    ∙ sym (take-take count rest (drop x (drop (y * picture.width) picture.pixels)) less)
+    ∙ ap (take count) (sym (drop-take x rest (drop (y * picture.width) picture.pixels)) ∙ ap (λ n. drop x (take n (drop (y * picture.width) picture.pixels))) whole)
+
+-- and so it is where it was cut out of the pixels from its start to its end
+pub run_of-cut : (picture : Picture) (x y count start end : ℕ) (pixels run : List Pixel) → x + count ≤ picture.width → pixels ≡ picture.pixels
+    → start ≡ y * picture.width + x → end ≡ start + count → run ≡ take (end - start) (drop start pixels) → run ≡ run_of picture x y count
+run_of-cut picture x y count start end pixels run within same begins ends cut =
+    let long : end - start ≡ count = omega arith in
+    cut ∙ (λ i. take (long i) (drop (begins i) (same i))) ∙ run_of-pixels picture x y count within
 
 -- the row of a place, and its column, are among those there
 row_below : (k width height : ℕ) → k < width * height → k / width < height

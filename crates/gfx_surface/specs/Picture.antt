@@ -54,6 +54,10 @@ pixel_at picture x y = slice_index_or picture.pixels (y * picture.width + x) no_
 abbrev pub row_of : Picture → ℕ → List Pixel
 row_of picture y = take picture.width (drop (y * picture.width) picture.pixels)
 
+-- so many pixels of row y, from column x on
+abbrev pub run_of : Picture → ℕ → ℕ → ℕ → List Pixel
+run_of picture x y count = take count (drop x (row_of picture y))
+
 -- the list of a function of column and row, row by row
 abbrev pub drawn : ℕ → ℕ → (ℕ → ℕ → Pixel) → List Pixel
 drawn width height f = map (λ k. f (k % width) (k / width)) (range_with_len 0 (width * height))

@@ -11,7 +11,6 @@ mod raw;
 mod rows;
 mod surface;
 
-pub use copies::copy_run;
 pub use surface::Surface;
 
 /// The longest side of a surface, in pixels. This project's own rule.

@@ -1,14 +1,14 @@
-ghost use Rattle.std.specs.Prelude.{◌≡◌, ◌≤◌, ◌<◌, ◌*◌, length, IsTrue, IfOk};
+ghost use Rattle.std.specs.Prelude.{◌≡◌, ◌≤◌, ◌<◌, ◌+◌, ◌*◌, length, IsTrue, IfOk};
 ghost use Rattle.gfx_base.specs.Geometry.{lies_in, width_of, height_of, moved};
-ghost use Rattle.gfx_surface.specs.Picture.{IsPicture, blank, pixel_at, row_of, filled, copied, rect_of, overlaid, raw_pixels};
+ghost use Rattle.gfx_surface.specs.Picture.{IsPicture, blank, pixel_at, run_of, filled, copied, rect_of, overlaid, raw_pixels};
 
 use crate::MOST_SIDE;
 use crate::colour::{empty_colour, kept_by_both, shaded};
 use crate::copies::copy_rows;
 use crate::moves::move_rows;
-use crate::raw::{PIXEL_BYTES, put_rows};
+use crate::raw::put_rows;
 use crate::rows::{Sides, fill_rows};
-use gfx_base::{Format, NoMemory, Pixel, Point, Rect};
+use gfx_base::{BYTES_PER_PIXEL, Format, NoMemory, Pixel, Point, Rect};
 use std::alloc::Global;
 use std::marker::Model;
 
@@ -77,14 +77,16 @@ impl Surface {
         self.pixels[usize::from(y) * usize::from(self.width) + usize::from(x)]
     }
 
-    /// A row's pixels, from the left; rows are counted from 0.
-    pub fn row(&self, y: u16) -> &[Pixel]
-        requires { y < self.now.height }
-        ensures { result.now ≡ row_of self.now y }
+    /// Reads a piece of a row into a slice, from this column on; both are counted from 0. It takes no
+    /// memory.
+    #[tactic(auto, using(std::proofs::lemmas::Nat::rows))]
+    pub fn read_row(&self, x: u16, y: u16, out: &mut [Pixel])
+        requires columns { x + length out.old ≤ self.now.width }
+        requires row { y < self.now.height }
+        ensures { out.new ≡ run_of self.now x y (length out.old) }
     {
-        let width = usize::from(self.width);
-        let start = usize::from(y) * width;
-        &self.pixels[start..start + width]
+        let start = usize::from(y) * usize::from(self.width) + usize::from(x);
+        out.copy_from_slice(&self.pixels[start..start + out.len()]);
     }
 
     /// Gives a rectangle this colour ([MS-RDPEGFX] RDPGFX_SOLIDFILL_PDU). An XRGB surface keeps
@@ -133,7 +135,7 @@ impl Surface {
     /// keep it. It takes no memory.
     pub fn put_bytes(&mut self, rect: Rect, format: Format, bytes: &[u8])
         requires inside { IsTrue (lies_in self.old.width self.old.height rect) }
-        requires whole { length bytes.now ≡ PIXEL_BYTES * (width_of rect * height_of rect) }
+        requires whole { length bytes.now ≡ BYTES_PER_PIXEL * (width_of rect * height_of rect) }
         ensures { self.new ≡ overlaid self.old rect (raw_pixels format bytes.now) }
     {
         let format = kept_by_both(self.format, format);

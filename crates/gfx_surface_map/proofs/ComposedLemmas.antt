@@ -1,32 +1,22 @@
 -- The output's rows, as they are put together.
-use Rattle.std.proofs.Common.{◌≡◌, ap, sym, ◌∙◌, subst, true, if◌then◌else◌, ◌&&◌, nat_le, nat_lt, ℕ, ◌+◌, ◌-◌, ◌*◌, ◌<◌, ◌≤◌, List, length, take, drop, get_or, Option, Some, length-take, length-drop, get_or-take, get_or-drop, arith}
+use Rattle.std.proofs.Common.{◌≡◌, ap, sym, ◌∙◌, subst, true, if◌then◌else◌, ◌&&◌, nat_le, nat_lt, ℕ, ◌+◌, ◌-◌, ◌<◌, ◌≤◌, List, length, map, take, drop, min, get_or, Option, Some, length-take, length-drop, get_or-take, arith}
 use Rattle.std.specs.Prelude.{slice_get}
 use Rattle.std.specs.FinMap.{get}
 use Rattle.std.proofs.lemmas.Option.{get_or_from_slice_get}
 use Rattle.std.proofs.lemmas.Bool.Decides.{nat_tests}
-use Rattle.std.proofs.lemmas.List.{take_all}
+use Rattle.std.proofs.lemmas.List.{take_all, length-map, get_or-map}
+use borrow.Rule.Slice.PartMut.{put_mid}
 use Rattle.std.proofs.lemmas.List.FromFn.{fill_by_all}
 use Rattle.std.proofs.lemmas.List.Sums.{fold_more}
-use Rattle.std.proofs.lemmas.Nat.{row_fits}
 use Rattle.gfx_base.specs.declared.format.Format.TheVariants.{Xrgb}
 use Rattle.gfx_base.specs.declared.pixel.Pixel.{Pixel}
 use Rattle.gfx_surface.specs.Picture.{Picture, IsPicture, row_of, pixel_at, shade, no_pixel, zero_colour}
-use Rattle.gfx_surface.proofs.PictureLemmas.{choose}
+use Rattle.gfx_surface.proofs.PictureLemmas.{choose, length-row_of, get_or-row_of}
+use Rattle.gfx_surface.proofs.Places.{run_put}
 use Rattle.gfx_surface_map.specs.declared.place.Place.{Place}
 use Rattle.gfx_surface_map.specs.Surfaces.{Surfaces}
 use Rattle.gfx_surface_map.specs.Shown.{Shown}
 use Rattle.gfx_surface_map.specs.Composed.{reaches, over, composed, output_row, PaintsRow, PaintsRun, PaintsMap}
-
--- a row of a picture has as many pixels as the picture has columns
-length-row_of : (picture : Picture) (y : ℕ) → IsPicture picture → y < picture.height → length (row_of picture y) ≡ picture.width
-length-row_of picture y shape row =
-    let fits : y * picture.width + picture.width ≤ picture.height * picture.width = row_fits y picture.width picture.height picture.width row (omega arith) in
-    let full : length picture.pixels ≡ picture.width * picture.height = shape.full in
-    simp (length-take, length-drop) (omega arith)
-
-get_or-row_of : (picture : Picture) (y x : ℕ) → x < picture.width → get_or (row_of picture y) x no_pixel ≡ pixel_at picture x y
-get_or-row_of picture y x column =
-    get_or-take picture.width (drop (y * picture.width) picture.pixels) x no_pixel column ∙ get_or-drop (y * picture.width) picture.pixels x no_pixel
 
 -- a row of a picture painted over a row of the output
 pub row_painted : (picture : Picture) (place : Place) (y row : ℕ) (pixels old new : List Pixel) → IsPicture picture → place.y ≤ y → row ≡ y - place.y
@@ -48,6 +38,32 @@ row_painted picture place y row pixels old new shape on is low read run x d belo
 
     column : (px w py h : ℕ) → (nat_le px x && nat_lt x (px + w) && nat_le py y && nat_lt y (py + h)) ≡ true → x - px < w
     column px w py h hit = grind (arith, nat_tests)
+
+-- the first opaque pixels of a row are put into a row of the output, as far as it reaches
+pub run_painted : (pixels old run : List Pixel) (start count size width : ℕ) → length pixels ≡ width → start < length old → count ≡ min width (length old - start)
+    → size ≡ count → run ≡ map (shade Xrgb) (take (length (take size (drop start old))) pixels) → PaintsRun pixels start old (put_mid start size old run)
+run_painted pixels old run start count size width wide on many exact made x d below =
+    let cut : length (take size (drop start old)) ≡ count = simp (length-take, length-drop) (omega arith) in
+    let is : run ≡ map (shade Xrgb) (take count pixels) = made ∙ ap (λ n. map (shade Xrgb) (take n pixels)) cut in
+    let long : length run ≡ count = ap length is ∙ length-map (take count pixels) (shade Xrgb) ∙ simp length-take (omega arith) in
+    let end : ℕ = start + count in
+    let whole : end - start ≡ size = omega arith in
+    ap (λ n. get_or (put_mid start n old run) x d) (sym whole)
+    ∙ run_put start end old run (omega arith) (omega arith) (long ∙ sym exact ∙ sym whole) x d below
+    ∙ ap (λ b. if b then get_or run (x - start) no_pixel else get_or old x d) (reach (length pixels) wide)
+    ∙ choose (nat_le start x && nat_lt x (start + length pixels)) _ _ _ (λ hit.
+    ap (λ r. get_or r (x - start) no_pixel) is
+    ∙ get_or-map (shade Xrgb) (take count pixels) (x - start) no_pixel no_pixel (simp length-take (within (length pixels) wide hit))
+    ∙ ap (shade Xrgb) (get_or-take count pixels (x - start) no_pixel (before (length pixels) wide hit)))
+  where
+    reach : (n : ℕ) → n ≡ width → (nat_le start x && nat_lt x (start + count)) ≡ (nat_le start x && nat_lt x (start + n))
+    reach n same = grind (arith, nat_tests)
+
+    before : (n : ℕ) → n ≡ width → (nat_le start x && nat_lt x (start + n)) ≡ true → x - start < count
+    before n same hit = grind (arith, nat_tests)
+
+    within : (n : ℕ) → n ≡ width → (nat_le start x && nat_lt x (start + n)) ≡ true → x - start < min count n
+    within n same hit = grind (arith, nat_tests)
 
 -- one more map is painted
 pub maps_more : (surfaces : Surfaces) (maps : List (ℕ × Place)) (y i width : ℕ) (e : ℕ × Place) (old new : List Pixel) → i < length maps → length old ≡ width

@@ -5,3 +5,4 @@ pub mod ComposedLemmas
 pub mod RoomLemmas
 pub mod CreatedLemmas
 pub mod OrderLemmas
+pub mod Numbers

@@ -51,8 +51,8 @@ abbrev pub is_size : ℕ → ℕ → Bool
 is_size width height = is_side width && is_side height
 
 -- one more surface of these sides is within both limits
-abbrev pub has_room : Surfaces → ℕ → ℕ → Bool
-has_room surfaces width height =
+abbrev pub fits_beside : Surfaces → ℕ → ℕ → Bool
+fits_beside surfaces width height =
     nat_lt (finmap.len surfaces) MOST_SURFACES && nat_le (cells_of surfaces + cells width height) MOST_CELLS
 
 -- the surfaces after one more is made, or the first reason against it
@@ -60,14 +60,14 @@ unfoldable pub created : Surfaces → ℕ → ℕ → ℕ → Format → Result 
 created surfaces id width height format = do
   fresh ← check SurfaceExists (not (finmap.contains_key surfaces id))
   sides ← check SurfaceSize (is_size width height)
-  room ← check SurfaceBudget (has_room surfaces width height)
+  room ← check SurfaceBudget (fits_beside surfaces width height)
   Ok (finmap.insert surfaces id (blank width height format))
 
 -- nothing speaks against one more surface of these sides
 pub record MayMake (surfaces : Surfaces) (id width height : ℕ) : Type 0 where
   pub fresh : finmap.contains_key surfaces id ≡ false
   pub sides : is_size width height ≡ true
-  pub room : has_room surfaces width height ≡ true
+  pub room : fits_beside surfaces width height ≡ true
 
 -- each rectangle lies on the picture
 abbrev pub AllLieIn : Picture → List Rect → Type 0

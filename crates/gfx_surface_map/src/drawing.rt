@@ -9,7 +9,7 @@ ghost use Rattle.gfx_base.specs.Outcome.{Performs};
 
 use crate::copying::put_at_all;
 use crate::map::SurfaceMap;
-use gfx_base::{Bitmap, Format, Pixel, Point, Rect, Refusal, fits_at_all};
+use gfx_base::{BYTES_PER_PIXEL, Bitmap, Format, Pixel, Point, Rect, Refusal, fits_at_all};
 use gfx_surface::Surface;
 
 impl SurfaceMap {
@@ -29,7 +29,7 @@ impl SurfaceMap {
     /// RDPGFX_WIRE_TO_SURFACE_PDU_1). It takes no memory.
     pub fn put_bytes(&mut self, id: u16, rect: Rect, format: Format, bytes: &[u8])
         requires inside { IsSomeAnd (map.get self.old.shown.surfaces id) (λ picture. IsTrue (lies_in picture.width picture.height rect)) }
-        requires whole { length bytes.now ≡ 4 * (width_of rect * height_of rect) }
+        requires whole { length bytes.now ≡ BYTES_PER_PIXEL * (width_of rect * height_of rect) }
         ensures { IfSome (map.get self.old.shown.surfaces id)
             (λ picture. self.new ≡ record self.old { shown = with_picture self.old.shown id (overlaid picture rect (raw_pixels format bytes.now)) }) }
     {

@@ -21,14 +21,6 @@ use indexmap::IndexMap;
 use std::alloc::Global;
 use std::marker::Model;
 
-/// What the scratch holds before it is used.
-const NO_PIXEL: Pixel = Pixel {
-    b: 0,
-    g: 0,
-    r: 0,
-    a: 0,
-};
-
 /// Surfaces by their ids, and the output that they are mapped to. Contracts see what is shown, and for
 /// how many pixels there is room to copy them.
 #[derive(Drop)]
@@ -127,7 +119,8 @@ impl SurfaceMap {
     {
         self.table.may_create(id, width, height)?;
         self.make_room(usize::from(width) * usize::from(height))?;
-        self.table.create(alloc, id, width, height, format)
+        self.table.create(alloc, id, width, height, format)?;
+        Ok(())
     }
 
     /// Makes room for as many pixels.
@@ -137,7 +130,7 @@ impl SurfaceMap {
         ensures enough { OnOk result (count ≤ self.new.room) }
     {
         if self.scratch.len() < count {
-            self.scratch.resize(count, NO_PIXEL)?;
+            self.scratch.resize(count, Pixel::default())?;
         }
         Ok(())
     }

@@ -1,17 +1,16 @@
-ghost use Rattle.std.specs.Prelude.{◌≡◌, ◌^◌, [], Err, OnOk, IfErr};
+ghost use Rattle.std.specs.Prelude.{◌≡◌, ◌^◌, [], Ok, Err, OnOk, OnErr, IfErr};
 ghost use Rattle.gfx_base.specs.declared.format.Format.{Format as AnyFormat};
 ghost use Rattle.std.specs.Option.{option_copied, option_copied_mut};
 ghost use Rattle.std.specs.Borrow.{sem};
 ghost use Rattle.std.specs.FinMap as map;
-ghost use Rattle.gfx_base.specs.Outcome.{Applies};
-ghost use Rattle.gfx_surface_map.specs.Surfaces.{created, has_room, MayMake};
+ghost use Rattle.gfx_surface_map.specs.Surfaces.{created, fits_beside, MayMake};
 ghost use Rattle.gfx_surface_map.specs.Order.{from_id, first_id};
 ghost use Rattle.gfx_surface_map.specs.Lending.{LendsFrom};
 
 use crate::scan::{least_from, total_cells};
 use crate::size::{count_cells, fits_size};
 use crate::{MOST_CELLS, MOST_SURFACES};
-use gfx_base::{Fault, Format, Refusal};
+use gfx_base::{Format, NoMemory, Refusal};
 use gfx_surface::Surface;
 use indexmap::IndexMap;
 use std::alloc::Global;
@@ -82,15 +81,14 @@ impl Table {
         if !fits_size(width, height) {
             return Err(Refusal::SurfaceSize);
         }
-        if !self.has_room(width, height) {
+        if !self.fits_beside(width, height) {
             return Err(Refusal::SurfaceBudget);
         }
         Ok(())
     }
 
-    /// Makes a surface of zero colour ([MS-RDPEGFX] RDPGFX_CREATE_SURFACE_PDU). An id that is taken,
-    /// sides out of range and the limits on all surfaces are refused in this order, and any fault
-    /// leaves all as it was.
+    /// Makes a surface of zero colour ([MS-RDPEGFX] RDPGFX_CREATE_SURFACE_PDU), where nothing speaks
+    /// against it. Want of memory leaves all as it was.
     #[tactic(auto, unfolding(crate::specs::Surfaces::created, gfx_base::specs::Results::and_then))]
     pub fn create(
         &mut self,
@@ -99,10 +97,11 @@ impl Table {
         width: u16,
         height: u16,
         format: Format,
-    ) -> Result<(), Fault>
-        ensures { Applies result self.old self.new (created self.old id width height format) }
+    ) -> Result<(), NoMemory>
+        requires { MayMake self.old id width height }
+        ensures ok { OnOk result (created self.old id width height format ≡ Ok self.new) }
+        ensures err { OnErr result (self.new ≡ self.old) }
     {
-        self.may_create(id, width, height)?;
         let surface = Surface::new(alloc, width, height, format)?;
         self.surfaces.insert(id, surface)?;
         Ok(())
@@ -116,8 +115,8 @@ impl Table {
     }
 
     /// Whether one more surface of these sides is within the limits.
-    fn has_room(&self, width: u16, height: u16) -> bool
-        ensures { result ≡ has_room self.now width height }
+    fn fits_beside(&self, width: u16, height: u16) -> bool
+        ensures { result ≡ fits_beside self.now width height }
     {
         self.surfaces.len() < MOST_SURFACES
             && total_cells(&self.surfaces) + count_cells(width, height) <= MOST_CELLS

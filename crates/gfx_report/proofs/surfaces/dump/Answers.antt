@@ -1,6 +1,6 @@
 use Rattle.std.proofs.Common.{◌≡◌, ◌∙◌, ◌+◌, sym, Some, arith, rules}
 use Rattle.std.specs.Option.{option_copied}
-use Rattle.gfx_surface_map.proofs.OrderLemmas.{next_some, next_none}
+use Rattle.gfx_base.proofs.MapLemmas.{next_some, next_none}
 use Rattle.gfx_report.proofs.Entries.{dump_text-from_on, next_due, next_fewer, no_more}
 use Rattle.gfx_report.proofs.Writing.{Sent_nothing, Sent_front, Sent_broken, Writes_failed}
 use Rattle.gfx_report.proofs.surfaces.dump.Goals as goal
@@ -11,7 +11,7 @@ surfaces-init g c = Sent_nothing _ _ _ _ (dump_text-from_on _)
 pub unwrap-surface-requires : goal.unwrap-surface-requires
 unwrap-surface-requires g c =
     let next = next_some _ _ _ (sym c.in-Some.ensures.next) in
-    let there : option_copied c.get.result ≡ Some next.picture = c.get.ensures ∙ next.found in
+    let there : option_copied c.get.result ≡ Some next.value = c.get.ensures ∙ next.found in
     search rules
 
 pub returns-in_err-write_surface : goal.returns-in_err-write_surface

@@ -1,6 +1,6 @@
 use Rattle.std.proofs.Common.{◌∙◌, ap, sym, is_some}
 use Rattle.std.specs.FinMap.{contains_key}
-use Rattle.gfx_surface_map.proofs.Entries.{get-entries_lookup}
+use Rattle.gfx_base.proofs.MapLemmas.{get-entries_lookup}
 use Rattle.gfx_surface_map.proofs.table.Table.contains.Goals as goal
 
 pub returns : goal.returns

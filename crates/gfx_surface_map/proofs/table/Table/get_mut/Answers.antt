@@ -2,7 +2,8 @@ use Rattle.std.proofs.Common.{◌∙◌, ap, sym, subst, refl}
 use Rattle.std.specs.FinMap.{get, insert}
 use Rattle.std.specs.Option.{option_copied_mut, IsSome}
 use Rattle.gfx_surface_map.specs.Inside.{surfaces_of, HasIds}
-use Rattle.gfx_surface_map.proofs.Entries.{get-entries_lookup, updated_map, lent_alike, ids_of_keys}
+use Rattle.gfx_base.proofs.MapLemmas.{get-entries_lookup, updated_map}
+use Rattle.gfx_surface_map.proofs.Entries.{lent_alike, ids_of_keys}
 use Rattle.gfx_surface_map.proofs.table.Table.get_mut.Goals as goal
 
 pub returns : goal.returns

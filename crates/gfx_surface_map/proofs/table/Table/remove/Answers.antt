@@ -1,7 +1,8 @@
 use Rattle.std.proofs.Common.{◌∙◌, ap, sym, subst}
 use Rattle.std.specs.FinMap.{remove, from_entries}
 use Rattle.gfx_surface_map.specs.Inside.{AreIds}
-use Rattle.gfx_surface_map.proofs.Entries.{removed_map, ids-remove}
+use Rattle.gfx_base.proofs.MapLemmas.{removed_map}
+use Rattle.gfx_surface_map.proofs.Entries.{ids-remove}
 use Rattle.gfx_surface_map.proofs.table.Table.remove.Goals as goal
 
 pub invariant_of-self : goal.invariant_of-self

@@ -8,7 +8,7 @@ use Rattle.gfx_bitmap_cache.specs.declared.limits.TheConstants.{MOST_BYTES}
 use Rattle.gfx_bitmap_cache.specs.Slots.{Entry, Cached, IsCached, cached, total, is_slot, takes_slot, budget, has_room, stored}
 use Rattle.gfx_base.specs.declared.refusal.Refusal.TheVariants.{SlotRange, CacheBudget}
 use Rattle.gfx_base.specs.Results.{and_then, check}
-use Rattle.gfx_bitmap_cache.proofs.Maps.{keys-insert, keys-remove, keys-empty}
+use Rattle.gfx_base.proofs.MapLemmas.{keys-insert, keys-remove, keys-empty}
 use Rattle.gfx_bitmap_cache.proofs.Totals.{total-remove, total-empty, total-with}
 
 -- a slot that a store takes is one

@@ -2,11 +2,11 @@
 use Rattle.std.specs.Prelude.{◌≡◌}
 use Rattle.std.specs.FinMap.{from_entries}
 use Rattle.gfx_bitmap_cache.specs.declared.cache.Cache.TheInside.{Inside}
-use Rattle.gfx_bitmap_cache.specs.declared.held.Held.TheInside as held
+use Rattle.gfx_bitmap_cache.specs.declared.slot.Slot.TheInside as inner
 use Rattle.gfx_bitmap_cache.specs.Slots.{Entry, Cached, IsCached, cached, entry, image_of, total}
 
 -- the entry of the fields
-abbrev pub entry_of : held.Inside → Entry
+abbrev pub entry_of : inner.Inside → Entry
 entry_of a = entry a.key (image_of a.bitmap)
 
 -- the cache of the fields

@@ -9,10 +9,11 @@ use Rattle.std.specs.FinMap as finmap
 use Rattle.std.specs.FinMap.{FinMap}
 use Rattle.gfx_base.specs.declared.bitmap.Bitmap.{Bitmap}
 use Rattle.gfx_base.specs.declared.pixel.Pixel.{Pixel}
+use Rattle.gfx_base.specs.declared.pixel.TheConstants.{BYTES_PER_PIXEL}
 use Rattle.gfx_base.specs.declared.refusal.Refusal.{Refusal}
 use Rattle.gfx_base.specs.declared.refusal.Refusal.TheVariants.{SlotRange, SlotEmpty, CacheBudget}
 use Rattle.gfx_base.specs.Results.{◌>>=◌, check}
-use Rattle.gfx_bitmap_cache.specs.declared.limits.TheConstants.{BYTES_PER_PIXEL, MOST_SLOTS, MOST_SMALL_SLOTS, MOST_BYTES, MOST_SMALL_BYTES}
+use Rattle.gfx_bitmap_cache.specs.declared.limits.TheConstants.{MOST_SLOTS, MOST_SMALL_SLOTS, MOST_BYTES, MOST_SMALL_BYTES}
 
 -- what a bitmap shows: its sides, and its pixels row by row from the top
 pub record Image : Type 0 where

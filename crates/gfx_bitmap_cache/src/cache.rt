@@ -1,12 +1,12 @@
-ghost use Rattle.std.specs.Prelude.{◌≡◌, ◌^◌, false, [], MatchResult, Ok, Err};
+ghost use Rattle.std.specs.Prelude.{◌≡◌, ◌^◌, false, []};
 ghost use Rattle.std.specs.Option.{option_map, option_copied};
 ghost use Rattle.std.specs.FinMap as map;
-ghost use Rattle.gfx_base.specs.Outcome.{Applies};
+ghost use Rattle.gfx_base.specs.Outcome.{Applies, Performs, Says};
 ghost use Rattle.gfx_bitmap_cache.specs.Slots.{IsCached, entry, cached, image_of, is_slot, takes_slot, has_room, stored, shown, evicted, bytes_at, bytes_with};
 ghost use Rattle.gfx_bitmap_cache.specs.Order.{from_slot, first_slot};
 
-use crate::held::Held;
 use crate::limits::{MOST_SLOTS, budget, bytes_for, last_slot};
+use crate::slot::Slot;
 use gfx_base::{Bitmap, Fault, Refusal};
 use std::alloc::Global;
 use std::collections::BTreeMap;
@@ -16,7 +16,7 @@ use std::marker::Model;
 /// whether the small limits bind the stores.
 #[derive(Drop)]
 pub struct Cache {
-    slots: BTreeMap<u16, Held>,
+    slots: BTreeMap<u16, Slot>,
     bytes: u64,
     small: bool,
 }
@@ -83,7 +83,7 @@ impl Cache {
         if bytes > budget(self.small) {
             return Err(Fault::Refused(Refusal::CacheBudget));
         }
-        let held = Held::new(key, bitmap);
+        let held = Slot::new(key, bitmap);
         self.slots.insert(slot, held)?;
         self.bytes = bytes;
         Ok(())
@@ -92,14 +92,12 @@ impl Cache {
     /// The bitmap of a slot ([MS-RDPEGFX] RDPGFX_CACHE_TO_SURFACE_PDU), whatever limits bind the stores.
     #[tactic(auto, unfolding(crate::specs::Slots::shown, gfx_base::specs::Results::and_then))]
     pub fn show(&self, slot: u16) -> Result<&Bitmap, Refusal>
-        ensures { MatchResult result
-            (λ bitmap. shown self.now slot ≡ Ok (image_of bitmap.now))
-            (λ refusal. shown self.now slot ≡ Err refusal) }
+        ensures { Says (λ bitmap. image_of bitmap.now) result (shown self.now slot) }
     {
         if !is_slot(slot) {
             return Err(Refusal::SlotRange);
         }
-        match self.held(slot) {
+        match self.filled(slot) {
             Some(held) => Ok(held.bitmap()),
             None => Err(Refusal::SlotEmpty),
         }
@@ -109,9 +107,7 @@ impl Cache {
     /// takes no memory.
     #[tactic(auto, unfolding(crate::specs::Slots::evicted, gfx_base::specs::Results::and_then))]
     pub fn evict(&mut self, slot: u16) -> Result<(), Refusal>
-        ensures { MatchResult result
-            (λ _. evicted self.old slot ≡ Ok self.new)
-            (λ refusal. (evicted self.old slot ≡ Err refusal) × (self.new ≡ self.old)) }
+        ensures { Performs result self.old self.new (evicted self.old slot) }
     {
         if !is_slot(slot) {
             return Err(Refusal::SlotRange);
@@ -124,7 +120,7 @@ impl Cache {
     pub fn key(&self, slot: u16) -> Option<u64>
         ensures { result ≡ option_map (λ held. held.key) (map.get self.now.slots slot) }
     {
-        match self.held(slot) {
+        match self.filled(slot) {
             Some(held) => Some(held.key()),
             None => None,
         }
@@ -145,7 +141,7 @@ impl Cache {
     }
 
     /// What a slot holds.
-    fn held(&self, slot: u16) -> Option<&Held>
+    fn filled(&self, slot: u16) -> Option<&Slot>
         ensures { option_copied result ≡ map.get self.now.slots slot }
     {
         self.slots.get(&slot)
@@ -162,7 +158,7 @@ impl Cache {
     fn bytes_at(&self, slot: u16) -> u64
         ensures { result ≡ bytes_at (map.get self.now.slots slot) }
     {
-        match self.held(slot) {
+        match self.filled(slot) {
             Some(held) => held.bytes(),
             None => 0,
         }

@@ -6,11 +6,10 @@
 #![tactic(auto)]
 
 mod cache;
-mod held;
 mod limits;
+mod slot;
 
 pub use cache::Cache;
 pub use limits::{
-    BYTES_PER_PIXEL, MOST_BYTES, MOST_SLOTS, MOST_SMALL_BYTES, MOST_SMALL_SLOTS, budget, bytes_for,
-    last_slot,
+    MOST_BYTES, MOST_SLOTS, MOST_SMALL_BYTES, MOST_SMALL_SLOTS, budget, bytes_for, last_slot,
 };

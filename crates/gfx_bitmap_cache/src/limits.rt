@@ -2,8 +2,7 @@
 ghost use Rattle.std.specs.Prelude.{◌≡◌, ◌≤◌, ◌*◌};
 ghost use Rattle.gfx_bitmap_cache.specs.Slots.{last_slot, budget, bytes_for};
 
-/// How many bytes of the budget a pixel takes.
-pub const BYTES_PER_PIXEL: u64 = 4;
+use gfx_base::BYTES_PER_PIXEL;
 
 /// The last slot. The first is 1.
 pub const MOST_SLOTS: u16 = 25600;
@@ -36,5 +35,5 @@ pub fn bytes_for(width: u16, height: u16) -> u64
     ensures bytes { result ≡ bytes_for width height }
     ensures fits { result ≤ 4 * 65535 * 65535 }
 {
-    BYTES_PER_PIXEL * (u64::from(width) * u64::from(height))
+    BYTES_PER_PIXEL as u64 * (u64::from(width) * u64::from(height))
 }

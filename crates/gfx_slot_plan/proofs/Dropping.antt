@@ -2,7 +2,7 @@
 use Rattle.std.proofs.Common.{◌≡◌, ◌∙◌, ◌<◌, ◌≤◌, ◌+◌, ◌-◌, not, ap, sym, refl, Bool, true, false, ℕ, zero, suc, List, [], ◌∷◌, ◌++◌, length, take, drop, arith, append_assoc, append-nil}
 use Rattle.std.proofs.lemmas.List.{take_all, length-take-le}
 use Rattle.gfx_slot_plan.specs.Pool.{Pool, pool_slots, is_none}
-use Rattle.gfx_slot_plan.specs.Plan.{Allocations, slots_back, staying, left_for, gone_for, has_room}
+use Rattle.gfx_slot_plan.specs.Plan.{Allocations, slots_back, staying, left_for, gone_for, takes_more}
 use Rattle.gfx_slot_plan.specs.Tied.{IsTied}
 use Rattle.gfx_slot_plan.proofs.Order.{staying_stops, staying_goes, room_alone, slots_back_more, take_less, full_slots}
 
@@ -48,7 +48,7 @@ granted false holds = let f : true ≡ false = holds in cc
 
 -- while there is no room some are left
 pub dropping_some : (before now : Allocations) (last most bytes : ℕ) (items0 items : List ℕ) (p : Pool) (sum len cap : ℕ) → 0 < length before
-    → Dropping before now last most bytes items0 items p sum len cap → 1 ≤ last → bytes ≤ most → has_room last most bytes (drop 1 now) ≡ false
+    → Dropping before now last most bytes items0 items p sum len cap → 1 ≤ last → bytes ≤ most → takes_more last most bytes (drop 1 now) ≡ false
     → (1 < length now) × (len < cap)
 dropping_some [] now last most bytes items0 items p sum len cap some d first alone full = absurd (omega arith)
 dropping_some (e ∷ es) now last most bytes items0 items p sum len cap some d first alone full = by d.count refl
@@ -56,7 +56,7 @@ dropping_some (e ∷ es) now last most bytes items0 items p sum len cap some d f
     by : (n : ℕ) → d.count ≡ n → (1 < length now) × (len < cap)
     by zero is =
         let none : drop 1 now ≡ [] = ap (λ l. drop 1 l) d.places ∙ ap (λ n. take n es) is in
-        let no : true ≡ false = sym (room_alone last most bytes first alone) ∙ sym (ap (has_room last most bytes) none) ∙ full in absurd cc
+        let no : true ≡ false = sym (room_alone last most bytes first alone) ∙ sym (ap (takes_more last most bytes) none) ∙ full in absurd cc
     by (suc k) is =
         let fewer = d.fewer in
         let room = d.room in
@@ -66,7 +66,7 @@ dropping_some (e ∷ es) now last most bytes items0 items p sum len cap some d f
 
 -- and one goes
 pub dropping_more : (before now next : Allocations) (last most bytes : ℕ) (items0 items more : List ℕ) (p q : Pool) (sum left len longer cap same : ℕ) → 0 < length before
-    → Dropping before now last most bytes items0 items p sum len cap → 1 ≤ last → bytes ≤ most → has_room last most bytes (drop 1 now) ≡ false
+    → Dropping before now last most bytes items0 items p sum len cap → 1 ≤ last → bytes ≤ most → takes_more last most bytes (drop 1 now) ≡ false
     → next ≡ take (length now - 1) now → more ≡ items ++ slots_back (drop (length now - 1) now) → IsTied (drop 1 next) q left
     → longer ≡ len + 1 → same ≡ cap → Dropping before next last most bytes items0 more q left longer same
 dropping_more [] now next last most bytes items0 items more p q sum left len longer cap same some d first alone full is adds tied one keeps = absurd (omega arith)
@@ -75,7 +75,7 @@ dropping_more (e ∷ es) now next last most bytes items0 items more p q sum left
     by : (n : ℕ) → d.count ≡ n → Dropping (e ∷ es) next last most bytes items0 more q left longer same
     by zero none =
         let none_left : drop 1 now ≡ [] = ap (λ l. drop 1 l) d.places ∙ ap (λ n. take n es) none in
-        let no : true ≡ false = sym (room_alone last most bytes first alone) ∙ sym (ap (has_room last most bytes) none_left) ∙ full in absurd cc
+        let no : true ≡ false = sym (room_alone last most bytes first alone) ∙ sym (ap (takes_more last most bytes) none_left) ∙ full in absurd cc
     by (suc k) count =
         let fewer = d.fewer in
         let room = d.room in
@@ -87,7 +87,7 @@ dropping_more (e ∷ es) now next last most bytes items0 items more p q sum left
           count = k;
           fewer = omega arith;
           places = is ∙ (λ i. take (less i) (places i)) ∙ ap (λ l. e ∷ l) (take_less k es);
-          same = sym (staying_goes last most bytes es k (sym (ap (λ l. has_room last most bytes (drop 1 l)) places) ∙ full))
+          same = sym (staying_goes last most bytes es k (sym (ap (λ l. takes_more last most bytes (drop 1 l)) places) ∙ full))
               ∙ ap (staying last most bytes es) (sym count) ∙ d.same;
           dropped = adds ∙ (λ i. (d.dropped ∙ ap (λ n. items0 ++ slots_back (drop n es)) count) i ++ slots_back (drop (less i) (places i)))
               ∙ append_assoc items0 (slots_back (drop (suc k) es)) (slots_back (drop k (take (suc k) es)))
@@ -98,16 +98,16 @@ dropping_more (e ∷ es) now next last most bytes items0 items more p q sum left
 
 -- once there is room, as many are left as stay
 pub dropping_all : (before now : Allocations) (last most bytes : ℕ) (items0 items : List ℕ) (p : Pool) (sum len cap : ℕ) → 0 < length before
-    → Dropping before now last most bytes items0 items p sum len cap → has_room last most bytes (drop 1 now) ≡ true
+    → Dropping before now last most bytes items0 items p sum len cap → takes_more last most bytes (drop 1 now) ≡ true
     → (now ≡ take 1 before ++ left_for last most bytes (drop 1 before)) × (items ≡ items0 ++ slots_back (gone_for last most bytes (drop 1 before)))
 dropping_all [] now last most bytes items0 items p sum len cap some d room = absurd (omega arith)
 dropping_all (e ∷ es) now last most bytes items0 items p sum len cap some d room =
     let stays : staying last most bytes es (length es) ≡ d.count =
-    sym d.same ∙ staying_stops last most bytes es d.count (sym (ap (λ l. has_room last most bytes (drop 1 l)) d.places) ∙ room) in
+    sym d.same ∙ staying_stops last most bytes es d.count (sym (ap (λ l. takes_more last most bytes (drop 1 l)) d.places) ∙ room) in
     (d.places ∙ ap (λ n. e ∷ take n es) (sym stays), d.dropped ∙ ap (λ n. items0 ++ slots_back (drop n es)) (sym stays))
 
 -- and a slot is free
-pub room_slots : (places : Allocations) (p : Pool) (b most bytes : ℕ) → IsTied places p b → has_room p.last most bytes places ≡ true → is_none (pool_slots p) ≡ false
+pub room_slots : (places : Allocations) (p : Pool) (b most bytes : ℕ) → IsTied places p b → takes_more p.last most bytes places ≡ true → is_none (pool_slots p) ≡ false
 room_slots places p b most bytes tied room = by (is_none (pool_slots p)) refl
   where
     by : (t : Bool) → is_none (pool_slots p) ≡ t → is_none (pool_slots p) ≡ false

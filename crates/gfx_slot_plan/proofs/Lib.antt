@@ -5,3 +5,6 @@ pub mod Order
 pub mod Dropping
 pub mod Keys
 pub mod StandardFacts
+pub mod Rooms
+pub mod UseOrder
+pub mod Histories

@@ -10,20 +10,20 @@ use Rattle.std.proofs.lemmas.List.{reverse-append, map-append, take_all}
 use Rattle.lru.specs.LruCache.{LruCache, put_entries, promoted, last_entry}
 use Rattle.gfx_slot_plan.specs.declared.allocation.Allocation.{Allocation}
 use Rattle.gfx_slot_plan.specs.Pool.{Pool, has_free, pool_slots, is_none}
-use Rattle.gfx_slot_plan.specs.Plan.{Allocations, without, slots_back, staying, has_room, free_slots, total}
+use Rattle.gfx_slot_plan.specs.Plan.{Allocations, without, slots_back, staying, takes_more, free_slots, total}
 use Rattle.gfx_slot_plan.specs.Tied.{IsTied, Gives}
 use Rattle.gfx_slot_plan.proofs.Ranges.{some_from}
 use Rattle.gfx_slot_plan.proofs.Ties.{tied_parts, tied_without, tied_moved, tied_free_slots}
 
 -- a held key stands once among the others
-record Among (key : ℕ) (held : Allocation) (all : Allocations) : Type 0 where
-  xs : Allocations
-  ys : Allocations
-  cut : all ≡ xs ++ (key, held) ∷ ys
-  rest : without key all ≡ xs ++ ys
-  found : lookup_entry (nat_eq key) all ≡ Some (key, held)
+pub record Among (key : ℕ) (held : Allocation) (all : Allocations) : Type 0 where
+  pub xs : Allocations
+  pub ys : Allocations
+  pub cut : all ≡ xs ++ (key, held) ∷ ys
+  pub rest : without key all ≡ xs ++ ys
+  pub found : lookup_entry (nat_eq key) all ≡ Some (key, held)
 
-among : (key : ℕ) (held : Allocation) (all : Allocations) → lookup (nat_eq key) all ≡ Some held → Among key held all
+pub among : (key : ℕ) (held : Allocation) (all : Allocations) → lookup (nat_eq key) all ≡ Some held → Among key held all
 among key held [] there = cc
 among key held (e ∷ es) there = by (nat_eq key e.0) refl (among key held es)
   where
@@ -158,17 +158,17 @@ last_there (e ∷ f ∷ es) some none =
     let no : Some (get_or (f ∷ es) (length es) f) ≡ None = sym found ∙ sym (ap (slice_get (e ∷ f ∷ es)) less) ∙ none in cc
 
 -- how many stay, once there is room
-pub staying_stops : (last most bytes : ℕ) (places : Allocations) (n : ℕ) → has_room last most bytes (take n places) ≡ true → staying last most bytes places n ≡ n
+pub staying_stops : (last most bytes : ℕ) (places : Allocations) (n : ℕ) → takes_more last most bytes (take n places) ≡ true → staying last most bytes places n ≡ n
 staying_stops last most bytes places zero room = refl
 staying_stops last most bytes places (suc n) room = ap (λ b. cond b (suc n) (staying last most bytes places n)) room
 
 -- and while there is none
-pub staying_goes : (last most bytes : ℕ) (places : Allocations) (n : ℕ) → has_room last most bytes (take (suc n) places) ≡ false
+pub staying_goes : (last most bytes : ℕ) (places : Allocations) (n : ℕ) → takes_more last most bytes (take (suc n) places) ≡ false
     → staying last most bytes places (suc n) ≡ staying last most bytes places n
 staying_goes last most bytes places n full = ap (λ b. cond b (suc n) (staying last most bytes places n)) full
 
 -- with nothing held there is room
-pub room_alone : (last most bytes : ℕ) → 1 ≤ last → bytes ≤ most → has_room last most bytes [] ≡ true
+pub room_alone : (last most bytes : ℕ) → 1 ≤ last → bytes ≤ most → takes_more last most bytes [] ≡ true
 room_alone last most bytes first alone =
     let some : is_none (free_slots last []) ≡ false = some_from (λ slot. true) 1 last 1 (omega arith) (omega arith) refl in
     let within : nat_le (0 + bytes) most ≡ true = grind (arith, nat_tests) in
@@ -206,13 +206,13 @@ last_without all held old new b c some last tied gives less =
     (tied_without (drop 1 (take (length all - 1) all)) [] held old new b c (subst (λ l. IsTied l old b) (last_cut all held some last).1 tied) gives less)
 
 -- no slot is free
-pub full_slots : (places : Allocations) (p : Pool) (b most bytes : ℕ) → IsTied places p b → is_none (pool_slots p) ≡ true → not (has_room p.last most bytes places) ≡ true
+pub full_slots : (places : Allocations) (p : Pool) (b most bytes : ℕ) → IsTied places p b → is_none (pool_slots p) ≡ true → not (takes_more p.last most bytes places) ≡ true
 full_slots places p b most bytes tied none =
     ap (λ t. not (not t && nat_le (total places + bytes) most)) (ap is_none (sym (tied_free_slots places p b tied)) ∙ none)
 
 -- or so many bytes more are too many
 pub full_bytes : (places : Allocations) (p : Pool) (b most bytes : ℕ) → IsTied places p b → bytes ≤ most → is_none (pool_slots p) ≡ false
-    → not (has_room p.last most bytes places) ≡ nat_lt (most - bytes) b
+    → not (takes_more p.last most bytes places) ≡ nat_lt (most - bytes) b
 full_bytes places p b most bytes tied alone some =
     let counted : b ≡ total places = tied.counted in
     ap (λ t. not (not t && nat_le (total places + bytes) most)) (ap is_none (sym (tied_free_slots places p b tied)) ∙ some)

@@ -4,3 +4,4 @@ pub mod Pool
 pub mod PoolInside
 pub mod Tied
 pub mod Inside
+pub mod History

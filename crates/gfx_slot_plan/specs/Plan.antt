@@ -41,15 +41,15 @@ is_used places slot = list_any (λ held. nat_eq slot held.1.slot) places
 abbrev pub free_slots : ℕ → Allocations → List ℕ
 free_slots last places = filter (λ slot. not (is_used places slot)) (range_with_len 1 last)
 
--- a slot is free, and so many bytes more are within the limit
-abbrev pub has_room : ℕ → ℕ → ℕ → Allocations → Bool
-has_room last most bytes places = not (is_none (free_slots last places)) && nat_le (total places + bytes) most
+-- a bitmap of so many bytes can be kept beside these: a slot is free, and the bytes are within the limit
+abbrev pub takes_more : ℕ → ℕ → ℕ → Allocations → Bool
+takes_more last most bytes places = not (is_none (free_slots last places)) && nat_le (total places + bytes) most
 
 -- how many of the first n stay: the last of them, which is the least recently used, goes while there is no room
 abbrev pub staying : ℕ → ℕ → ℕ → Allocations → ℕ → ℕ
 staying last most bytes places zero = zero
 staying last most bytes places (suc n) =
-    if has_room last most bytes (take (suc n) places) then suc n else staying last most bytes places n
+    if takes_more last most bytes (take (suc n) places) then suc n else staying last most bytes places n
 
 -- which of them stay for so many bytes more
 abbrev pub left_for : ℕ → ℕ → ℕ → Allocations → Allocations

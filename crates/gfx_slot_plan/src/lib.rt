@@ -7,9 +7,11 @@
 
 mod allocation;
 mod kept;
+mod laws;
 mod plan;
 mod pool;
 mod shelf;
 
 pub use kept::{Kept, Slots};
+pub use laws::least_recently_used_go;
 pub use plan::SlotPlan;

@@ -3,7 +3,7 @@ ghost use Rattle.std.specs.Prelude.{◌≡◌, ◌+◌, ◌-◌, ◌*◌, ◌<�
 ghost use Rattle.std.specs.Option.{option_map, option_to_list};
 ghost use Rattle.std.specs.Vec.{vec_len, vec_capacity};
 ghost use Rattle.lru.specs.LruCache.{lru_cache, last_entry, promoted};
-ghost use Rattle.gfx_slot_plan.specs.Plan.{place, without, slot_of, slots_back, left_for, gone_for, least_free, dropped_for, has_room};
+ghost use Rattle.gfx_slot_plan.specs.Plan.{place, without, slot_of, slots_back, left_for, gone_for, least_free, dropped_for, takes_more};
 ghost use Rattle.gfx_slot_plan.specs.Pool.{has_free, pool_slots, is_none};
 ghost use Rattle.gfx_slot_plan.specs.Tied.{IsTied, Gives};
 
@@ -113,7 +113,7 @@ impl Shelf {
     fn is_full(&self, bytes: u64, most: u64) -> bool
         requires tied { IsTied (drop 1 self.now.places.entries) self.now.pool self.now.bytes }
         requires alone { bytes ≤ most }
-        ensures { result ≡ not (has_room self.now.pool.last most bytes (drop 1 self.now.places.entries)) }
+        ensures { result ≡ not (takes_more self.now.pool.last most bytes (drop 1 self.now.places.entries)) }
     {
         self.pool.is_empty() || self.bytes > most - bytes
     }

@@ -1,7 +1,7 @@
 use Rattle.std.proofs.Common.{◌∙◌, ap, sym, false}
 use Rattle.std.specs.FinMap.{from_entries}
 use Rattle.gfx_bitmap_cache.specs.Slots.{total}
-use Rattle.gfx_bitmap_cache.proofs.Maps.{empty_map}
+use Rattle.gfx_base.proofs.MapLemmas.{empty_map}
 use Rattle.gfx_bitmap_cache.proofs.Totals.{total-empty}
 use Rattle.gfx_bitmap_cache.proofs.Sound.{kept-empty}
 use Rattle.gfx_bitmap_cache.proofs.cache.Cache.new.Goals as goal

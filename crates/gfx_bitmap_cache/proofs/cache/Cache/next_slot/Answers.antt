@@ -2,7 +2,8 @@ use Rattle.std.proofs.Common.{◌^◌, ◌∙◌, ap, sym, subst}
 use Rattle.std.specs.FinMap.{entries}
 use Rattle.gfx_bitmap_cache.specs.Slots.{IsCached}
 use Rattle.gfx_bitmap_cache.specs.Order.{from_slot, first_slot}
-use Rattle.gfx_bitmap_cache.proofs.Ordered.{from_slot-between, entries-from_entries, from_slot-past}
+use Rattle.gfx_bitmap_cache.proofs.Ordered.{from_slot-between, entries-from_entries}
+use Rattle.gfx_base.proofs.MapLemmas.{from_key-past}
 use Rattle.gfx_bitmap_cache.proofs.Sound.{slots_below}
 use Rattle.gfx_bitmap_cache.proofs.cache.Cache.next_slot.Goals as goal
 
@@ -14,7 +15,7 @@ returns-in-Some-clause-next c =
 
 pub returns-in-Some-clause-past : goal.returns-in-Some-clause-past
 returns-in-Some-clause-past c =
-    from_slot-past (2 ^ 16) c.args.self.now.slots (slots_below c.args.self.now (subst IsCached c.self.view_is c.self.invariant.kept))
+    from_key-past (2 ^ 16) c.args.self.now.slots (slots_below c.args.self.now (subst IsCached c.self.view_is c.self.invariant.kept))
 
 pub returns-in-None-clause-next : goal.returns-in-None-clause-next
 returns-in-None-clause-next c =
@@ -24,4 +25,4 @@ returns-in-None-clause-next c =
 
 pub returns-in-None-clause-past : goal.returns-in-None-clause-past
 returns-in-None-clause-past c =
-    from_slot-past (2 ^ 16) c.args.self.now.slots (slots_below c.args.self.now (subst IsCached c.self.view_is c.self.invariant.kept))
+    from_key-past (2 ^ 16) c.args.self.now.slots (slots_below c.args.self.now (subst IsCached c.self.view_is c.self.invariant.kept))

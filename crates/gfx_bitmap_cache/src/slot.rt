@@ -8,12 +8,12 @@ use std::marker::Model;
 
 /// A bitmap with its key.
 #[derive(Drop)]
-pub struct Held {
+pub struct Slot {
     key: u64,
     bitmap: Bitmap,
 }
 
-impl Model for Held {
+impl Model for Slot {
     ghost use Rattle.gfx_bitmap_cache.specs.Slots.{Entry};
     ghost use Rattle.gfx_bitmap_cache.specs.Codes.{entry_code};
 
@@ -26,11 +26,11 @@ impl Model for Held {
     ghost view = { entry_of };
 }
 
-impl Held {
-    pub fn new(key: u64, bitmap: Bitmap) -> Held
+impl Slot {
+    pub fn new(key: u64, bitmap: Bitmap) -> Slot
         ensures { result ≡ entry key (image_of bitmap) }
     {
-        Held { key, bitmap }
+        Slot { key, bitmap }
     }
 
     pub fn key(&self) -> u64

@@ -1,7 +1,7 @@
 use Rattle.std.proofs.Common.{◌∙◌, ap, sym}
 use Rattle.std.specs.FinMap.{get}
 use Rattle.gfx_bitmap_cache.proofs.Maps.{get-lookup}
-use Rattle.gfx_bitmap_cache.proofs.cache.Cache.held.Goals as goal
+use Rattle.gfx_bitmap_cache.proofs.cache.Cache.filled.Goals as goal
 
 pub returns : goal.returns
 returns c =

@@ -2,7 +2,7 @@
 use Rattle.std.proofs.Common.{◌≡◌, ℕ, zero, suc, ◌+◌, ◌-◌, ◌*◌, ◌/◌, ◌%◌, ◌^◌, ◌<◌, ◌≤◌, Bool, true, false, cond, nat_le, List, [], ◌∷◌, ◌++◌, length, drop, refl, sym, ap, ◌∙◌, arith, min, subst, replicate, inl, inr, append_assoc, get_or, length-append, get_or-drop}
 use Rattle.std.proofs.Math.Nat.{pow-suc, mul-le-mul_right}
 use Rattle.std.proofs.Math.Seq.{drop-nil}
-use Rattle.std.proofs.lemmas.List.{drop-drop}
+use Rattle.std.proofs.lemmas.List.{drop-drop, length-replicate}
 use Rattle.std.proofs.lemmas.Nat.{pow_pos, mod_below, pow-add, mod_low, shr_high, mod-pow-add, mul-add-lt, leading_top, one_shl, and_mask}
 use Rattle.std.proofs.lemmas.Bool.{le-leb, lt-leb}
 use Rattle.std.proofs.lemmas.Bool.Decides.{leb_tells}
@@ -11,7 +11,7 @@ use Rattle.std.specs.Prelude.{bit_and}
 use Rattle.std.specs.Int.{w64, from_be_bytes}
 use Rattle.std.specs.Int.Count.{count_leading_zeros}
 use Rattle.std.proofs.Math.Pow.{pow_mono}
-use Rattle.gfx_bits.specs.Bits.{first, number, digits, bits_of, ones, Spelled}
+use Rattle.gfx_bits.specs.Bits.{first, number, digits, bits_of, ones, Spelled, IsPadded}
 
 pub doubled : (n : ℕ) → 2 ^ suc n ≡ 2 ^ n + 2 ^ n
 doubled n = pow-suc 2 n ∙ omega arith
@@ -185,6 +185,10 @@ unfolding bits_of
 length-bits_of [] = refl
 length-bits_of (x ∷ xs) = omega (arith, length-append (digits 8 x) (bits_of xs), length-digits 8 x, length-bits_of xs)
 
+padded-length : (bits : List Bool) (bytes : List ℕ) (padded : IsPadded bits bytes) → 8 * length bytes ≡ length bits + padded.0
+padded-length bits bytes padded =
+    sym (length-bits_of bytes) ∙ ap length padded.2 ∙ omega (arith, length-append bits (replicate padded.0 false), length-replicate padded.0 false)
+
 pub drop-byte : (k : ℕ) (bytes : List ℕ) → drop (8 * k) (bits_of bytes) ≡ bits_of (drop k bytes)
 unfolding bits_of
 drop-byte zero bytes = refl
@@ -208,6 +212,27 @@ one_more_byte k bytes h =
     ∙ number-split (8 * k) 8 (bits_of bytes)
     ∙ ap (λ b. number (8 * k) (bits_of bytes) * 256 + number 8 b) (drop-byte k bytes)
     ∙ ap (λ n. number (8 * k) (bits_of bytes) * 256 + n) (next-byte (drop k bytes) (rw front h) ∙ front)
+
+-- bytes whose bits are the same are the same
+pub bits_of-only : (xs ys : List ℕ) → ((i : ℕ) → get_or xs i 0 < 256) → ((i : ℕ) → get_or ys i 0 < 256) → bits_of xs ≡ bits_of ys → xs ≡ ys
+unfolding bits_of
+bits_of-only [] [] p q e = refl
+bits_of-only [] (y ∷ ys) p q e = absurd (omega (arith, ap length e, length-append (digits 8 y) (bits_of ys), length-digits 8 y))
+bits_of-only (x ∷ xs) [] p q e = absurd (omega (arith, ap length e, length-append (digits 8 x) (bits_of xs), length-digits 8 x))
+bits_of-only (x ∷ xs) (y ∷ ys) p q e =
+    let same : x ≡ y = sym (number-digits 8 x (bits_of xs) (p 0)) ∙ ap (number 8) e ∙ number-digits 8 y (bits_of ys) (q 0) in
+    let rest : bits_of xs ≡ bits_of ys = sym (drop-digits 8 x (bits_of xs)) ∙ ap (drop 8) e ∙ drop-digits 8 y (bits_of ys) in
+    let others : xs ≡ ys = bits_of-only xs ys (λ i. p (suc i)) (λ i. q (suc i)) rest in
+    λ i. same i ∷ others i
+
+-- bytes that the same bits fill with as few zeros are the same
+pub padded-only : (bits : List Bool) (xs ys : List ℕ) → ((i : ℕ) → get_or xs i 0 < 256) → ((i : ℕ) → get_or ys i 0 < 256)
+    → IsPadded bits xs → IsPadded bits ys → xs ≡ ys
+padded-only bits xs ys p q one other =
+    let long : 8 * length xs ≡ length bits + one.0 = padded-length bits xs one in
+    let long_too : 8 * length ys ≡ length bits + other.0 = padded-length bits ys other in
+    let same : one.0 ≡ other.0 = omega (arith, one.1, other.1) in
+    bits_of-only xs ys p q (one.2 ∙ ap (λ n. bits ++ replicate n false) same ∙ sym other.2)
 
 -- ---- the window of a reader that has used some bits of its first byte
 

@@ -7,50 +7,28 @@ ghost use Rattle.gfx_dwt.specs.Place.{high_size, line_size, low_size};
 ghost use Rattle.gfx_dwt.specs.Ranges.{AllWithin, Within, at};
 ghost use Rattle.gfx_dwt.specs.Splitting.{differed, high_half, low_half};
 
-use crate::formula::{beyond, plain_high, plain_low, reduced_high, reduced_low};
+use crate::formula::{Lifting, PlainLifting, ReducedLifting, beyond, high_place, low_place};
 use crate::layout::{Level, Transform};
 
 /// The first places of both halves, as far as their even samples have one behind them; gives the last of the high half.
-fn plain_halves(line: &[i32], low: &mut [i32], high: &mut [i32], count: usize) -> i32
+fn first_places<L: Lifting>(line: &[i32], low: &mut [i32], high: &mut [i32], count: usize) -> i32
     requires some { 0 < count }
     requires line_len { 2 * count < length line.now }
     requires low_len { count ≤ length low.old }
     requires high_len { count ≤ length high.old }
     requires line { AllWithin (2 ^ 28) line.now }
-    ensures lows { (k : ℕ) → k < count → at low.new k ≡ low_of Plain (at line.now (2 * k)) (differed Plain (at line.now) (k - 1)) (differed Plain (at line.now) k) }
-    ensures highs { (k : ℕ) → k < count → at high.new k ≡ differed Plain (at line.now) k }
-    ensures last { result ≡ differed Plain (at line.now) (count - 1) }
-    ensures small { Within (2 ^ 28) result }
-{
-    let mut before = plain_high(line[1], line[0], line[2]);
-    for k in 0..count {
-        let here = plain_high(line[2 * k + 1], line[2 * k], line[2 * k + 2]);
-        high[k] = here;
-        low[k] = plain_low(line[2 * k], before, here);
-        before = here;
-    }
-    before
-}
-
-/// The first places of both halves, as far as their even samples have one behind them; gives the last of the high half.
-fn reduced_halves(line: &[i32], low: &mut [i32], high: &mut [i32], count: usize) -> i32
-    requires some { 0 < count }
-    requires line_len { 2 * count < length line.now }
-    requires low_len { count ≤ length low.old }
-    requires high_len { count ≤ length high.old }
-    requires line { AllWithin (2 ^ 28) line.now }
-    ensures lows { (k : ℕ) → k < count → at low.new k ≡ low_of Reduced (at line.now (2 * k)) (differed Reduced (at line.now) (k - 1)) (differed Reduced (at line.now) k) }
-    ensures highs { (k : ℕ) → k < count → at high.new k ≡ differed Reduced (at line.now) k }
-    ensures last { result ≡ differed Reduced (at line.now) (count - 1) }
+    ensures lows { (k : ℕ) → k < count → at low.new k ≡ low_of L.transform (at line.now (2 * k)) (differed L.transform (at line.now) (k - 1)) (differed L.transform (at line.now) k) }
+    ensures highs { (k : ℕ) → k < count → at high.new k ≡ differed L.transform (at line.now) k }
+    ensures last { result ≡ differed L.transform (at line.now) (count - 1) }
     ensures small { Within (2 ^ 28) result }
 {
     let mut even = line[0];
-    let mut before = reduced_high(line[1], even, line[2]);
+    let mut before = high_place::<L>(line[1], even, line[2]);
     for k in 0..count {
         let next = line[2 * k + 2];
-        let here = reduced_high(line[2 * k + 1], even, next);
+        let here = high_place::<L>(line[2 * k + 1], even, next);
         high[k] = here;
-        low[k] = reduced_low(even, before, here);
+        low[k] = low_place::<L>(even, before, here);
         before = here;
         even = next;
     }
@@ -68,10 +46,10 @@ fn split_plain(line: &[i32], low: &mut [i32], high: &mut [i32], end: usize)
     ensures lows { (l : Level) → length high.old ≡ high_size Plain l → (k : ℕ) → k < length high.old → at low.new k ≡ low_half Plain l (at line.now) k }
     ensures highs { (l : Level) → length high.old ≡ high_size Plain l → (k : ℕ) → k < length high.old → at high.new k ≡ high_half Plain l (at line.now) k }
 {
-    let before = plain_halves(line, low, high, end);
-    let here = plain_high(line[2 * end + 1], line[2 * end], line[2 * end]);
+    let before = first_places::<PlainLifting>(line, low, high, end);
+    let here = high_place::<PlainLifting>(line[2 * end + 1], line[2 * end], line[2 * end]);
     high[end] = here;
-    low[end] = plain_low(line[2 * end], before, here);
+    low[end] = low_place::<PlainLifting>(line[2 * end], before, here);
 }
 
 /// Splits a line of reduce-extrapolate at its second and third level, whose last sample is an even one.
@@ -85,8 +63,8 @@ fn split_later(line: &[i32], low: &mut [i32], high: &mut [i32], count: usize)
     ensures lows { (l : Level) → length high.old ≡ high_size Reduced l → length low.old ≡ low_size Reduced l → (k : ℕ) → k < length low.old → at low.new k ≡ low_half Reduced l (at line.now) k }
     ensures highs { (l : Level) → length high.old ≡ high_size Reduced l → length low.old ≡ low_size Reduced l → (k : ℕ) → k < length high.old → at high.new k ≡ high_half Reduced l (at line.now) k }
 {
-    let before = reduced_halves(line, low, high, count);
-    low[count] = reduced_low(line[2 * count], before, before);
+    let before = first_places::<ReducedLifting>(line, low, high, count);
+    low[count] = low_place::<ReducedLifting>(line[2 * count], before, before);
 }
 
 /// Splits a line of reduce-extrapolate at its first level, which is longer by an even sample than it has.
@@ -98,10 +76,10 @@ fn split_first(line: &[i32], low: &mut [i32], high: &mut [i32])
     ensures lows { (k : ℕ) → k < length low.old → at low.new k ≡ low_half Reduced First (at line.now) k }
     ensures highs { (k : ℕ) → k < length high.old → at high.new k ≡ high_half Reduced First (at line.now) k }
 {
-    let before = reduced_halves(line, low, high, 31);
-    low[31] = reduced_low(line[62], before, 0);
+    let before = first_places::<ReducedLifting>(line, low, high, 31);
+    low[31] = low_place::<ReducedLifting>(line[62], before, 0);
     let last = beyond(line[62], line[63]);
-    low[32] = reduced_low(last, 0, 0);
+    low[32] = low_place::<ReducedLifting>(last, 0, 0);
 }
 
 /// Splits a line into its halves. Sizes stand here as numbers, so that each loop has a copy of its own for its size.

@@ -7,50 +7,27 @@ ghost use Rattle.gfx_dwt.specs.Joining.{joined, lowered};
 ghost use Rattle.gfx_dwt.specs.Lifting.{odd_of};
 ghost use Rattle.gfx_dwt.specs.Ranges.{AllWithin, Within, at};
 
-use crate::formula::{plain_even, plain_odd, reduced_even, reduced_odd};
+use crate::formula::{Lifting, PlainLifting, ReducedLifting, even_sample, odd_sample};
 use crate::layout::{Level, Transform};
 
 /// The samples that lie between two places of the high half, and the even sample behind them.
 #[tactic(auto, unfolding(crate::specs::Joining::lowered))]
-fn plain_pairs(low: &[i32], high: &[i32], out: &mut [i32]) -> i32
+fn pairs<L: Lifting>(low: &[i32], high: &[i32], out: &mut [i32]) -> i32
     requires some { 0 < length high.now }
     requires low_len { length high.now ≤ length low.now }
     requires out_len { 2 * length high.now ≤ length out.old }
     requires low { AllWithin (2 ^ 28) low.now }
     requires high { AllWithin (2 ^ 28) high.now }
-    ensures evens { (k : ℕ) → k + 1 < length high.now → at out.new (2 * k) ≡ lowered Plain (at low.now) (at high.now) k }
-    ensures odds { (k : ℕ) → k + 1 < length high.now → at out.new (2 * k + 1) ≡ odd_of Plain (at high.now k) (lowered Plain (at low.now) (at high.now) k) (lowered Plain (at low.now) (at high.now) (k + 1)) }
-    ensures last { result ≡ lowered Plain (at low.now) (at high.now) (length high.now - 1) }
+    ensures evens { (k : ℕ) → k + 1 < length high.now → at out.new (2 * k) ≡ lowered L.transform (at low.now) (at high.now) k }
+    ensures odds { (k : ℕ) → k + 1 < length high.now → at out.new (2 * k + 1) ≡ odd_of L.transform (at high.now k) (lowered L.transform (at low.now) (at high.now) k) (lowered L.transform (at low.now) (at high.now) (k + 1)) }
+    ensures last { result ≡ lowered L.transform (at low.now) (at high.now) (length high.now - 1) }
     ensures small { Within (2 ^ 29) result }
 {
-    let mut sample = plain_even(low[0], high[0], high[0]);
+    let mut sample = even_sample::<L>(low[0], high[0], high[0]);
     for k in 0..high.len() - 1 {
-        let next = plain_even(low[k + 1], high[k], high[k + 1]);
+        let next = even_sample::<L>(low[k + 1], high[k], high[k + 1]);
         out[2 * k] = sample;
-        out[2 * k + 1] = plain_odd(high[k], sample, next);
-        sample = next;
-    }
-    sample
-}
-
-/// The samples that lie between two places of the high half, and the even sample behind them.
-#[tactic(auto, unfolding(crate::specs::Joining::lowered))]
-fn reduced_pairs(low: &[i32], high: &[i32], out: &mut [i32]) -> i32
-    requires some { 0 < length high.now }
-    requires low_len { length high.now ≤ length low.now }
-    requires out_len { 2 * length high.now ≤ length out.old }
-    requires low { AllWithin (2 ^ 28) low.now }
-    requires high { AllWithin (2 ^ 28) high.now }
-    ensures evens { (k : ℕ) → k + 1 < length high.now → at out.new (2 * k) ≡ lowered Reduced (at low.now) (at high.now) k }
-    ensures odds { (k : ℕ) → k + 1 < length high.now → at out.new (2 * k + 1) ≡ odd_of Reduced (at high.now k) (lowered Reduced (at low.now) (at high.now) k) (lowered Reduced (at low.now) (at high.now) (k + 1)) }
-    ensures last { result ≡ lowered Reduced (at low.now) (at high.now) (length high.now - 1) }
-    ensures small { Within (2 ^ 29) result }
-{
-    let mut sample = reduced_even(low[0], high[0], high[0]);
-    for k in 0..high.len() - 1 {
-        let next = reduced_even(low[k + 1], high[k], high[k + 1]);
-        out[2 * k] = sample;
-        out[2 * k + 1] = reduced_odd(high[k], sample, next);
+        out[2 * k + 1] = odd_sample::<L>(high[k], sample, next);
         sample = next;
     }
     sample
@@ -75,9 +52,9 @@ fn join_plain(low: &[i32], high: &[i32], out: &mut [i32])
     requires high { AllWithin (2 ^ 28) high.now }
     ensures { (l : Level) → length high.now ≡ high_size Plain l → (k : ℕ) → k < length out.old → at out.new k ≡ joined Plain l (at low.now) (at high.now) k }
 {
-    let sample = plain_pairs(low, high, out);
+    let sample = pairs::<PlainLifting>(low, high, out);
     let end = high.len() - 1;
-    let odd = plain_odd(high[end], sample, sample);
+    let odd = odd_sample::<PlainLifting>(high[end], sample, sample);
     put_pair(out, end, sample, odd);
 }
 
@@ -90,10 +67,10 @@ fn join_later(low: &[i32], high: &[i32], out: &mut [i32])
     requires high { AllWithin (2 ^ 28) high.now }
     ensures { (l : Level) → length high.now ≡ high_size Reduced l → length low.now ≡ low_size Reduced l → (k : ℕ) → k < length out.old → at out.new k ≡ joined Reduced l (at low.now) (at high.now) k }
 {
-    let sample = reduced_pairs(low, high, out);
+    let sample = pairs::<ReducedLifting>(low, high, out);
     let end = high.len() - 1;
-    let next = reduced_even(low[end + 1], high[end], high[end]);
-    let odd = reduced_odd(high[end], sample, next);
+    let next = even_sample::<ReducedLifting>(low[end + 1], high[end], high[end]);
+    let odd = odd_sample::<ReducedLifting>(high[end], sample, next);
     put_pair(out, end, sample, odd);
     out[2 * end + 2] = next;
 }
@@ -107,12 +84,12 @@ fn join_first(low: &[i32], high: &[i32], out: &mut [i32])
     requires high { AllWithin (2 ^ 28) high.now }
     ensures { (k : ℕ) → k < length out.old → at out.new k ≡ joined Reduced First (at low.now) (at high.now) k }
 {
-    let sample = reduced_pairs(low, high, out);
-    let next = reduced_even(low[31], high[30], 0);
-    let odd = reduced_odd(high[30], sample, next);
+    let sample = pairs::<ReducedLifting>(low, high, out);
+    let next = even_sample::<ReducedLifting>(low[31], high[30], 0);
+    let odd = odd_sample::<ReducedLifting>(high[30], sample, next);
     put_pair(out, 30, sample, odd);
-    let beyond = reduced_even(low[32], 0, 0);
-    let last = reduced_odd(0, next, beyond);
+    let beyond = even_sample::<ReducedLifting>(low[32], 0, 0);
+    let last = odd_sample::<ReducedLifting>(0, next, beyond);
     put_pair(out, 31, next, last);
 }
 

@@ -7,3 +7,4 @@ pub mod Quotients
 pub mod Everywhere
 pub mod Smaller
 pub mod Nibbles
+pub mod Numbers

@@ -6,3 +6,5 @@ pub mod Encoding
 pub mod Unique
 pub mod RoundTrip
 pub mod Bound
+pub mod OneWriting
+pub mod Numbers

@@ -10,4 +10,4 @@ mod params;
 
 pub use decoder::decode;
 pub use encoder::encode;
-pub use laws::one_meaning;
+pub use laws::{one_meaning, one_writing};

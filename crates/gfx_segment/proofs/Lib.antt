@@ -6,3 +6,4 @@ pub mod WrapLemmas
 pub mod PutLemmas
 pub mod ReadBackLemmas
 pub mod CuttingLemmas
+pub mod Numbers

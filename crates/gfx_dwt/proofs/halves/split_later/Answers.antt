@@ -12,17 +12,17 @@ use Rattle.gfx_dwt.proofs.halves.split_later.Goals as goal
 pub returns-clause-highs : goal.returns-clause-highs
 returns-clause-highs c = λ l e f k h.
     let line = at c.args.line.now in
-    c.reduced_halves-before.ensures.highs k (omega arith) ∙ sym (high_inside Reduced l line k (omega arith))
+    c.first_places-before.ensures.highs k (omega arith) ∙ sym (high_inside Reduced l line k (omega arith))
 
 pub returns-clause-lows : goal.returns-clause-lows
 returns-clause-lows c = λ l e f k h.
     let line = at c.args.line.now in
     let m = c.args.count in
     let size : m ≡ high_size Reduced l = omega (arith, e, c.requires.count) in
-    let halves = c.reduced_halves-before in
+    let halves = c.first_places-before in
     let e0 = bits_of_within (2 ^ 28) _ (lit< tt) (c.requires.line (2 * m) (omega arith)) in
     let before : to_z w32 (of_z w32 halves.result) ≡ halves.result = bits_of_small _ halves.type_inv in
-    let low : c.reduced_low.result ≡ low_of Reduced (line (2 * m)) (differed Reduced line (m - 1)) (differed Reduced line (m - 1)) = cc (c.reduced_low.ensures, e0, before, halves.ensures.last) in
-    let is_low : c.reduced_low.result ≡ low_half Reduced l line m = low ∙ rw size (sym (low_later l line (omega arith))) in
-    put_next halves.new.low (low_half Reduced l line) m _ (omega arith) (bits_of_small _ c.reduced_low.type_inv ∙ is_low)
+    let low : c.low_place.result ≡ low_of Reduced (line (2 * m)) (differed Reduced line (m - 1)) (differed Reduced line (m - 1)) = cc (c.low_place.ensures, e0, before, halves.ensures.last) in
+    let is_low : c.low_place.result ≡ low_half Reduced l line m = low ∙ rw size (sym (low_later l line (omega arith))) in
+    put_next halves.new.low (low_half Reduced l line) m _ (omega arith) (bits_of_small _ c.low_place.type_inv ∙ is_low)
     (λ j p. halves.ensures.lows j p ∙ sym (low_between Reduced l line j (omega arith))) k (omega arith)

@@ -1,8 +1,0 @@
-use Rattle.std.proofs.Common.{◌≡◌, ℕ, ◌<◌}
-use Rattle.gfx_dwt.specs.declared.layout.Transform.TheVariants.{Plain}
-use Rattle.gfx_dwt.specs.Lifting.{low_of}
-use Rattle.gfx_dwt.specs.Ranges.{at}
-use Rattle.gfx_dwt.proofs.kernels.plain_smooth.Given as goal
-
-abbrev pub invariant-loop-k : goal.invariant-loop-k
-invariant-loop-k l = (j : ℕ) → j < l.k → at l.out j ≡ low_of Plain (at l.even j) (at l.before j) (at l.here j)

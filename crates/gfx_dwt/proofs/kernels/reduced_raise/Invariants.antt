@@ -1,8 +1,0 @@
-use Rattle.std.proofs.Common.{◌≡◌, ℕ, ◌<◌}
-use Rattle.gfx_dwt.specs.declared.layout.Transform.TheVariants.{Reduced}
-use Rattle.gfx_dwt.specs.Lifting.{odd_of}
-use Rattle.gfx_dwt.specs.Ranges.{at}
-use Rattle.gfx_dwt.proofs.kernels.reduced_raise.Given as goal
-
-abbrev pub invariant-loop-k : goal.invariant-loop-k
-invariant-loop-k l = (j : ℕ) → j < l.k → at l.out j ≡ odd_of Reduced (at l.high j) (at l.left j) (at l.right j)

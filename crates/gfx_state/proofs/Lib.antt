@@ -4,3 +4,7 @@ pub mod Moves
 pub mod NextMoves
 pub mod Weights
 pub mod Sent
+pub mod Wider
+pub mod Effects
+pub mod Coming
+pub mod Leading

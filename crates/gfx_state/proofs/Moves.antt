@@ -30,11 +30,11 @@ close_ends run r bytes =
           rw ends (eats_refused run s bytes e)
     ] refl
 
-fold_refused : (run : Run) (r : Refusal) (pdus : List Pdu) → run.refusal ≡ Some r → fold apply run pdus ≡ run
+pub fold_refused : (run : Run) (r : Refusal) (messages : List (Pdu × ℕ)) → run.refusal ≡ Some r → fold apply run messages ≡ run
 fold_refused run r [] e = refl
 fold_refused run r (p ∷ ps) e = ap (λ z. fold apply z ps) (apply_refused run r p e) ∙ fold_refused run r ps e
 
-deliver_refused : (run : Run) (r : Refusal) (messages : Messages) → run.refusal ≡ Some r → deliver run messages ≡ run
+pub deliver_refused : (run : Run) (r : Refusal) (messages : Messages) → run.refusal ≡ Some r → deliver run messages ≡ run
 unfolding deliver
 deliver_refused run r messages e = ap (λ z. close z messages.refusal) (fold_refused run r messages.read e) ∙ close_refused run r messages.refusal e
 
@@ -175,18 +175,18 @@ after_gives held p m a none gave whole =
     ∙ ap (λ z. behind (Ok (Some p)) z held.rest) whole
 
 -- a channel message is opened
-keeps_opening : (c : Cursor) (p : List ℕ) → message_at c.left ≡ Ok None → next payload c.held ≡ Ok (Some p) → Keeps c (next_payload c (Ok (Some p)))
+keeps_opening : (c : Cursor) (p : List ℕ) → message_at c.left ≡ Ok None → next payload c.splitter ≡ Ok (Some p) → Keeps c (next_payload c (Ok (Some p)))
 unfolding next_payload settled after_held opened
 keeps_opening c p none gave =
     let g = next_gives c.splitter.refusal c.splitter.rest p gave in
-    let held = after_gives c.held p g.message g.after g.none gave g.whole in
+    let held = after_gives c.splitter p g.message g.after g.none gave g.whole in
     ap (λ z. after_held (deliver (run_at c) (messages_of p)) z.refusal z.rest) held
     ∙ sym (at_end c none ∙ ap (λ z. after_held (run_at c) z c.splitter.rest) g.none
     ∙ eats_whole (run_at c) c.splitter.rest g.message g.after refl front-nil g.whole
     ∙ ap (λ z. eats (opened (run_at c) z) g.after) g.reads)
 
 -- more bytes are needed
-keeps_needing : (c : Cursor) → message_at c.left ≡ Ok None → next payload c.held ≡ Ok None → Keeps c Needs
+keeps_needing : (c : Cursor) → message_at c.left ≡ Ok None → next payload c.splitter ≡ Ok None → Keeps c Needs
 unfolding after_held
 keeps_needing c none gave =
     let short = next_short c.splitter.refusal c.splitter.rest gave in
@@ -194,10 +194,24 @@ keeps_needing c none gave =
     ∙ eats_short (run_at c) c.splitter.rest refl short.1
 
 -- the framing is refused
-keeps_ending : (c : Cursor) (r : Refusal) → message_at c.left ≡ Ok None → next payload c.held ≡ Err r → Keeps c (Refuses r)
+keeps_ending : (c : Cursor) (r : Refusal) → message_at c.left ≡ Ok None → next payload c.splitter ≡ Err r → Keeps c (Refuses r)
 keeps_ending c r none gave = at_end c none ∙ next_refuses (run_at c) c.splitter.refusal c.splitter.rest r refl refl gave
 
-keeps_payload : (c : Cursor) (due : Result (Option (List ℕ)) Refusal) → message_at c.left ≡ Ok None → next payload c.held ≡ due → Keeps c (next_payload c due)
+-- a splitter that has refused keeps the run as it was
+kept_ending : (run : Run) (refusal : Option Refusal) (rest : List ℕ) (r : Refusal) → run.refusal ≡ None → run.rest ≡ [] → next_of payload refusal rest ≡ Err r
+    → (let held : Splitter = record { rest = rest; refusal = refusal } in after_held run (after_next payload held).refusal (after_next payload held).rest) ≡ after_held run refusal rest
+unfolding after_held behind close
+kept_ending run (Some s) rest r e empty refuses = refl
+kept_ending run None rest r e empty refuses =
+    ap (λ z. after_held run (behind z (front rest) rest).refusal (behind z (front rest) rest).rest) refuses
+    ∙ goes_on run (refuse run r) e ∙ sym (next_refuses run None rest r e empty refuses)
+
+pub settled_ending : (c : Cursor) (r : Refusal) → message_at c.left ≡ Ok None → next payload c.splitter ≡ Err r → settled (record c { splitter = after_next payload c.splitter }) ≡ settled c
+settled_ending c r none gave =
+    at_end (record c { splitter = after_next payload c.splitter }) none
+    ∙ kept_ending (run_at c) c.splitter.refusal c.splitter.rest r refl refl gave ∙ sym (at_end c none)
+
+keeps_payload : (c : Cursor) (due : Result (Option (List ℕ)) Refusal) → message_at c.left ≡ Ok None → next payload c.splitter ≡ due → Keeps c (next_payload c due)
 unfolding next_payload
 keeps_payload c (Ok (Some p)) none gave = keeps_opening c p none gave
 keeps_payload c (Ok None) none gave = keeps_needing c none gave
@@ -210,7 +224,7 @@ keeps_state c m (Err r) read stepped = keeps_refusing c m r read stepped
 keeps_message : (c : Cursor) (due : Result (Option (Pdu × ℕ)) Refusal) → message_at c.left ≡ due → Keeps c (next_message c due)
 unfolding next_message
 keeps_message c (Ok (Some m)) read = keeps_state c m (step c.state m.0) read refl
-keeps_message c (Ok None) read = keeps_payload c (next payload c.held) read refl
+keeps_message c (Ok None) read = keeps_payload c (next payload c.splitter) read refl
 keeps_message c (Err r) read = keeps_unread c r read
 
 keeps : (c : Cursor) → Keeps c (what_next c)
@@ -263,16 +277,16 @@ drained_by_none held gave =
     ap (λ z. is_some z || is_short (front held.rest)) short.0 ∙ ap is_short short.1
 
 -- a cursor that needs more bytes has none to give
-pub needs_nothing : (c : Cursor) → what_next c ≡ Needs → next payload c.held ≡ Ok None
+pub needs_nothing : (c : Cursor) → what_next c ≡ Needs → next payload c.splitter ≡ Ok None
 unfolding what_next next_message next_payload next_state
 needs_nothing c e =
-    elim (message_at c.left) as (λ q. next_message c q ≡ Needs → next payload c.held ≡ Ok None) [
-      | Ok o ↦ elim o as (λ q. next_message c (Ok q) ≡ Needs → next payload c.held ≡ Ok None) [
-        | Some m ↦ λ needs. elim (step c.state m.0) as (λ q. next_state c m.0 m.1 q ≡ Needs → next payload c.held ≡ Ok None) [
+    elim (message_at c.left) as (λ q. next_message c q ≡ Needs → next payload c.splitter ≡ Ok None) [
+      | Ok o ↦ elim o as (λ q. next_message c (Ok q) ≡ Needs → next payload c.splitter ≡ Ok None) [
+        | Some m ↦ λ needs. elim (step c.state m.0) as (λ q. next_state c m.0 m.1 q ≡ Needs → next payload c.splitter ≡ Ok None) [
           | Ok s ↦ λ none. absurd cc
           | Err r ↦ λ none. absurd cc
         ] needs
-        | None ↦ λ needs. elim (next payload c.held) as (λ q. next_payload c q ≡ Needs → q ≡ Ok None) [
+        | None ↦ λ needs. elim (next payload c.splitter) as (λ q. next_payload c q ≡ Needs → q ≡ Ok None) [
           | Ok o ↦ elim o as (λ q. next_payload c (Ok q) ≡ Needs → ◌≡◌ {A = Result (Option (List ℕ)) Refusal} (Ok q) (Ok None)) [
             | Some p ↦ λ none. absurd cc
             | None ↦ λ none. refl
@@ -316,14 +330,14 @@ same_state_applied c pdu size (Err r) = tt
 same_state_message : (c : Cursor) (due : Result (Option (Pdu × ℕ)) Refusal) → SameState c (next_message c due)
 unfolding next_message
 same_state_message c (Ok (Some m)) = same_state_applied c m.0 m.1 (step c.state m.0)
-same_state_message c (Ok None) = same_state_payload c (next payload c.held)
+same_state_message c (Ok None) = same_state_payload c (next payload c.splitter)
 same_state_message c (Err r) = tt
 
 same_state : (c : Cursor) → SameState c (what_next c)
 unfolding what_next
 same_state c = same_state_message c (message_at c.left)
 
-opens_state : (c d : Cursor) → what_next c ≡ Opens d → (d.state ≡ c.state) × (d.applied ≡ c.applied)
+pub opens_state : (c d : Cursor) → what_next c ≡ Opens d → (d.state ≡ c.state) × (d.applied ≡ c.applied)
 opens_state c d e = subst (SameState c) e (same_state c)
 
 -- moves without a message change neither the state nor the count

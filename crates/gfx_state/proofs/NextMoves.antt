@@ -28,15 +28,15 @@ unfolding what_next next_message
 what_next_unread c r read = ap (next_message c) read
 
 -- the end of a payload: what the splitter answers
-pub what_next_opens : (c : Cursor) (p : List ℕ) → message_at c.left ≡ Ok None → next payload c.held ≡ Ok (Some p) → what_next c ≡ Opens (record c { held = after_next payload c.held; left = p })
+pub what_next_opens : (c : Cursor) (p : List ℕ) → message_at c.left ≡ Ok None → next payload c.splitter ≡ Ok (Some p) → what_next c ≡ Opens (record c { splitter = after_next payload c.splitter; left = p })
 unfolding what_next next_message next_payload
 what_next_opens c p none gave = ap (next_message c) none ∙ ap (next_payload c) gave
 
-pub what_next_needs : (c : Cursor) → message_at c.left ≡ Ok None → next payload c.held ≡ Ok None → what_next c ≡ Needs
+pub what_next_needs : (c : Cursor) → message_at c.left ≡ Ok None → next payload c.splitter ≡ Ok None → what_next c ≡ Needs
 unfolding what_next next_message next_payload
 what_next_needs c none gave = ap (next_message c) none ∙ ap (next_payload c) gave
 
-pub what_next_ends : (c : Cursor) (r : Refusal) → message_at c.left ≡ Ok None → next payload c.held ≡ Err r → what_next c ≡ Refuses r
+pub what_next_ends : (c : Cursor) (r : Refusal) → message_at c.left ≡ Ok None → next payload c.splitter ≡ Err r → what_next c ≡ Refuses r
 unfolding what_next next_message next_payload
 what_next_ends c r none gave = ap (next_message c) none ∙ ap (next_payload c) gave
 

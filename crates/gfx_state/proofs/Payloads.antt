@@ -76,19 +76,19 @@ within_same (suc m) (suc n) (x ∷ xs) in_m in_n =
     elim (message_at (x ∷ xs)) as (λ r. message_at (x ∷ xs) ≡ r → found r (λ size. messages_within m (drop size (x ∷ xs))) ≡ found r (λ size. messages_within n (drop size (x ∷ xs)))) [
       | Ok o ↦ elim o as (λ q. message_at (x ∷ xs) ≡ Ok q → found (Ok q) (λ size. messages_within m (drop size (x ∷ xs))) ≡ found (Ok q) (λ size. messages_within n (drop size (x ∷ xs)))) [
         | None ↦ λ e. refl
-        | Some message ↦ λ e. ap (before message.0) (behind message.1 (message_at_size (x ∷ xs) message e))
+        | Some message ↦ λ e. ap (before message) (behind message.1 (message_at_size (x ∷ xs) message e))
       ]
       | Err r ↦ λ e. refl
     ] refl
 
 -- a message stands before those behind it
-pub messages_of_more : (bytes : List ℕ) (m : Pdu × ℕ) → message_at bytes ≡ Ok (Some m) → messages_of bytes ≡ before m.0 (messages_of (drop m.1 bytes))
+pub messages_of_more : (bytes : List ℕ) (m : Pdu × ℕ) → message_at bytes ≡ Ok (Some m) → messages_of bytes ≡ before m (messages_of (drop m.1 bytes))
 unfolding messages_within found
 messages_of_more [] m e = let none = message_at-nil in absurd cc
 messages_of_more (x ∷ xs) m e =
     let some : 0 < m.1 = message_at_size (x ∷ xs) m e in
     ap (λ z. found z (λ size. messages_within (length xs) (drop size (x ∷ xs)))) e
-    ∙ ap (before m.0) (within_same (length xs) (length (drop m.1 (x ∷ xs))) (drop m.1 (x ∷ xs)) (omega (arith, length-drop m.1 (x ∷ xs))) (omega arith))
+    ∙ ap (before m) (within_same (length xs) (length (drop m.1 (x ∷ xs))) (drop m.1 (x ∷ xs)) (omega (arith, length-drop m.1 (x ∷ xs))) (omega arith))
 
 -- nothing can be read behind a message that can't be
 pub messages_of_refused : (bytes : List ℕ) (r : Refusal) → message_at bytes ≡ Err r → messages_of bytes ≡ record { read = []; refusal = Some r }

@@ -23,7 +23,7 @@ pub eats-nil : (run : Run) → eats run [] ≡ run
 unfolding eats
 eats-nil run = refl
 
-eats_more : (run : Run) (x : ℕ) (xs : List ℕ) → eats run (x ∷ xs) ≡ eats (eat run x) xs
+pub eats_more : (run : Run) (x : ℕ) (xs : List ℕ) → eats run (x ∷ xs) ≡ eats (eat run x) xs
 unfolding eats
 eats_more run x xs = refl
 
@@ -32,7 +32,7 @@ eats_more run x xs = refl
 pub stays : (run next : Run) (r : Refusal) → run.refusal ≡ Some r → unless_refused run next ≡ run
 stays run next r e = rw e refl
 
-eat_refused : (run : Run) (r : Refusal) (x : ℕ) → run.refusal ≡ Some r → eat run x ≡ run
+pub eat_refused : (run : Run) (r : Refusal) (x : ℕ) → run.refusal ≡ Some r → eat run x ≡ run
 unfolding eat
 eat_refused run r x e = stays run _ r e
 
@@ -42,9 +42,9 @@ eats_refused run r (x ∷ xs) e =
     let same = eat_refused run r x e in
     eats_more run x xs ∙ ap (λ z. eats z xs) same ∙ eats_refused run r xs e
 
-pub apply_refused : (run : Run) (r : Refusal) (pdu : Pdu) → run.refusal ≡ Some r → apply run pdu ≡ run
+pub apply_refused : (run : Run) (r : Refusal) (message : Pdu × ℕ) → run.refusal ≡ Some r → apply run message ≡ run
 unfolding apply
-apply_refused run r pdu e = stays run _ r e
+apply_refused run r message e = stays run _ r e
 
 pub close_refused : (run : Run) (r : Refusal) (due : Option Refusal) → run.refusal ≡ Some r → close run due ≡ run
 unfolding close
@@ -56,24 +56,24 @@ close_refused run r (Some s) e = stays run _ r e
 pub goes_on : (run next : Run) → run.refusal ≡ None → unless_refused run next ≡ next
 goes_on run next e = rw e refl
 
-eat_judges : (run : Run) (x : ℕ) (f : Front) → run.refusal ≡ None → front (run.rest ++ x ∷ []) ≡ f → eat run x ≡ judge run (run.rest ++ x ∷ []) f
+pub eat_judges : (run : Run) (x : ℕ) (f : Front) → run.refusal ≡ None → front (run.rest ++ x ∷ []) ≡ f → eat run x ≡ judge run (run.rest ++ x ∷ []) f
 unfolding eat
 eat_judges run x f e found = goes_on run _ e ∙ ap (λ z. judge run (run.rest ++ x ∷ []) z) found
 
-eat_short : (run : Run) (x : ℕ) → run.refusal ≡ None → front (run.rest ++ x ∷ []) ≡ Short → eat run x ≡ record run { rest = run.rest ++ x ∷ [] }
+pub eat_short : (run : Run) (x : ℕ) → run.refusal ≡ None → front (run.rest ++ x ∷ []) ≡ Short → eat run x ≡ record run { rest = run.rest ++ x ∷ [] }
 unfolding judge
 eat_short run x e found = eat_judges run x Short e found
 
-eat_bad : (run : Run) (x : ℕ) → run.refusal ≡ None → front (run.rest ++ x ∷ []) ≡ Bad → eat run x ≡ refuse run ChannelLength
+pub eat_bad : (run : Run) (x : ℕ) → run.refusal ≡ None → front (run.rest ++ x ∷ []) ≡ Bad → eat run x ≡ refuse run ChannelLength
 unfolding judge
 eat_bad run x e found = eat_judges run x Bad e found
 
-eat_whole : (run : Run) (x : ℕ) (m a : List ℕ) → run.refusal ≡ None → front (run.rest ++ x ∷ []) ≡ Whole m a → eat run x ≡ opened (record run { rest = a }) (payload m)
+pub eat_whole : (run : Run) (x : ℕ) (m a : List ℕ) → run.refusal ≡ None → front (run.rest ++ x ∷ []) ≡ Whole m a → eat run x ≡ opened (record run { rest = a }) (payload m)
 unfolding judge
 eat_whole run x m a e found = eat_judges run x (Whole m a) e found
 
 -- the last byte of a channel message leaves nothing after it
-front_ends : (bytes m a : List ℕ) (x : ℕ) → front bytes ≡ Short → front (bytes ++ x ∷ []) ≡ Whole m a → a ≡ []
+pub front_ends : (bytes m a : List ℕ) (x : ℕ) → front bytes ≡ Short → front (bytes ++ x ∷ []) ≡ Whole m a → a ≡ []
 front_ends bytes m a x short whole =
     let f = front_whole (bytes ++ x ∷ []) m a whole in
     let message : length (take f.size (drop 4 (bytes ++ x ∷ []))) ≡ length m = ap length f.cut.message in
@@ -93,11 +93,11 @@ front_ends bytes m a x short whole =
 
 -- many bytes --------------------------------------------------------------------------------------
 
-regrouped : (xs : List ℕ) (x : ℕ) (ys : List ℕ) → (xs ++ x ∷ []) ++ ys ≡ xs ++ x ∷ ys
+pub regrouped : (xs : List ℕ) (x : ℕ) (ys : List ℕ) → (xs ++ x ∷ []) ++ ys ≡ xs ++ x ∷ ys
 regrouped xs x ys = append_assoc xs (x ∷ []) ys
 
 -- the beginning of too few bytes is too few
-front_fewer : (bytes more : List ℕ) → front (bytes ++ more) ≡ Short → front bytes ≡ Short
+pub front_fewer : (bytes more : List ℕ) → front (bytes ++ more) ≡ Short → front bytes ≡ Short
 front_fewer bytes more found =
     elim (front bytes) as (λ f. front bytes ≡ f → f ≡ Short) [
       | Short ↦ λ here. refl

@@ -22,22 +22,22 @@ use Rattle.gfx_state.proofs.Payloads.{messages_of_more, messages_of_none, messag
 use Rattle.gfx_state.proofs.Runs.{eats-nil, eats_whole}
 
 -- a message's own payload holds that message and no other
-messages_of-spelling : (pdu : Pdu) → IsCarried pdu → messages_of (spelling pdu) ≡ before pdu none_left
+pub messages_of-spelling : (pdu : Pdu) → IsCarried pdu → messages_of (spelling pdu) ≡ before (pdu, length (spelling pdu)) none_left
 messages_of-spelling pdu carried =
     let text = spelling pdu in
     let read : message_at text ≡ Ok (Some (pdu, length text)) =
     ap message_at (sym (append-nil text)) ∙ message_at-spelling pdu [] carried.fits in
     messages_of_more text (pdu, length text) read
-    ∙ ap (λ z. before pdu (messages_of z)) (drop_all (length text) text (omega arith))
-    ∙ ap (before pdu) (messages_of_none [] message_at-nil)
+    ∙ ap (λ z. before (pdu, length text) (messages_of z)) (drop_all (length text) text (omega arith))
+    ∙ ap (before (pdu, length text)) (messages_of_none [] message_at-nil)
 
 -- its effect on a run that stands between two channel messages
-deliver_one : (state next : State) (applied : ℕ) (pdu : Pdu) → step state pdu ≡ Ok next
-    → deliver (standing state applied) (before pdu none_left) ≡ standing next (next_count applied)
+pub deliver_one : (state next : State) (applied : ℕ) (pdu : Pdu) (size : ℕ) → step state pdu ≡ Ok next
+    → deliver (standing state applied) (before (pdu, size) none_left) ≡ standing next (next_count applied)
 unfolding deliver close apply took
-deliver_one state next applied pdu stepped = ap (took (standing state applied)) stepped
+deliver_one state next applied pdu size stepped = ap (took (standing state applied)) stepped
 
-opened_one : (run : Run) (p : List ℕ) (read : Result (List ℕ) Refusal) → read ≡ Ok p → opened run read ≡ deliver run (messages_of p)
+pub opened_one : (run : Run) (p : List ℕ) (read : Result (List ℕ) Refusal) → read ≡ Ok p → opened run read ≡ deliver run (messages_of p)
 unfolding opened
 opened_one run p read e = rw e refl
 
@@ -49,22 +49,22 @@ eats_one state next applied pdu more carried stepped =
     let back : ReadBack (spelling pdu) more = read_back (spelling pdu) more carried.short in
     eats_whole run (wrapped (spelling pdu) ++ more) back.message more refl front-nil back.whole
     ∙ ap (λ z. eats z more) (opened_one run (spelling pdu) (payload back.message) back.same
-    ∙ ap (deliver run) (messages_of-spelling pdu carried) ∙ deliver_one state next applied pdu stepped)
+    ∙ ap (deliver run) (messages_of-spelling pdu carried) ∙ deliver_one state next applied pdu (length (spelling pdu)) stepped)
 
-all_steps-cons : (state last : State) (pdu : Pdu) (pdus : List Pdu) → all_steps state (pdu ∷ pdus) ≡ Ok last
+pub all_steps-cons : (state last : State) (pdu : Pdu) (pdus : List Pdu) → all_steps state (pdu ∷ pdus) ≡ Ok last
     → (next : State) × (step state pdu ≡ Ok next) × (all_steps next pdus ≡ Ok last)
 unfolding all_steps
 all_steps-cons state last pdu pdus e = and_then_ok (step state pdu) (λ next. all_steps next pdus) last e
 
-all_steps-nil : (state last : State) → all_steps state [] ≡ Ok last → state ≡ last
+pub all_steps-nil : (state last : State) → all_steps state [] ≡ Ok last → state ≡ last
 unfolding all_steps
 all_steps-nil state last e = cc
 
-sent-cons : (pdu : Pdu) (pdus : List Pdu) → sent (pdu ∷ pdus) ≡ wrapped (spelling pdu) ++ sent pdus
+pub sent-cons : (pdu : Pdu) (pdus : List Pdu) → sent (pdu ∷ pdus) ≡ wrapped (spelling pdu) ++ sent pdus
 unfolding sent
 sent-cons pdu pdus = refl
 
-sent-nil : sent [] ≡ []
+pub sent-nil : sent [] ≡ []
 unfolding sent
 sent-nil = refl
 

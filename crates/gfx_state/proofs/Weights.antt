@@ -108,11 +108,11 @@ Lighter c (Takes pdu d) = weight d < weight c
 Lighter c Needs = Unit {0}
 Lighter c (Refuses r) = Unit {0}
 
-lighter_payload : (c : Cursor) (due : Result (Option (List ℕ)) Refusal) → next payload c.held ≡ due → Lighter c (next_payload c due)
+lighter_payload : (c : Cursor) (due : Result (Option (List ℕ)) Refusal) → next payload c.splitter ≡ due → Lighter c (next_payload c due)
 unfolding next_payload
 lighter_payload c (Ok (Some p)) gave =
     let g = next_gives c.splitter.refusal c.splitter.rest p gave in
-    let held = after_gives c.held p g.message g.after g.none gave g.whole in
+    let held = after_gives c.splitter p g.message g.after g.none gave g.whole in
     let sizes = length-front c.splitter.rest g.message g.after g.whole in
     let few = payload_size g.message p g.reads in
     rw held (omega arith)
@@ -130,7 +130,7 @@ lighter_state c m (Err r) read = tt
 lighter_message : (c : Cursor) (due : Result (Option (Pdu × ℕ)) Refusal) → message_at c.left ≡ due → Lighter c (next_message c due)
 unfolding next_message
 lighter_message c (Ok (Some m)) read = lighter_state c m (step c.state m.0) read
-lighter_message c (Ok None) read = lighter_payload c (next payload c.held) refl
+lighter_message c (Ok None) read = lighter_payload c (next payload c.splitter) refl
 lighter_message c (Err r) read = tt
 
 lighter : (c : Cursor) → Lighter c (what_next c)

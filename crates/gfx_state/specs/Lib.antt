@@ -1,7 +1,9 @@
 pub mod State
+pub mod Same
 pub mod Step
 pub mod Payload
 pub mod Run
 pub mod Cursor
 pub mod Codes
 pub mod Sending
+pub mod History

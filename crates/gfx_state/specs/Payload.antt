@@ -4,9 +4,10 @@ use Rattle.gfx_base.specs.declared.refusal.Refusal.{Refusal}
 use Rattle.gfx_pdu.specs.declared.pdu.Pdu.{Pdu}
 use Rattle.gfx_pdu.specs.Reading.{message_at}
 
--- the messages up to the first that can't be read, and the refusal of that one
+-- the messages up to the first that can't be read, each with its length on the wire (pduLength), and the
+-- refusal of that one
 pub record Messages : Type 0 where
-  pub read : List Pdu
+  pub read : List (Pdu × ℕ)
   pub refusal : Option Refusal
 
 -- no messages
@@ -14,13 +15,13 @@ abbrev pub none_left : Messages
 none_left = record { read = []; refusal = None }
 
 -- a message before others
-abbrev pub before : Pdu → Messages → Messages
-before pdu others = record { read = pdu ∷ others.read; refusal = others.refusal }
+abbrev pub before : Pdu × ℕ → Messages → Messages
+before message others = record { read = message ∷ others.read; refusal = others.refusal }
 
 -- what reading at the front found, and what stands behind so many bytes
 unfoldable pub found : Result (Option (Pdu × ℕ)) Refusal → (ℕ → Messages) → Messages
 found (Ok None) behind = none_left
-found (Ok (Some message)) behind = before message.0 (behind message.1)
+found (Ok (Some message)) behind = before message (behind message.1)
 found (Err r) behind = record { read = []; refusal = Some r }
 
 -- the messages from the front on, so many at most

@@ -37,8 +37,9 @@ unfoldable pub took : Run → Result State Refusal → Run
 took run (Ok state) = record run { state = state; applied = next_count run.applied }
 took run (Err r) = refuse run r
 
-unfoldable pub apply : Run → Pdu → Run
-apply run pdu = unless_refused run (took run (step run.state pdu))
+-- a message, with its length
+unfoldable pub apply : Run → Pdu × ℕ → Run
+apply run message = unless_refused run (took run (step run.state message.0))
 
 -- a message that can't be read, where there is one
 unfoldable pub close : Run → Option Refusal → Run

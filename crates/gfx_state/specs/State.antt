@@ -1,5 +1,5 @@
 -- What both ends keep of the graphics channel ([MS-RDPEGFX] 3.2.1 and 3.3.1).
-use Rattle.std.specs.Prelude.{ℕ, Option, None, false}
+use Rattle.std.specs.Prelude.{ℕ, Bool, false, Option, None}
 use Rattle.std.specs.FinMap as finmap
 use Rattle.gfx_bitmap_cache.specs.Slots.{Cached, cached}
 use Rattle.gfx_surface_map.specs.Shown.{Shown, nothing_shown}
@@ -14,6 +14,10 @@ pub record State : Type 0 where
   -- how many frames have ended, modulo 2^32
   pub decoded : ℕ
 
--- the state at the start
+-- the state at a start where this says whether the small limits bind the stores
+abbrev pub started : Bool → State
+started small = record { shown = nothing_shown; cache = cached finmap.empty small; frame = None; decoded = 0 }
+
+-- the state at the start of a stream: the large limits bind the stores
 abbrev pub fresh : State
-fresh = record { shown = nothing_shown; cache = cached finmap.empty false; frame = None; decoded = 0 }
+fresh = started false

@@ -1,8 +1,9 @@
 //! The state of the graphics channel, and what each message does to it: definitions and laws alone.
 //!
 //! The client, the server's planner and the program above speak of this one state and this one step,
-//! so there is nothing to prove equal between them. The functions here have no parameters and no
-//! work to do: each states a law of the definitions, and its contract is the law.
+//! so there is nothing to prove equal between them. Beside the run of a stream, which is what its bytes
+//! come to, stands its history: the messages applied, and the state after each. The functions here have
+//! no parameters and no work to do: each states a law of the definitions, and its contract is the law.
 #![tactic(auto)]
 
 mod caps;
@@ -10,5 +11,7 @@ mod laws;
 
 pub use caps::{FLAGS_SIZE, SMALL_CACHE, VERSION_8, VERSION_8_1, VERSION_10};
 pub use laws::{
-    pieces_are_the_whole, refusals_stay, sent_messages_are_their_steps, steps_keep_the_run,
+    histories_go_on, moves_make_the_history, pieces_are_the_whole, refusals_stay,
+    sent_messages_are_their_history, sent_messages_are_their_steps, steps_keep_the_run,
+    wider_states_accept_alike,
 };

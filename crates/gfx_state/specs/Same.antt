@@ -1,0 +1,17 @@
+-- Which states count as the same, and which accept more: this project's own rule.
+use Rattle.std.specs.Prelude.{◌≡◌, true}
+use Rattle.gfx_state.specs.State.{State}
+
+-- two states with equal surfaces and equal slots. The output and what is mapped to it, the open frame, the
+-- count of frames and the word small are not in it
+pub record Same (s t : State) : Type 0 where
+  pub surfaces : s.shown.surfaces ≡ t.shown.surfaces
+  pub slots : s.cache.slots ≡ t.cache.slots
+
+-- two states that are equal but for the word small, which the second has only where the first has it
+pub record Wider (s t : State) : Type 0 where
+  pub shown : s.shown ≡ t.shown
+  pub slots : s.cache.slots ≡ t.cache.slots
+  pub frame : s.frame ≡ t.frame
+  pub decoded : s.decoded ≡ t.decoded
+  pub only_small : t.cache.small ≡ true → s.cache.small ≡ true

@@ -1,5 +1,5 @@
 -- What reading, applying and opening come to for a client.
-use Rattle.std.proofs.Common.{◌≡◌, ℕ, ◌+◌, ◌<◌, ◌≤◌, suc, min, List, [], ◌∷◌, length, drop, Bool, true, false, ◌||◌, ◌==◌, Option, Some, None, is_some, if◌then◌else◌, Result, Ok, Err, refl, sym, ap, ◌∙◌, subst}
+use Rattle.std.proofs.Common.{◌≡◌, ℕ, List, [], length, drop, true, false, ◌||◌, ◌==◌, Some, None, is_some, if◌then◌else◌, Result, Ok, Err, refl, sym, ap, ◌∙◌, subst}
 use Rattle.std.proofs.lemmas.List.{drop-drop}
 use Rattle.gfx_base.specs.Memory.{next_count}
 use Rattle.gfx_base.specs.Outcome.{Gives, Applies}
@@ -8,23 +8,23 @@ use Rattle.gfx_base.specs.declared.answer.Cause.{Cause}
 use Rattle.gfx_base.specs.declared.answer.Cause.TheVariants as fault
 use Rattle.gfx_pdu.specs.declared.pdu.Pdu.{Pdu}
 use Rattle.gfx_pdu.specs.declared.pdu.Pdu.TheVariants as pdus
-use Rattle.gfx_pdu.specs.Reading.{message_at, next_pdu}
-use Rattle.gfx_segment.specs.Framing.{Splitter, holding, refused, next, after_next, payload, ended, Answers}
+use Rattle.gfx_pdu.specs.Reading.{next_pdu}
+use Rattle.gfx_segment.specs.Framing.{Splitter, next, after_next, payload, ended, Answers}
 use Rattle.gfx_state.specs.State.{State}
 use Rattle.gfx_state.specs.Step.{step}
-use Rattle.gfx_state.specs.Cursor.{Cursor, Opens, Needs, Refuses, what_next, Reaches, Here}
+use Rattle.gfx_state.specs.Cursor.{Cursor, Opens, Needs, Refuses, what_next, Reaches, Here, settled}
 use Rattle.gfx_state.specs.Cursor as cursor
-use Rattle.gfx_state.proofs.NextMoves.{what_next_takes, what_next_refuses, what_next_unread, what_next_opens, what_next_needs, what_next_ends, next_pdu_found, next_pdu_none, next_pdu_refused}
+use Rattle.gfx_state.proofs.NextMoves.{what_next_takes, what_next_refuses, what_next_unread, what_next_opens, what_next_needs, what_next_ends, next_pdu_found, next_pdu_refused}
 use Rattle.gfx_base.specs.Results.{check}
 use Rattle.gfx_base.specs.declared.refusal.Refusal.TheVariants.{ChannelTruncated}
 use Rattle.gfx_client.specs.declared.fault.ClientFault.{ClientFault}
 use Rattle.gfx_client.specs.declared.fault.ClientFault.TheVariants as faults
-use Rattle.gfx_state.proofs.Moves.{next_short, needs_nothing, after_next_none, after_next_fewer, Reaches-opens, Reaches-takes, Reaches-none}
+use Rattle.gfx_state.proofs.Moves.{settled_reaches, settled_ending, next_short, needs_nothing, after_next_none, after_next_fewer, Reaches-opens, Reaches-takes, Reaches-none}
 use Rattle.gfx_client.specs.declared.client.Client.{Client}
 use Rattle.gfx_client.specs.declared.stepped.Stepped.{Stepped}
 use Rattle.gfx_client.specs.declared.stepped.Stepped.TheVariants as stepped
 use Rattle.gfx_client.specs.Stepped.{stepped_by}
-use Rattle.gfx_client.specs.Client.{cursor_of, closed_by, TakesMessage, TakesOne, OpensMessage, OpensOne, Stays, IsAtPayloadEnd, Moves, MovesBy, Ends, Waits, Advances, Steps, end_of}
+use Rattle.gfx_client.specs.Client.{cursor_of, closed_by, TakesMessage, TakesOne, OpensMessage, OpensOne, IsAtPayloadEnd, Moves, Ends, Waits, Advances, Steps, end_of}
 
 -- taking a message ---------------------------------------------------------------------------------
 
@@ -34,32 +34,39 @@ unread client fault.Memory due = refl
 unread client (fault.Refused r) due = (what_next_unread (cursor_of client) r (next_pdu_refused client.payload client.at r due), refl)
 
 -- it isn't applied
-pub not_applied : (client : Client) (pdu : Pdu) (after : ℕ) (f : Cause Refusal) (screen : State) → next_pdu client.payload client.at ≡ Ok (Some (pdu, after)) → Applies (Err f) client.screen screen (step client.screen pdu) → TakesMessage (Err f) client (record client { screen = screen })
-not_applied client pdu after fault.Memory screen read same = ap (λ z. record client { screen = z }) same
-not_applied client pdu after (fault.Refused r) screen read due =
+pub not_applied : (client : Client) (pdu : Pdu) (after : ℕ) (f : Cause Refusal) (state : State) → next_pdu client.payload client.at ≡ Ok (Some (pdu, after)) → Applies (Err f) client.state state (step client.state pdu) → TakesMessage (Err f) client (record client { state = state })
+not_applied client pdu after fault.Memory state read same = ap (λ z. record client { state = z }) same
+not_applied client pdu after (fault.Refused r) state read due =
     let found = next_pdu_found client.payload client.at pdu after read in
-    (what_next_refuses (cursor_of client) pdu found.size r found.read due.0, ap (λ z. record client { screen = z }) due.1)
+    (what_next_refuses (cursor_of client) pdu found.size r found.read due.0, ap (λ z. record client { state = z }) due.1)
 
 -- it is applied
-pub taken : (client : Client) (pdu : Pdu) (after applied : ℕ) (screen : State) (stepped : Stepped) → next_pdu client.payload client.at ≡ Ok (Some (pdu, after)) → step client.screen pdu ≡ Ok screen → applied ≡ next_count client.applied → stepped ≡ stepped_by pdu → TakesOne client (record client { at = after; screen = screen; applied = applied }) stepped
-taken client pdu after applied screen stepped read stepping counted says =
+pub taken : (client : Client) (pdu : Pdu) (after applied : ℕ) (state : State) (stepped : Stepped) → next_pdu client.payload client.at ≡ Ok (Some (pdu, after)) → step client.state pdu ≡ Ok state → applied ≡ next_count client.applied → stepped ≡ stepped_by pdu → TakesOne client (record client { at = after; state = state; applied = applied }) stepped
+taken client pdu after applied state stepped read stepping counted says =
     let found = next_pdu_found client.payload client.at pdu after read in
     let left : drop found.size (drop client.at client.payload) ≡ drop after client.payload = drop-drop found.size client.at client.payload ∙ ap (λ z. drop z client.payload) (sym found.behind) in
     record {
       pdu = pdu;
       says = says;
-      takes = what_next_takes (cursor_of client) pdu found.size screen found.read stepping
-          ∙ ap (λ z. cursor.Takes pdu (record { held = client.splitter; left = z; state = screen; applied = next_count client.applied })) left
-          ∙ ap (λ z. cursor.Takes pdu (record { held = client.splitter; left = drop after client.payload; state = screen; applied = z })) (sym counted);
+      takes = what_next_takes (cursor_of client) pdu found.size state found.read stepping
+          ∙ ap (λ z. cursor.Takes pdu (record { splitter = client.splitter; left = z; state = state; applied = next_count client.applied })) left
+          ∙ ap (λ z. cursor.Takes pdu (record { splitter = client.splitter; left = drop after client.payload; state = state; applied = z })) (sym counted);
       closed = refl;
     }
 
 -- opening a channel message ------------------------------------------------------------------------
 
+-- a splitter that has refused
+kept : (client : Client) (r : Refusal) (held : Splitter) → IsAtPayloadEnd client → next payload client.splitter ≡ Err r → held ≡ after_next payload client.splitter
+    → settled (cursor_of (record client { splitter = held })) ≡ settled (cursor_of client)
+kept client r held end gave same =
+    ap (λ z. settled (record { splitter = z; left = (cursor_of client).left; state = client.state; applied = client.applied })) same
+    ∙ settled_ending (cursor_of client) r end gave
+
 pub not_opened : (client : Client) (f : Cause Refusal) (held : Splitter) → IsAtPayloadEnd client → Answers (Err f) client.splitter held (next payload client.splitter) (after_next payload client.splitter) → OpensMessage (Err f) client (record client { splitter = held })
 not_opened client fault.Memory held end same = ap (λ z. record client { splitter = z }) same
 not_opened client (fault.Refused r) held end due =
-    (what_next_ends (cursor_of client) r end due.0, record { state = refl; applied = refl; closed = refl })
+    (what_next_ends (cursor_of client) r end due.0, record { run = kept client r held end due.0 due.1; state = refl; applied = refl; closed = refl })
 
 -- no whole channel message is there: the splitter is as it was
 pub needs : (client : Client) (held : Splitter) → IsAtPayloadEnd client → Answers (Ok None) client.splitter held (next payload client.splitter) (after_next payload client.splitter) → (what_next (cursor_of client) ≡ Needs) × (record client { splitter = held } ≡ client)
@@ -73,7 +80,7 @@ opened client p held end due =
     let gave : next payload client.splitter ≡ Ok (Some p) = due.0 in
     record {
       opens = what_next_opens (cursor_of client) p end gave
-          ∙ ap (λ z. Opens (record { held = z; left = p; state = client.screen; applied = client.applied })) (sym due.1);
+          ∙ ap (λ z. Opens (record { splitter = z; left = p; state = client.state; applied = client.applied })) (sym due.1);
       fewer = rw due.1 (after_next_fewer client.splitter p gave);
       closed = refl;
     }
@@ -125,6 +132,7 @@ stopped_taking old mid new (fault.Refused r) m (refuses, same) =
         at = cursor_of mid;
         reaches = m.reaches;
         refuses = refuses;
+        run = ap (λ z. settled (cursor_of z)) same ∙ settled_reaches (cursor_of old) (cursor_of mid) [] m.reaches;
         state = ap (λ z. (cursor_of z).state) same ∙ unchanged.0;
         applied = ap (λ z. (cursor_of z).applied) same ∙ unchanged.1;
       },
@@ -140,6 +148,7 @@ stopped_opening old mid new (fault.Refused r) m (refuses, stays) =
         at = cursor_of mid;
         reaches = m.reaches;
         refuses = refuses;
+        run = stays.run ∙ settled_reaches (cursor_of old) (cursor_of mid) [] m.reaches;
         state = stays.state ∙ unchanged.0;
         applied = stays.applied ∙ unchanged.1;
       },
@@ -175,7 +184,7 @@ end_refused client r number none needed due counted =
 pub closing : (old mid : Client) (r : Refusal) (number : ℕ) → closed_by old ≡ None → Ends old mid r → number ≡ next_count mid.applied → Steps (closed_by old) (Err (faults.Refused number r)) old (record mid { closed = Some (faults.ClosedRefused number r) })
 closing old mid r number none e counted =
     rw none (
-      record { at = e.at; reaches = e.reaches; refuses = e.refuses; state = e.state; applied = e.applied },
+      record { at = e.at; reaches = e.reaches; refuses = e.refuses; run = e.run; state = e.state; applied = e.applied },
       counted ∙ ap next_count e.applied,
       refl,
     )

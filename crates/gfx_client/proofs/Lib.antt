@@ -1,1 +1,3 @@
 pub mod ClientLemmas
+pub mod Playing
+pub mod Bringing

@@ -7,7 +7,7 @@ use Rattle.gfx_base.specs.declared.answer.Cause.{Cause}
 use Rattle.gfx_base.specs.declared.answer.Cause.TheVariants as fault
 use Rattle.gfx_pdu.specs.declared.pdu.Pdu.{Pdu}
 use Rattle.gfx_pdu.specs.Reading.{message_at}
-use Rattle.gfx_state.specs.Cursor.{Cursor, given, Opens, Needs, Refuses, what_next, Reaches}
+use Rattle.gfx_state.specs.Cursor.{Cursor, given, Opens, Needs, Refuses, what_next, Reaches, settled}
 use Rattle.gfx_state.specs.Cursor as cursor
 use Rattle.gfx_client.specs.declared.client.Client.{Client}
 use Rattle.gfx_client.specs.declared.fault.ClientFault.{ClientFault}
@@ -21,7 +21,7 @@ abbrev pub cursor_of : Client → Cursor
 cursor_of client = record {
   splitter = client.splitter;
   left = drop client.at client.payload;
-  state = client.screen;
+  state = client.state;
   applied = client.applied;
 }
 
@@ -40,11 +40,12 @@ pub record Moves (old new : Client) (pdus : List Pdu) : Type 0 where
   pub reaches : Reaches (cursor_of old) pdus (cursor_of new)
   pub closed : closed_by new ≡ closed_by old
 
--- the message after this client's is refused
+-- the message after this client's is refused. What the splitter holds may have changed, but not the run
 pub record Ends (old new : Client) (r : Refusal) : Type 0 where
   pub at : Cursor
   pub reaches : Reaches (cursor_of old) [] at
   pub refuses : what_next at ≡ Refuses r
+  pub run : settled (cursor_of new) ≡ settled (cursor_of old)
   pub state : (cursor_of new).state ≡ (cursor_of old).state
   pub applied : (cursor_of new).applied ≡ (cursor_of old).applied
 
@@ -132,6 +133,7 @@ pub record OpensOne (old new : Client) : Type 0 where
 
 -- the client is as it was, but for the bytes that it has not used
 pub record Stays (old new : Client) : Type 0 where
+  pub run : settled (cursor_of new) ≡ settled (cursor_of old)
   pub state : (cursor_of new).state ≡ (cursor_of old).state
   pub applied : (cursor_of new).applied ≡ (cursor_of old).applied
   pub closed : closed_by new ≡ closed_by old

@@ -1,5 +1,6 @@
-ghost use Rattle.std.specs.Prelude.{◌≡◌, ◌≤◌, ◌<◌, length, Ok, Err, OnOk, IfOk, IfSome, IfNone, Some, None};
-ghost use Rattle.gfx_state.specs.Cursor.{before_all};
+ghost use Rattle.std.specs.Prelude.{◌≡◌, ℕ, ◌≤◌, List, [], ◌++◌, length, OnOk, OnErr, IfOk, None};
+ghost use Rattle.gfx_client.specs.Standing.{StandsFor, HasBrought, Brings, IsDrained, Plays, PlaysAll, ends_by};
+ghost use Rattle.gfx_state.specs.History.{Effect};
 ghost use Rattle.gfx_client.specs.Stepped.{stepped_by};
 
 use crate::fault::ClientFault;
@@ -22,7 +23,7 @@ pub struct Client {
     splitter: Splitter,
     payload: Bytes,
     at: usize,
-    screen: State,
+    state: State,
     applied: u64,
     closed: Option<ClientFault>,
 }
@@ -33,8 +34,9 @@ impl Client {
     /// A client at the start of a stream, which offers these versions.
     pub fn new(alloc: Global, offers: Offers) -> Result<Client, NoMemory>
         requires { length offers ≤ MOST_OFFERS }
-        ensures start { IfOk result (λ client. cursor_of client ≡ before_all) }
-        ensures open { IfOk result (λ client. closed_by client ≡ None) }
+        ensures stands { IfOk result (λ client. StandsFor client []) }
+        ensures brought { IfOk result (λ client. HasBrought client [] []) }
+        ensures drained { IfOk result IsDrained }
     {
         Ok(Client {
             alloc,
@@ -42,7 +44,7 @@ impl Client {
             splitter: Splitter::new(alloc),
             payload: Bytes::new(alloc),
             at: 0,
-            screen: State::new(alloc),
+            state: State::new(alloc, false),
             applied: 0,
             closed: None,
         })
@@ -50,7 +52,13 @@ impl Client {
 
     /// Takes the next bytes of the stream, cut anywhere. It never refuses them.
     pub fn take(&mut self, piece: &[u8]) -> Result<(), ClientFault>
-        ensures { Takes (closed_by self.old) result self.old self.new piece.now }
+        ensures takes { Takes (closed_by self.old) result self.old self.new piece.now }
+
+        // What it stood for, it stands for with the piece behind it.
+        ensures stands { OnOk result ((bytes : List ℕ) → StandsFor self.old bytes → StandsFor self.new (bytes ++ piece.now)) }
+        ensures brought { OnOk result ((bytes : List ℕ) (all : List Effect) → StandsFor self.old bytes → HasBrought self.old bytes all
+            → HasBrought self.new (bytes ++ piece.now) all) }
+        ensures kept { OnErr result ((bytes : List ℕ) → StandsFor self.old bytes → StandsFor self.new bytes) }
     {
         if let Some(fault) = self.closed {
             return Err(fault);
@@ -65,7 +73,12 @@ impl Client {
     /// Applies the next message. `Need` says that the bytes taken hold no further whole message and
     /// no refusal. The first fault closes the client.
     pub fn step(&mut self) -> Result<Stepped, ClientFault>
-        ensures { Steps (closed_by self.old) result self.old self.new }
+        ensures steps { Steps (closed_by self.old) result self.old self.new }
+
+        // Whatever it answers, it stands for the same bytes.
+        ensures stands { (bytes : List ℕ) → StandsFor self.old bytes → StandsFor self.new bytes }
+        ensures brings { (bytes : List ℕ) (all : List Effect) → HasBrought self.old bytes all
+            → Brings (closed_by self.old) result self.new bytes all }
     {
         if let Some(fault) = self.closed {
             return Err(fault);
@@ -84,10 +97,21 @@ impl Client {
         }
     }
 
+    /// Takes these bytes, and applies all messages that are whole then.
+    pub fn play(&mut self, piece: &[u8]) -> Result<(), ClientFault>
+        ensures { Plays (closed_by self.old) result self.old self.new piece.now }
+    {
+        self.take(piece)?;
+        self.play_all()
+    }
+
     /// The end of the stream: refused where a channel message isn't whole. It takes no memory.
     pub fn finish(&self) -> Result<(), ClientFault>
         requires { IsAtEnd self.now }
-        ensures { result ≡ end_of (closed_by self.now) (cursor_of self.now) }
+        ensures exact { result ≡ end_of (closed_by self.now) (cursor_of self.now) }
+
+        // The answer is the end of the run of its bytes.
+        ensures ends { (bytes : List ℕ) → StandsFor self.now bytes → result ≡ ends_by (closed_by self.now) bytes }
     {
         if let Some(fault) = self.closed {
             return Err(fault);
@@ -105,14 +129,14 @@ impl Client {
     pub fn surfaces(&self) -> &SurfaceMap
         ensures { result.now.shown ≡ (cursor_of self.now).state.shown }
     {
-        self.screen.surfaces()
+        self.state.surfaces()
     }
 
     /// The bitmaps as the messages so far have stored them.
     pub fn cache(&self) -> &Cache
         ensures { result.now ≡ (cursor_of self.now).state.cache }
     {
-        self.screen.cache()
+        self.state.cache()
     }
 
     /// How many messages were applied, up to the last value of a count.
@@ -120,6 +144,19 @@ impl Client {
         ensures { result ≡ (cursor_of self.now).applied }
     {
         self.applied
+    }
+
+    /// Applies all messages that the bytes taken hold whole.
+    fn play_all(&mut self) -> Result<(), ClientFault>
+        requires { closed_by self.old ≡ None }
+        ensures { (bytes : List ℕ) → StandsFor self.old bytes → PlaysAll result self.new bytes bytes }
+    {
+        'steps: loop {
+            match self.step()? {
+                Stepped::Need => return Ok(()),
+                Stepped::Applied | Stepped::Ended { .. } => {}
+            }
+        }
     }
 
     /// Applies the next message, and opens channel messages until there is one.
@@ -143,7 +180,7 @@ impl Client {
         let Some((pdu, after)) = read_pdu(self.alloc, self.payload.as_slice(), self.at)? else {
             return Ok(None);
         };
-        self.screen.apply(self.alloc, &pdu)?;
+        self.state.apply(self.alloc, &pdu)?;
         self.at = after;
         self.applied = self.applied.saturating_add(1);
         Ok(Some(stepped_by(&pdu)))

@@ -2,7 +2,9 @@
 //! draws its messages, one at a time, on its surfaces.
 //!
 //! In the pipe it stands above the framing, the messages and the surfaces, and below the program,
-//! which prints what it holds. What a message does is the step of `gfx_state`.
+//! which prints what it holds. What a message does is the step of `gfx_state`. A client keeps no byte
+//! that it has used; its contracts say which bytes it stands for, and what of their history it has
+//! brought about.
 #![tactic(auto)]
 
 mod client;

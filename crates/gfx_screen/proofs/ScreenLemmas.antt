@@ -1,5 +1,5 @@
 -- What each message does to the screen.
-use Rattle.std.proofs.Common.{◌≡◌, ℕ, true, false, Some, Result, Ok, Err, refl}
+use Rattle.std.proofs.Common.{◌≡◌, ℕ, Bool, true, false, Some, Result, Ok, Err, refl}
 use Rattle.std.specs.FinMap.{contains_key, get}
 use Rattle.gfx_base.specs.Format.{format_of}
 use Rattle.gfx_base.specs.Geometry.{lies_in, width_of, height_of}
@@ -14,7 +14,7 @@ use Rattle.gfx_base.specs.declared.refusal.Refusal.TheVariants.{CacheBudget}
 use Rattle.gfx_bitmap_cache.specs.Slots.{takes_slot, has_room, entry}
 use Rattle.gfx_bitmap_cache.proofs.Sound.{stored-full}
 use Rattle.gfx_surface.specs.Picture.{Picture}
-use Rattle.gfx_surface_map.specs.Surfaces.{is_size}
+use Rattle.gfx_surface_map.specs.Surfaces.{is_size, created}
 use Rattle.gfx_surface_map.specs.Shown.{Shown, surface_made}
 use Rattle.gfx_state.specs.State.{State}
 use Rattle.gfx_state.specs.Step.{showing, caching, surface_created, image_in, rect_stored}
@@ -26,11 +26,18 @@ showing_applies (Ok x) state shown due e = rw e refl
 showing_applies (Err Memory) state shown due same = λ i. record state { shown = same i }
 showing_applies (Err (Refused r)) state shown due (e, same) = (rw e refl, λ i. record state { shown = same i })
 
--- a surface that may be made is made
-pub surface_created_so : (state : State) (id width height byte : ℕ) (format : Format) → contains_key state.shown.surfaces id ≡ false → is_size width height ≡ true → format_of byte ≡ Some format
+-- what is checked of a surface before its format is checked again where it is made
+created_by : (known sized : Bool) (state : State) (id width height byte : ℕ) (format : Format) → contains_key state.shown.surfaces id ≡ known → is_size width height ≡ sized → format_of byte ≡ Some format
     → surface_created state id width height byte ≡ showing state (surface_made state.shown id width height format)
-unfolding surface_created and_then
-surface_created_so state id width height byte format fresh sides named = rw (fresh, sides, named) refl
+unfolding surface_created surface_made created showing and_then
+created_by true sized state id width height byte format known_is sized_is named = rw (named, known_is) refl
+created_by false true state id width height byte format known_is sized_is named = rw (named, known_is, sized_is) refl
+created_by false false state id width height byte format known_is sized_is named = rw (named, known_is, sized_is) refl
+
+pub surface_created_so : (state : State) (id width height byte : ℕ) (format : Format) → format_of byte ≡ Some format
+    → surface_created state id width height byte ≡ showing state (surface_made state.shown id width height format)
+surface_created_so state id width height byte format named =
+    created_by (contains_key state.shown.surfaces id) (is_size width height) state id width height byte format refl refl named
 
 -- no room for a rectangle's sides refuses to store it
 pub rect_stored_full : (state : State) (id key slot : ℕ) (rect : Rect) (picture : Picture) → get state.shown.surfaces id ≡ Some picture → takes_slot state.cache.small slot ≡ true

@@ -8,14 +8,6 @@ use gfx_base::{Bitmap, NoMemory, Pixel, Pixels, Rect};
 use gfx_surface::Surface;
 use std::alloc::Global;
 
-/// What a bitmap holds before it is read.
-const NO_PIXEL: Pixel = Pixel {
-    b: 0,
-    g: 0,
-    r: 0,
-    a: 0,
-};
-
 /// Whether a rectangle lies on a surface.
 pub fn lies_on(rect: Rect, surface: &Surface) -> bool
     ensures { result ≡ lies_in surface.now.width surface.now.height rect }
@@ -31,7 +23,7 @@ pub fn bitmap_of(alloc: Global, surface: &Surface, rect: Rect) -> Result<Bitmap,
 {
     let (width, height) = (rect.width(), rect.height());
     let area = usize::from(width) * usize::from(height);
-    let mut pixels = Vec::from_elem(alloc, NO_PIXEL, area)?;
+    let mut pixels = Vec::from_elem(alloc, Pixel::default(), area)?;
     surface.read(rect, &mut pixels);
     Ok(Bitmap {
         width,

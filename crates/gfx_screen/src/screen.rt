@@ -1,23 +1,22 @@
-ghost use Rattle.std.specs.Prelude.{◌≡◌, ◌*◌, ◌==◌, length};
+ghost use Rattle.std.specs.Prelude.{◌≡◌, ◌*◌, ◌==◌, true, false, None, Err, length};
 ghost use Rattle.std.specs.List.{list_all};
 ghost use Rattle.gfx_base.specs.Geometry.{lies_in, width_of, height_of};
-ghost use Rattle.gfx_base.specs.Outcome.{Applies};
+ghost use Rattle.gfx_base.specs.Format.{format_of};
+ghost use Rattle.gfx_base.specs.Outcome.{Applies, Performs};
 ghost use Rattle.gfx_surface_map.specs.Shown.{surface_deleted, surface_copied, output_reset, output_mapped};
-ghost use Rattle.gfx_state.specs.State.{fresh};
 ghost use Rattle.gfx_bitmap_cache.specs.Slots.{evicted};
+ghost use Rattle.gfx_state.specs.State.{started};
+ghost use Rattle.gfx_screen.specs.Memory.{takes_memory, WantsOnlyIf};
 ghost use Rattle.gfx_state.specs.Step.{step, showing, caching, frame_started, frame_ended, surface_created, rects_filled, data_painted, tiles_painted, rect_stored, slot_put, caps_confirmed};
 
 use crate::bitmaps::{bitmap_of, lies_on};
 use crate::flags::{has_small_cache, is_confirmed};
 use gfx_base::{BYTES_PER_PIXEL, Fault, Format, Pixel, Point, Rect, Refusal, all_lie_in};
 use gfx_bitmap_cache::Cache;
-use gfx_pdu::Pdu;
+use gfx_pdu::{Pdu, UNCOMPRESSED};
 use gfx_surface_map::{SurfaceMap, fits_size};
 use std::alloc::Global;
 use std::marker::Model;
-
-/// RDPGFX_CODECID_UNCOMPRESSED.
-const UNCOMPRESSED: u16 = 0;
 
 /// What the messages change: what is shown, the cache, the open frame and the count of frames. Contracts
 /// see the state. No surface has more pixels than there is room to copy.
@@ -45,13 +44,16 @@ impl Model for State {
 }
 
 impl State {
-    /// The state at the start of a stream. It takes no memory.
-    pub fn new(alloc: Global) -> State
-        ensures { result ≡ fresh }
+    /// The state at a start, where `small` says whether the small limits bind the stores: at the start
+    /// of a stream they don't. It takes no memory.
+    pub fn new(alloc: Global, small: bool) -> State
+        ensures { result ≡ started small }
     {
+        let mut cache = Cache::new(alloc);
+        cache.set_small(small);
         State {
             surfaces: SurfaceMap::new(alloc),
-            cache: Cache::new(alloc),
+            cache,
             frame: None,
             decoded: 0,
         }
@@ -81,7 +83,35 @@ impl State {
     /// Applies a message, or refuses it and changes nothing.
     #[tactic(auto, unfolding(gfx_state::specs::Step::step))]
     pub fn apply(&mut self, alloc: Global, pdu: &Pdu) -> Result<(), Fault>
-        ensures { Applies result self.old self.new (step self.old pdu.now) }
+        ensures applies { Applies result self.old self.new (step self.old pdu.now) }
+        ensures memory { WantsOnlyIf result (takes_memory pdu.now) }
+    {
+        match pdu {
+            Pdu::SurfaceToCache {
+                surface,
+                key,
+                slot,
+                rect,
+            } => self.store_rect(alloc, *surface, *key, *slot, *rect),
+            Pdu::CreateSurface {
+                id,
+                width,
+                height,
+                format,
+            } => self.create_surface(alloc, *id, *width, *height, *format),
+            Pdu::MapSurfaceToOutput { id, x, y, .. } => self.map_output(*id, *x, *y),
+            _ => match self.perform(pdu) {
+                Ok(()) => Ok(()),
+                Err(refusal) => Err(Fault::Refused(refusal)),
+            },
+        }
+    }
+
+    /// Applies a message that takes no memory, or refuses it and changes nothing.
+    #[tactic(auto, unfolding(gfx_state::specs::Step::step))]
+    fn perform(&mut self, pdu: &Pdu) -> Result<(), Refusal>
+        requires { takes_memory pdu.now ≡ false }
+        ensures { Performs result self.old self.new (step self.old pdu.now) }
     {
         match pdu {
             Pdu::WireToSurface1 {
@@ -103,60 +133,49 @@ impl State {
                 rect,
                 points,
             } => self.copy_rect(*source, *destination, *rect, points.as_slice()),
-            Pdu::SurfaceToCache {
-                surface,
-                key,
-                slot,
-                rect,
-            } => self.store_rect(alloc, *surface, *key, *slot, *rect),
             Pdu::CacheToSurface {
                 slot,
                 surface,
                 points,
             } => self.put_slot(*slot, *surface, points.as_slice()),
             Pdu::EvictCacheEntry { slot } => self.evict_slot(*slot),
-            Pdu::CreateSurface {
-                id,
-                width,
-                height,
-                format,
-            } => self.create_surface(alloc, *id, *width, *height, *format),
             Pdu::DeleteSurface { id } => self.delete_surface(*id),
             Pdu::StartFrame { frame, .. } => self.start_frame(*frame),
             Pdu::EndFrame { frame } => self.end_frame(*frame),
             Pdu::ResetGraphics { width, height, .. } => self.reset_output(*width, *height),
-            Pdu::MapSurfaceToOutput { id, x, y, .. } => self.map_output(*id, *x, *y),
             Pdu::CapsConfirm { version, payload } => {
                 self.confirm_caps(*version, payload.as_slice())
             }
-            Pdu::DeleteEncodingContext { .. } => Err(Fault::Refused(Refusal::PduUnknown)),
+            Pdu::DeleteEncodingContext { .. } => Err(Refusal::PduUnknown),
+            Pdu::SurfaceToCache { .. }
+            | Pdu::CreateSurface { .. }
+            | Pdu::MapSurfaceToOutput { .. } => unreachable!(),
         }
     }
 
     #[tactic(auto, unfolding(gfx_state::specs::Step::frame_started, gfx_base::specs::Results::and_then))]
-    fn start_frame(&mut self, frame: u32) -> Result<(), Fault>
-        ensures { Applies result self.old self.new (frame_started self.old frame) }
+    fn start_frame(&mut self, frame: u32) -> Result<(), Refusal>
+        ensures { Performs result self.old self.new (frame_started self.old frame) }
     {
         if self.frame.is_some() {
-            return Err(Fault::Refused(Refusal::FrameOpen));
+            return Err(Refusal::FrameOpen);
         }
         self.frame = Some(frame);
         Ok(())
     }
 
     #[tactic(auto, unfolding(gfx_state::specs::Step::frame_ended, gfx_base::specs::Results::and_then))]
-    fn end_frame(&mut self, frame: u32) -> Result<(), Fault>
-        ensures { Applies result self.old self.new (frame_ended self.old frame) }
+    fn end_frame(&mut self, frame: u32) -> Result<(), Refusal>
+        ensures { Performs result self.old self.new (frame_ended self.old frame) }
     {
         if self.frame != Some(frame) {
-            return Err(Fault::Refused(Refusal::FrameMismatch));
+            return Err(Refusal::FrameMismatch);
         }
         self.frame = None;
         self.decoded = self.decoded.wrapping_add(1);
         Ok(())
     }
 
-    #[tactic(auto, unfolding(gfx_state::specs::Step::surface_created, gfx_base::specs::Results::and_then))]
     fn create_surface(
         &mut self,
         alloc: Global,
@@ -167,28 +186,37 @@ impl State {
     ) -> Result<(), Fault>
         ensures { Applies result self.old self.new (surface_created self.old id width height format) }
     {
+        match Format::from_byte(format) {
+            Some(format) => self.surfaces.create(alloc, id, width, height, format),
+            None => Err(Fault::Refused(self.refuse_format(id, width, height, format))),
+        }
+    }
+
+    /// Why a surface of no format is refused: the id and the sides come first.
+    #[tactic(auto, unfolding(gfx_state::specs::Step::surface_created, gfx_base::specs::Results::and_then))]
+    fn refuse_format(&self, id: u16, width: u16, height: u16, format: u8) -> Refusal
+        requires { format_of format ≡ None }
+        ensures { surface_created self.now id width height format ≡ Err result }
+    {
         if self.surfaces.contains(id) {
-            return Err(Fault::Refused(Refusal::SurfaceExists));
+            return Refusal::SurfaceExists;
         }
         if !fits_size(width, height) {
-            return Err(Fault::Refused(Refusal::SurfaceSize));
+            return Refusal::SurfaceSize;
         }
-        let Some(format) = Format::from_byte(format) else {
-            return Err(Fault::Refused(Refusal::PixelFormat));
-        };
-        self.surfaces.create(alloc, id, width, height, format)
+        Refusal::PixelFormat
     }
 
     #[tactic(auto, unfolding(gfx_state::specs::Step::rects_filled, gfx_base::specs::Results::and_then))]
-    fn fill_rects(&mut self, id: u16, colour: Pixel, rects: &[Rect]) -> Result<(), Fault>
-        ensures { Applies result self.old self.new (rects_filled self.old id colour rects.now) }
+    fn fill_rects(&mut self, id: u16, colour: Pixel, rects: &[Rect]) -> Result<(), Refusal>
+        ensures { Performs result self.old self.new (rects_filled self.old id colour rects.now) }
     {
         let Some(surface) = self.surfaces.get(id) else {
-            return Err(Fault::Refused(Refusal::NoSurface));
+            return Err(Refusal::NoSurface);
         };
         let (width, height) = surface.size();
         if !all_lie_in(rects, width, height) {
-            return Err(Fault::Refused(Refusal::RectOutside));
+            return Err(Refusal::RectOutside);
         }
         self.surfaces.fill(id, rects, colour);
         Ok(())
@@ -203,24 +231,23 @@ impl State {
         format: u8,
         rect: Rect,
         payload: &[u8],
-    ) -> Result<(), Fault>
-        ensures { Applies result self.old self.new (data_painted self.old id codec format rect payload.now) }
+    ) -> Result<(), Refusal>
+        ensures { Performs result self.old self.new (data_painted self.old id codec format rect payload.now) }
     {
         let Some(surface) = self.surfaces.get(id) else {
-            return Err(Fault::Refused(Refusal::NoSurface));
+            return Err(Refusal::NoSurface);
         };
-        let (width, height) = surface.size();
         if codec != UNCOMPRESSED {
-            return Err(Fault::Refused(Refusal::CodecRefused));
+            return Err(Refusal::CodecRefused);
         }
         let Some(format) = Format::from_byte(format) else {
-            return Err(Fault::Refused(Refusal::PixelFormat));
+            return Err(Refusal::PixelFormat);
         };
-        if !rect.lies_in(width, height) {
-            return Err(Fault::Refused(Refusal::RectOutside));
+        if !lies_on(rect, surface) {
+            return Err(Refusal::RectOutside);
         }
         if !has_length(payload, rect) {
-            return Err(Fault::Refused(Refusal::PayloadLength));
+            return Err(Refusal::PayloadLength);
         }
         self.surfaces.put_bytes(id, rect, format, payload);
         Ok(())
@@ -228,23 +255,20 @@ impl State {
 
     /// No codec of this message is built yet.
     #[tactic(auto, unfolding(gfx_state::specs::Step::tiles_painted, gfx_base::specs::Results::and_then))]
-    fn paint_tiles(&mut self, id: u16) -> Result<(), Fault>
-        ensures { Applies result self.old self.new (tiles_painted self.old id) }
+    fn paint_tiles(&mut self, id: u16) -> Result<(), Refusal>
+        ensures { Performs result self.old self.new (tiles_painted self.old id) }
     {
         if !self.surfaces.contains(id) {
-            return Err(Fault::Refused(Refusal::NoSurface));
+            return Err(Refusal::NoSurface);
         }
-        Err(Fault::Refused(Refusal::CodecRefused))
+        Err(Refusal::CodecRefused)
     }
 
     #[tactic(auto, unfolding(gfx_state::specs::Step::showing, gfx_base::specs::Results::and_then))]
-    fn copy_rect(&mut self, from: u16, to: u16, rect: Rect, points: &[Point]) -> Result<(), Fault>
-        ensures { Applies result self.old self.new (showing self.old (surface_copied self.old.shown from to rect points.now)) }
+    fn copy_rect(&mut self, from: u16, to: u16, rect: Rect, points: &[Point]) -> Result<(), Refusal>
+        ensures { Performs result self.old self.new (showing self.old (surface_copied self.old.shown from to rect points.now)) }
     {
-        match self.surfaces.copy(from, to, rect, points) {
-            Ok(()) => Ok(()),
-            Err(refusal) => Err(Fault::Refused(refusal)),
-        }
+        self.surfaces.copy(from, to, rect, points)
     }
 
     #[tactic(auto, unfolding(gfx_state::specs::Step::rect_stored, gfx_state::specs::Step::caching, gfx_base::specs::Results::and_then))]
@@ -276,58 +300,43 @@ impl State {
     }
 
     #[tactic(auto, unfolding(gfx_state::specs::Step::slot_put, gfx_state::specs::Step::showing, gfx_base::specs::Results::and_then))]
-    fn put_slot(&mut self, slot: u16, id: u16, points: &[Point]) -> Result<(), Fault>
-        ensures { Applies result self.old self.new (slot_put self.old slot id points.now) }
+    fn put_slot(&mut self, slot: u16, id: u16, points: &[Point]) -> Result<(), Refusal>
+        ensures { Performs result self.old self.new (slot_put self.old slot id points.now) }
     {
-        let bitmap = match self.cache.show(slot) {
-            Ok(bitmap) => bitmap,
-            Err(refusal) => return Err(Fault::Refused(refusal)),
-        };
-        match self.surfaces.put(id, bitmap, points) {
-            Ok(()) => Ok(()),
-            Err(refusal) => Err(Fault::Refused(refusal)),
-        }
+        let bitmap = self.cache.show(slot)?;
+        self.surfaces.put(id, bitmap, points)
     }
 
     #[tactic(auto, unfolding(gfx_state::specs::Step::caching, gfx_base::specs::Results::and_then))]
-    fn evict_slot(&mut self, slot: u16) -> Result<(), Fault>
-        ensures { Applies result self.old self.new (caching self.old (evicted self.old.cache slot)) }
+    fn evict_slot(&mut self, slot: u16) -> Result<(), Refusal>
+        ensures { Performs result self.old self.new (caching self.old (evicted self.old.cache slot)) }
     {
-        match self.cache.evict(slot) {
-            Ok(()) => Ok(()),
-            Err(refusal) => Err(Fault::Refused(refusal)),
-        }
+        self.cache.evict(slot)
     }
 
     #[tactic(auto, unfolding(gfx_state::specs::Step::caps_confirmed, gfx_base::specs::Results::and_then))]
-    fn confirm_caps(&mut self, version: u32, flags: &[u8]) -> Result<(), Fault>
-        ensures { Applies result self.old self.new (caps_confirmed self.old version flags.now) }
+    fn confirm_caps(&mut self, version: u32, flags: &[u8]) -> Result<(), Refusal>
+        ensures { Performs result self.old self.new (caps_confirmed self.old version flags.now) }
     {
         if !is_confirmed(version, flags) {
-            return Err(Fault::Refused(Refusal::CapsVersion));
+            return Err(Refusal::CapsVersion);
         }
         self.cache.set_small(has_small_cache(flags));
         Ok(())
     }
 
     #[tactic(auto, unfolding(gfx_state::specs::Step::showing, gfx_base::specs::Results::and_then))]
-    fn delete_surface(&mut self, id: u16) -> Result<(), Fault>
-        ensures { Applies result self.old self.new (showing self.old (surface_deleted self.old.shown id)) }
+    fn delete_surface(&mut self, id: u16) -> Result<(), Refusal>
+        ensures { Performs result self.old self.new (showing self.old (surface_deleted self.old.shown id)) }
     {
-        match self.surfaces.delete(id) {
-            Ok(()) => Ok(()),
-            Err(refusal) => Err(Fault::Refused(refusal)),
-        }
+        self.surfaces.delete(id)
     }
 
     #[tactic(auto, unfolding(gfx_state::specs::Step::showing, gfx_base::specs::Results::and_then))]
-    fn reset_output(&mut self, width: u32, height: u32) -> Result<(), Fault>
-        ensures { Applies result self.old self.new (showing self.old (output_reset self.old.shown width height)) }
+    fn reset_output(&mut self, width: u32, height: u32) -> Result<(), Refusal>
+        ensures { Performs result self.old self.new (showing self.old (output_reset self.old.shown width height)) }
     {
-        match self.surfaces.reset(width, height) {
-            Ok(()) => Ok(()),
-            Err(refusal) => Err(Fault::Refused(refusal)),
-        }
+        self.surfaces.reset(width, height)
     }
 
     #[tactic(auto, unfolding(gfx_state::specs::Step::showing, gfx_base::specs::Results::and_then))]

@@ -1,4 +1,4 @@
-use Rattle.std.proofs.Common.{[], Err, sym, ap, ◌∙◌, subst}
+use Rattle.std.proofs.Common.{[], sym, subst}
 use Rattle.std.proofs.lemmas.Result.{err_from_is_err_and}
 use Rattle.gfx_client.specs.Client.{Moves}
 use Rattle.gfx_client.proofs.ClientLemmas.{not_moved, moved_on, moved_by, waits, stopped_taking, stopped_opening}

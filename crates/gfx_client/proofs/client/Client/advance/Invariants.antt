@@ -1,4 +1,4 @@
-use Rattle.std.proofs.Common.{ℕ, [], length}
+use Rattle.std.proofs.Common.{[], length}
 use Rattle.gfx_client.specs.Client.{cursor_of, Moves}
 use Rattle.gfx_client.proofs.client.Client.advance.Given as goal
 

@@ -1,4 +1,3 @@
-use Rattle.std.proofs.Common.{refl, sym, ap, ◌∙◌}
 use Rattle.std.proofs.lemmas.Result.{err_from_is_err_and}
 use Rattle.gfx_client.proofs.ClientLemmas.{not_opened, needs, opened}
 use Rattle.gfx_client.proofs.client.Client.open_message.Goals as goal

@@ -21,9 +21,9 @@ pub returns-in_err-apply : goal.returns-in_err-apply
 returns-in_err-apply c =
     let p = err_from_is_err_and c.from_residual-in_err-apply.result c.from_residual-in_err-apply.ensures.1 in
     let read = ap (λ (z : List ℕ). next_pdu z c.args.self.now.at) (sym c.as_slice.ensures) ∙ c.in_ok-pdu.ensures.value in
-    rw (p.1, p.2) (not_applied c.args.self.now c.in-Some.pdu c.in-Some.after c.in_err-apply.field-0.0 c.apply.new.self (rw c.in-Some.is at read) c.in_err-apply.ensures)
+    rw (p.1, p.2) (not_applied c.args.self.now c.in-Some.pdu c.in-Some.after c.in_err-apply.field-0.0 c.apply.new.self (rw c.in-Some.is at read) c.in_err-apply.ensures.applies)
 
 pub returns : goal.returns
 returns c =
     let read = ap (λ (z : List ℕ). next_pdu z c.args.self.now.at) (sym c.as_slice.ensures) ∙ c.in_ok-pdu.ensures.value in
-    taken c.args.self.now c.in-Some.pdu c.in-Some.after _ c.apply.new.self _ (rw c.in-Some.is at read) c.in_ok-apply.ensures c.saturating_add-self.ensures c.stepped_by.ensures
+    taken c.args.self.now c.in-Some.pdu c.in-Some.after _ c.apply.new.self _ (rw c.in-Some.is at read) c.in_ok-apply.ensures.applies c.saturating_add-self.ensures c.stepped_by.ensures

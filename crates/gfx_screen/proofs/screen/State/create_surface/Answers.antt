@@ -1,4 +1,4 @@
-use Rattle.std.proofs.Common.{◌∙◌, sym}
+use Rattle.std.proofs.Common.{sym, ◌∙◌}
 use Rattle.gfx_surface_map.proofs.RoomLemmas.{room_made}
 use Rattle.gfx_state.specs.State.{State}
 use Rattle.gfx_screen.proofs.ScreenLemmas.{showing_applies, surface_created_so}
@@ -8,12 +8,8 @@ pub invariant_of-self : goal.invariant_of-self
 invariant_of-self c =
     room_made c.create.result c.self.inside.surfaces c.create.new.self _ _ _ _ c.create.ensures.made c.create.ensures.room c.create.ensures.enough c.self.invariant
 
-pub returns : goal.returns
-returns c =
+pub returns-in-Some : goal.returns-in-Some
+returns-in-Some c =
     let state : State = record { shown = c.self.inside.surfaces.shown; cache = c.self.inside.cache; frame = c.self.inside.frame; decoded = c.self.inside.decoded } in
-    rw (
-      ← c.self.view_is,
-      surface_created_so state c.args.id c.args.width c.args.height c.args.format c.in-Some.format
-          (sym c.contains.ensures ∙ c.if-contains.false) (sym c.fits_size.ensures ∙ c.if-not-fits_size.false) (sym c.from_byte.ensures ∙ c.in-Some.is),
-    )
+    rw (← c.self.view_is, surface_created_so state c.args.id c.args.width c.args.height c.args.format c.in-Some.format (sym c.from_byte.ensures ∙ c.in-Some.is))
     (showing_applies c.create.result state c.create.new.self.shown _ c.create.ensures.made)

@@ -12,4 +12,4 @@ invariant_of-self c =
     let drawn = rw found at c.fill.ensures in
     room_drawn c.self.inside.surfaces c.fill.new.self c.args.id picture _ found
     (painted-width picture c.args.rects.now c.args.colour) (painted-height picture c.args.rects.now c.args.colour)
-    (ap (λ (k : Kept). k.shown.surfaces) drawn) (ap (λ (k : Kept). k.room) drawn) c.self.invariant
+    (ap (λ (k : SurfaceMap). k.shown.surfaces) drawn) (ap (λ (k : SurfaceMap). k.room) drawn) c.self.invariant

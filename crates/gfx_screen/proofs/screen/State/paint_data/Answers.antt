@@ -12,4 +12,4 @@ invariant_of-self c =
     let drawn = rw found at c.put_bytes.ensures in
     room_drawn c.self.inside.surfaces c.put_bytes.new.self c.args.id picture _ found
     (overlaid-width picture _ _) (overlaid-height picture _ _)
-    (ap (λ (k : Kept). k.shown.surfaces) drawn) (ap (λ (k : Kept). k.room) drawn) c.self.invariant
+    (ap (λ (k : SurfaceMap). k.shown.surfaces) drawn) (ap (λ (k : SurfaceMap). k.room) drawn) c.self.invariant

@@ -1,0 +1,91 @@
+-- What a client has brought about, through its calls.
+use Rattle.std.proofs.Common.{◌≡◌, List, [], ◌∷◌, ◌++◌, map, ℕ, Option, Some, None, Ok, Err, refl, sym, ap, ◌∙◌, append_assoc}
+use Rattle.std.proofs.lemmas.List.{append-nil}
+use Rattle.gfx_base.specs.declared.refusal.Refusal.{Refusal}
+use Rattle.gfx_pdu.specs.declared.pdu.Pdu.{Pdu}
+use Rattle.gfx_client.specs.declared.client.Client.{Client}
+use Rattle.gfx_client.specs.declared.fault.ClientFault.{ClientFault}
+use Rattle.gfx_client.specs.declared.fault.ClientFault.TheVariants as fault
+use Rattle.gfx_client.specs.declared.stepped.Stepped.{Stepped}
+use Rattle.gfx_client.specs.declared.stepped.Stepped.TheVariants as stepped
+use Rattle.gfx_client.specs.Client.{cursor_of, Advances, Moves, MovesBy, Ends}
+use Rattle.gfx_client.specs.Stepped.{stepped_by}
+use Rattle.gfx_client.specs.Standing.{StandsFor, HasBrought, BringsNext, Brings, IsDrained}
+use Rattle.gfx_state.specs.Cursor.{Cursor, given, before_all, Reaches}
+use Rattle.gfx_state.specs.Run.{begun, run_of}
+use Rattle.gfx_state.specs.History.{Effect, history, history_of, state_after, coming}
+use Rattle.gfx_state.proofs.Effects.{history-nil, history-append}
+use Rattle.gfx_state.proofs.Coming.{coming_before_all, coming-given, coming_reaches, coming_needs, coming_refuses}
+
+pub brought_new : (client : Client) → cursor_of client ≡ before_all → HasBrought client [] []
+brought_new client new = record { is = history-nil begun ∙ sym (ap coming new ∙ coming_before_all) }
+
+pub brought_taken : (old new : Client) (bytes piece : List ℕ) (all : List Effect) → cursor_of new ≡ given (cursor_of old) piece → StandsFor old bytes → HasBrought old bytes all → HasBrought new (bytes ++ piece) all
+brought_taken old new bytes piece all took s b = record {
+  is = history-append begun bytes piece
+      ∙ ap (λ z. z ++ history (run_of bytes) piece) b.is
+      ∙ append_assoc all (coming (cursor_of old)) (history (run_of bytes) piece)
+      ∙ ap (λ z. all ++ (coming (cursor_of old) ++ history z piece)) (sym s.run)
+      ∙ ap (λ z. all ++ z) (sym (ap coming took ∙ coming-given (cursor_of old) piece));
+}
+
+-- a message is applied ---------------------------------------------------------------------------------------
+
+-- the one effect of one message
+one_effect : (es : List Effect) (pdu : Pdu) → map (λ (e : Effect). e.pdu) es ≡ pdu ∷ [] → (e : Effect) × (es ≡ e ∷ []) × (e.pdu ≡ pdu)
+one_effect [] pdu same = absurd cc
+one_effect (e ∷ []) pdu same = (e, refl, cc)
+one_effect (e ∷ f ∷ es) pdu same = absurd cc
+
+brought_next : (old new : Client) (said : Stepped) (bytes : List ℕ) (all : List Effect) → MovesBy old new said → HasBrought old bytes all → BringsNext new bytes all said
+brought_next old new said bytes all m b =
+    let done = coming_reaches (cursor_of old) (cursor_of new) (m.pdu ∷ []) m.moves.reaches in
+    let one = one_effect done.all m.pdu done.messages in
+    record {
+      next = one.0;
+      says = m.says ∙ ap stepped_by (sym one.2);
+      state = done.state ∙ ap (state_after (cursor_of old).state) one.1;
+      brought = record {
+        is = b.is ∙ ap (λ z. all ++ z) (done.first ∙ ap (λ z. z ++ coming (cursor_of new)) one.1)
+            ∙ sym (append_assoc all (one.0 ∷ []) (coming (cursor_of new)));
+      };
+    }
+
+-- no message is applied ----------------------------------------------------------------------------------------
+
+no_effect : (es : List Effect) → map (λ (e : Effect). e.pdu) es ≡ [] → es ≡ []
+no_effect [] none = refl
+no_effect (e ∷ es) none = absurd cc
+
+-- moves without a message bring nothing about
+still_coming : (from to : Cursor) → Reaches from [] to → coming from ≡ coming to
+still_coming from to moves =
+    let done = coming_reaches from to [] moves in
+    done.first ∙ ap (λ z. z ++ coming to) (no_effect done.all done.messages)
+
+brought_on : (old new : Client) (bytes : List ℕ) (all : List Effect) → Reaches (cursor_of old) [] (cursor_of new) → HasBrought old bytes all → HasBrought new bytes all
+brought_on old new bytes all moves b = record { is = b.is ∙ ap (λ z. all ++ z) (still_coming (cursor_of old) (cursor_of new) moves) }
+
+-- what a step answers --------------------------------------------------------------------------------------------
+
+pub brings_said : (closed : Option ClientFault) (old new : Client) (said : Stepped) (bytes : List ℕ) (all : List Effect) → closed ≡ None → Advances (Ok said) old new → HasBrought old bytes all → Brings closed (Ok said) new bytes all
+brings_said (Some f) old new said bytes all none a b = absurd cc
+brings_said None old new stepped.Need bytes all none w b =
+    let on = brought_on old new bytes all w.moves.reaches b in
+    (on, on.is ∙ ap (λ z. all ++ z) (coming_needs (cursor_of new) w.needs) ∙ append-nil all)
+brings_said None old new stepped.Applied bytes all none m b = brought_next old new stepped.Applied bytes all m b
+brings_said None old new (stepped.Ended frame) bytes all none m b = brought_next old new (stepped.Ended frame) bytes all m b
+
+pub brings_refused : (closed : Option ClientFault) (old mid new : Client) (number : ℕ) (r : Refusal) (bytes : List ℕ) (all : List Effect) → closed ≡ None → Ends old mid r → HasBrought old bytes all → Brings closed (Err (fault.Refused number r)) new bytes all
+brings_refused (Some f) old mid new number r bytes all none e b = absurd cc
+brings_refused None old mid new number r bytes all none e b =
+    b.is ∙ ap (λ z. all ++ z) (still_coming (cursor_of old) e.at e.reaches ∙ coming_refuses e.at r e.refuses) ∙ append-nil all
+
+pub brings_none : (closed : Option ClientFault) (old mid new : Client) (bytes : List ℕ) (all : List Effect) → closed ≡ None → Moves old mid [] → cursor_of new ≡ cursor_of mid → HasBrought old bytes all → Brings closed (Err fault.Memory) new bytes all
+brings_none (Some f) old mid new bytes all none m same b = absurd cc
+brings_none None old mid new bytes all none m same b =
+    record { is = (brought_on old mid bytes all m.reaches b).is ∙ ap (λ z. all ++ coming z) (sym same) }
+
+-- a drained client has brought about all of the history of its bytes
+pub brought_drained : (client : Client) (bytes : List ℕ) → IsDrained client → HasBrought client bytes (history_of bytes)
+brought_drained client bytes d = record { is = sym (append-nil (history_of bytes)) ∙ ap (λ z. history_of bytes ++ z) (sym (coming_needs (cursor_of client) d.needs)) }

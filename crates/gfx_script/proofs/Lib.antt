@@ -1,15 +1,4 @@
-pub mod Arrays
-pub mod Runs
-pub mod NameLists
-pub mod RawPixels
-pub mod Gathered
 pub mod Framed
-pub mod Documents
-pub mod Copies
-pub mod Faults
-pub mod Ranges
-pub mod Removed
-pub mod Offers
+pub mod Surfaces
 pub mod Bitmaps
-pub mod PictureRanges
-pub mod Accepted
+pub mod Limits

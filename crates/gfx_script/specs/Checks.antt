@@ -40,8 +40,8 @@ abbrev pub held_first : List Sides → Bool → Held
 held_first pictures small = record { pictures = pictures; sides = finmap.empty; cells = 0; stock = no_bitmaps small }
 
 -- one more surface of these sides is within both limits
-abbrev pub has_room : Held → ℕ → ℕ → Bool
-has_room held width height =
+abbrev pub may_add : Held → ℕ → ℕ → Bool
+may_add held width height =
     nat_lt (finmap.len held.sides) MOST_SURFACES && nat_le (held.cells + cells width height) MOST_CELLS
 
 -- one more surface
@@ -62,7 +62,7 @@ without_surface held id sides = record held {
 unfoldable pub surface_made : Held → ℕ → ℕ → ℕ → Result Held ScriptKind
 surface_made held id width height = do
   fresh ← check SurfacePresent (not (finmap.contains_key held.sides id))
-  room ← check CellBudget (has_room held width height)
+  room ← check CellBudget (may_add held width height)
   Ok (with_surface held id width height)
 
 -- `delete`

@@ -2,7 +2,7 @@
 use Rattle.std.specs.Prelude.{◌≤◌}
 use Rattle.std.specs.FinMap.{from_entries}
 use Rattle.gfx_surface_map.specs.declared.TheConstants.{MOST_CELLS}
-use Rattle.gfx_script.specs.declared.held.Holding.TheInside as holding
+use Rattle.gfx_script.specs.declared.held.Held.TheInside as held
 use Rattle.gfx_script.specs.declared.stock.Stock.TheInside as stock
 use Rattle.gfx_script.specs.Checks.{Held}
 use Rattle.gfx_script.specs.Stock.{Stock}
@@ -12,9 +12,9 @@ abbrev pub stock_of : stock.Inside → Stock
 stock_of a = record { plan = a.plan; sides = from_entries a.sides.entries }
 
 -- the map that the entries stand for, the count and the rest
-abbrev pub held_of : holding.Inside → Held
+abbrev pub held_of : held.Inside → Held
 held_of a = record { pictures = a.pictures.items; sides = from_entries a.sides.entries; cells = a.cells; stock = a.stock }
 
 -- the count is within its limit
-abbrev pub IsWithinLimit : holding.Inside → Type 0
+abbrev pub IsWithinLimit : held.Inside → Type 0
 IsWithinLimit a = a.cells ≤ MOST_CELLS

@@ -1,8 +1,7 @@
 ghost use Rattle.std.specs.Prelude.{◌≡◌};
 ghost use Rattle.gfx_script.specs.Kind.{name_of};
 
-use std::alloc::AllocFailed;
-use thiserror::Error;
+use gfx_base::Cause;
 
 /// What is wrong with a script. A report prints the variant's name.
 #[derive(Clone, Copy, Debug, PartialEq, Eq)]
@@ -55,23 +54,15 @@ impl ScriptKind {
     }
 }
 
-/// Why a script isn't read.
-#[derive(Clone, Copy, Debug, PartialEq, Eq, Error)]
-pub enum ScriptError {
-    /// The step of this number, counted from 1, is wrong; 0 stands for a fault outside the steps.
-    #[error("the script is wrong")]
-    Fault { step: u32, kind: ScriptKind },
-    /// No memory is left.
-    #[error("no memory is left")]
-    Memory,
-}
+/// Why a part of a script gave no answer: it is wrong, or no memory is left.
+pub type Flaw = Cause<ScriptKind>;
 
-impl<T: Drop> From<AllocFailed<T>> for ScriptError {
-    ghost use Rattle.gfx_script.specs.declared.error.ScriptError.TheVariants.{Memory};
+impl From<ScriptKind> for Cause<ScriptKind> {
+    ghost use Rattle.gfx_base.specs.declared.answer.Cause.TheVariants.{Refused};
 
-    ghost from_gives = { λ _ e. e ≡ Memory };
+    ghost from_gives = { λ kind e. e ≡ Refused kind };
 
-    fn from(_e: AllocFailed<T>) -> ScriptError {
-        ScriptError::Memory
+    fn from(kind: ScriptKind) -> Cause<ScriptKind> {
+        Cause::Refused(kind)
     }
 }

@@ -2,13 +2,12 @@
 
 ghost use Rattle.std.specs.Prelude.{◌≡◌, IsTrue, IfOk, OnOk, slice_get};
 ghost use Rattle.std.specs.FinMap as map;
-ghost use Rattle.std.specs.List.{list_all};
-ghost use Rattle.gfx_base.specs.Geometry.{lies_in, fit_all, sized};
-ghost use Rattle.gfx_script.specs.Checks.{held_first, has_room, with_surface, without_surface, surface_made, surface_deleted, surface_mapped, rects_filled, rect_copied, rect_kept, key_shown, key_forgotten, picture_painted, held_after};
-ghost use Rattle.gfx_script.specs.Found.{Finds, Shows};
+ghost use Rattle.gfx_base.specs.Geometry.{sized};
+ghost use Rattle.gfx_script.specs.Checks.{held_first, sides_of_all, may_add, with_surface, without_surface, surface_made, surface_deleted, surface_mapped, rects_filled, rect_copied, rect_kept, key_shown, key_forgotten, picture_painted, held_after};
+ghost use Rattle.gfx_base.specs.Outcome.{Gives, Says};
 
-use crate::error::ScriptKind;
-use crate::flaw::Flaw;
+use crate::error::{Flaw, ScriptKind};
+use crate::picture::Picture;
 use crate::step::Step;
 use crate::stock::Stock;
 use gfx_base::{NoMemory, Point, Rect, all_lie_in, fits_at, fits_at_all};
@@ -27,14 +26,14 @@ pub struct Sides {
 /// The sides of the pictures, those of the surfaces by their ids, how many cells these have
 /// together, and the bitmaps.
 #[derive(Drop)]
-pub struct Holding {
+pub struct Held {
     pictures: Vec<Sides>,
     sides: IndexMap<u16, Sides>,
     cells: u32,
     stock: Stock,
 }
 
-impl Model for Holding {
+impl Model for Held {
     ghost use Rattle.gfx_script.specs.Checks.{Held};
     ghost use Rattle.gfx_script.specs.Codes.{held_code};
 
@@ -49,13 +48,14 @@ impl Model for Holding {
     ghost invariant = { IsWithinLimit };
 }
 
-impl Holding {
-    /// What is held before the first step, with pictures of these sides.
-    pub fn new(alloc: Global, pictures: Vec<Sides>, small: bool) -> Result<Holding, NoMemory>
-        ensures { IfOk result (λ held. held ≡ held_first pictures.items small) }
+impl Held {
+    /// What is held before the first step, with these pictures.
+    pub fn new(alloc: Global, pictures: &[Picture], small: bool) -> Result<Held, NoMemory>
+        ensures { IfOk result (λ held. held ≡ held_first (sides_of_all pictures.now) small) }
     {
+        let pictures = sides_of_all(alloc, pictures)?;
         let stock = Stock::new(alloc, small)?;
-        Ok(Holding {
+        Ok(Held {
             pictures,
             sides: IndexMap::new(alloc),
             cells: 0,
@@ -63,10 +63,10 @@ impl Holding {
         })
     }
 
-    /// Goes on to what is held after a step.
+    /// Goes on to what is held after a step. After an error nothing is said of it any more.
     #[tactic(auto, unfolding(crate::specs::Checks::held_after))]
     pub fn take(&mut self, alloc: Global, step: &Step) -> Result<(), Flaw>
-        ensures { Finds (λ _. self.new) result (held_after self.old step.now) }
+        ensures { Gives (λ _. self.new) result (held_after self.old step.now) }
     {
         match step {
             Step::Surface {
@@ -100,13 +100,13 @@ impl Holding {
 
     #[tactic(auto, unfolding(crate::specs::Checks::surface_made, gfx_base::specs::Results::and_then))]
     fn make_surface(&mut self, id: u16, width: u16, height: u16) -> Result<(), Flaw>
-        ensures { Finds (λ _. self.new) result (surface_made self.old id width height) }
+        ensures { Gives (λ _. self.new) result (surface_made self.old id width height) }
     {
         if self.contains(id) {
-            return Err(Flaw::Wrong(ScriptKind::SurfacePresent));
+            return Err(Flaw::Refused(ScriptKind::SurfacePresent));
         }
-        if !self.has_room(width, height) {
-            return Err(Flaw::Wrong(ScriptKind::CellBudget));
+        if !self.may_add(width, height) {
+            return Err(Flaw::Refused(ScriptKind::CellBudget));
         }
         self.add(id, width, height)?;
         Ok(())
@@ -114,7 +114,7 @@ impl Holding {
 
     #[tactic(auto, unfolding(crate::specs::Checks::surface_deleted, gfx_base::specs::Results::and_then))]
     fn delete_surface(&mut self, id: u16) -> Result<(), ScriptKind>
-        ensures { Shows (λ _. self.new) result (surface_deleted self.old id) }
+        ensures { Says (λ _. self.new) result (surface_deleted self.old id) }
     {
         let Some(sides) = self.sides_of(id) else {
             return Err(ScriptKind::SurfaceAbsent);
@@ -126,7 +126,7 @@ impl Holding {
     /// Refuses an id that no surface has.
     #[tactic(auto, unfolding(crate::specs::Checks::surface_mapped, gfx_base::specs::Results::and_then))]
     fn check_map(&self, id: u16) -> Result<(), ScriptKind>
-        ensures { Shows (λ _. self.now) result (surface_mapped self.now id) }
+        ensures { Says (λ _. self.now) result (surface_mapped self.now id) }
     {
         if !self.contains(id) {
             return Err(ScriptKind::SurfaceAbsent);
@@ -137,7 +137,7 @@ impl Holding {
     /// Refuses rectangles of which one doesn't lie on the surface of this id.
     #[tactic(auto, unfolding(crate::specs::Checks::rects_filled, gfx_base::specs::Results::and_then))]
     fn check_rects(&self, id: u16, rects: &[Rect]) -> Result<(), ScriptKind>
-        ensures { Shows (λ _. self.now) result (rects_filled self.now id rects.now) }
+        ensures { Says (λ _. self.now) result (rects_filled self.now id rects.now) }
     {
         let Some(sides) = self.sides_of(id) else {
             return Err(ScriptKind::SurfaceAbsent);
@@ -151,7 +151,7 @@ impl Holding {
     /// Refuses a copy of a rectangle that doesn't lie on its surface, or at a point on the other.
     #[tactic(auto, unfolding(crate::specs::Checks::rect_copied, gfx_base::specs::Results::and_then))]
     fn check_copy(&self, from: u16, to: u16, rect: Rect, points: &[Point]) -> Result<(), ScriptKind>
-        ensures { Shows (λ _. self.now) result (rect_copied self.now from to rect points.now) }
+        ensures { Says (λ _. self.now) result (rect_copied self.now from to rect points.now) }
     {
         let Some(source) = self.sides_of(from) else {
             return Err(ScriptKind::SurfaceAbsent);
@@ -171,21 +171,21 @@ impl Holding {
     /// Keeps a rectangle that lies on its surface as the bitmap of a key.
     #[tactic(auto, unfolding(crate::specs::Checks::rect_kept, gfx_base::specs::Results::and_then))]
     fn keep_rect(&mut self, alloc: Global, id: u16, key: u64, rect: Rect) -> Result<(), Flaw>
-        ensures { Finds (λ _. self.new) result (rect_kept self.old id key rect) }
+        ensures { Gives (λ _. self.new) result (rect_kept self.old id key rect) }
     {
         let Some(sides) = self.sides_of(id) else {
-            return Err(Flaw::Wrong(ScriptKind::SurfaceAbsent));
+            return Err(Flaw::Refused(ScriptKind::SurfaceAbsent));
         };
         if !rect.lies_in(sides.width, sides.height) {
-            return Err(Flaw::Wrong(ScriptKind::Outside));
+            return Err(Flaw::Refused(ScriptKind::Outside));
         }
         self.stock.keep(alloc, key, rect.width(), rect.height())
     }
 
-    /// Shows the bitmap of a key at points that it fits at.
+    /// Says the bitmap of a key at points that it fits at.
     #[tactic(auto, unfolding(crate::specs::Checks::key_shown, gfx_base::specs::Results::and_then))]
     fn show_key(&mut self, key: u64, to: u16, points: &[Point]) -> Result<(), ScriptKind>
-        ensures { Shows (λ _. self.new) result (key_shown self.old key to points.now) }
+        ensures { Says (λ _. self.new) result (key_shown self.old key to points.now) }
     {
         let bitmap = self.stock.sides_of(key)?;
         let Some(target) = self.sides_of(to) else {
@@ -201,7 +201,7 @@ impl Holding {
     /// Lets a key go.
     #[tactic(auto, unfolding(crate::specs::Checks::key_forgotten, gfx_base::specs::Results::and_then))]
     fn forget_key(&mut self, key: u64) -> Result<(), ScriptKind>
-        ensures { Shows (λ _. self.new) result (key_forgotten self.old key) }
+        ensures { Says (λ _. self.new) result (key_forgotten self.old key) }
     {
         self.stock.forget(key)
     }
@@ -209,7 +209,7 @@ impl Holding {
     /// Refuses a picture that doesn't lie on the surface of this id.
     #[tactic(auto, unfolding(crate::specs::Checks::picture_painted, gfx_base::specs::Results::and_then))]
     fn check_paint(&self, id: u16, picture: u32, at: Point) -> Result<(), ScriptKind>
-        ensures { Shows (λ _. self.now) result (picture_painted self.now id picture at) }
+        ensures { Says (λ _. self.now) result (picture_painted self.now id picture at) }
     {
         let Some(sides) = self.sides_of(id) else {
             return Err(ScriptKind::SurfaceAbsent);
@@ -245,15 +245,15 @@ impl Holding {
     }
 
     /// Whether one more surface of these sides is within the limits.
-    fn has_room(&self, width: u16, height: u16) -> bool
-        ensures { result ≡ has_room self.now width height }
+    fn may_add(&self, width: u16, height: u16) -> bool
+        ensures { result ≡ may_add self.now width height }
     {
         self.sides.len() < MOST_SURFACES && self.cells + count_cells(width, height) <= MOST_CELLS
     }
 
     /// One more surface.
     fn add(&mut self, id: u16, width: u16, height: u16) -> Result<(), NoMemory>
-        requires { IsTrue (has_room self.old width height) }
+        requires { IsTrue (may_add self.old width height) }
         ensures { OnOk result (self.new ≡ with_surface self.old id width height) }
     {
         self.sides.insert(id, Sides { width, height })?;
@@ -277,4 +277,18 @@ fn whole_of(sides: Sides) -> Rect
     ensures { result ≡ sized sides.width sides.height }
 {
     Rect::sized(sides.width, sides.height)
+}
+
+/// The sides of pictures.
+fn sides_of_all(alloc: Global, pictures: &[Picture]) -> Result<Vec<Sides>, NoMemory>
+    ensures { IfOk result (λ sides. sides.items ≡ sides_of_all pictures.now) }
+{
+    let mut sides = Vec::new(alloc);
+    'pictures: for picture in pictures {
+        sides.push(Sides {
+            width: picture.width,
+            height: picture.height,
+        })?;
+    }
+    Ok(sides)
 }

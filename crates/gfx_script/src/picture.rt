@@ -59,17 +59,6 @@ fn pattern_pixel(width: u16, height: u16, pattern: &Pattern, x: u16, y: u16) -> 
     }
 }
 
-/// The patterns, as a script names them.
-#[derive(Clone, Copy, Debug, PartialEq, Eq)]
-pub enum PatternWord {
-    Solid,
-    Ramp,
-    Noise,
-    Text,
-    Desktop,
-    Hex,
-}
-
 /// A colour with full alpha.
 fn opaque(b: u8, g: u8, r: u8) -> Pixel
     ensures { result ≡ opaque b g r }

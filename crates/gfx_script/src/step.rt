@@ -1,5 +1,6 @@
 ghost use Rattle.std.specs.Prelude.{◌≡◌};
-ghost use Rattle.gfx_script.specs.Script.{kind_of};
+ghost use Rattle.gfx_script.specs.Kinds.{kind_of};
+ghost use Rattle.gfx_script.specs.Script.{is_frame};
 
 use gfx_base::{Format, Pixel, Point, Points, Rect, Rects};
 
@@ -77,7 +78,6 @@ pub enum Step {
 
 impl Step {
     /// The kind of a paint; none of another step.
-    #[tactic(auto, unfolding(crate::specs::Script::kind_of))]
     pub fn kind(&self) -> Option<Kind>
         ensures { result ≡ kind_of self.now }
     {
@@ -85,5 +85,12 @@ impl Step {
             Step::Paint { kind, .. } => *kind,
             _ => None,
         }
+    }
+
+    /// Whether the steps since the last frame are shown here.
+    pub fn is_frame(&self) -> bool
+        ensures { result ≡ is_frame self.now }
+    {
+        matches!(self, Step::Frame)
     }
 }

@@ -2,10 +2,9 @@
 
 ghost use Rattle.std.specs.Prelude.{◌≡◌, IfOk};
 ghost use Rattle.gfx_script.specs.Stock.{no_bitmaps, bitmap_kept, bitmap_sides, bitmap_shown, bitmap_forgotten};
-ghost use Rattle.gfx_script.specs.Found.{Finds, Shows};
+ghost use Rattle.gfx_base.specs.Outcome.{Gives, Says};
 
-use crate::error::ScriptKind;
-use crate::flaw::Flaw;
+use crate::error::{Flaw, ScriptKind};
 use crate::held::Sides;
 use gfx_base::{Fault, NoMemory};
 use gfx_slot_plan::SlotPlan;
@@ -48,7 +47,7 @@ impl Stock {
     /// Keeps a bitmap of these sides under a key.
     #[tactic(auto, unfolding(crate::specs::Stock::bitmap_kept, gfx_base::specs::Results::and_then))]
     pub fn keep(&mut self, alloc: Global, key: u64, width: u16, height: u16) -> Result<(), Flaw>
-        ensures { Finds (λ _. self.new) result (bitmap_kept self.old key width height) }
+        ensures { Gives (λ _. self.new) result (bitmap_kept self.old key width height) }
     {
         match self.plan.keep(alloc, key, width, height) {
             Ok(kept) => {
@@ -56,7 +55,7 @@ impl Stock {
                 Ok(())
             }
             Err(Fault::Memory) => Err(Flaw::Memory),
-            Err(Fault::Refused(_)) => Err(Flaw::Wrong(ScriptKind::BitmapSize)),
+            Err(Fault::Refused(_)) => Err(Flaw::Refused(ScriptKind::BitmapSize)),
         }
     }
 
@@ -84,7 +83,7 @@ impl Stock {
     /// Lets a key go, or refuses one that isn't held.
     #[tactic(auto, unfolding(crate::specs::Stock::bitmap_forgotten, gfx_base::specs::Results::and_then))]
     pub fn forget(&mut self, key: u64) -> Result<(), ScriptKind>
-        ensures { Shows (λ _. self.new) result (bitmap_forgotten self.old key) }
+        ensures { Says (λ _. self.new) result (bitmap_forgotten self.old key) }
     {
         match self.plan.forget(key) {
             Some(_) => Ok(()),

@@ -1,5 +1,5 @@
 use Rattle.std.proofs.Common.{◌≡◌, Ok, subst}
-use Rattle.gfx_surface_map.proofs.Entries.{updated_map}
+use Rattle.gfx_base.proofs.MapLemmas.{updated_map}
 use Rattle.gfx_script.specs.Inside.{stock_of}
 use Rattle.gfx_script.specs.Stock.{bitmap_kept}
 use Rattle.gfx_script.proofs.Bitmaps.{kept_bitmap}

@@ -1,5 +1,5 @@
 use Rattle.std.proofs.Common.{◌∙◌, ap, sym, Some, None}
-use Rattle.gfx_surface_map.proofs.Entries.{get-entries_lookup}
+use Rattle.gfx_base.proofs.MapLemmas.{get-entries_lookup}
 use Rattle.gfx_script.specs.Inside.{stock_of}
 use Rattle.gfx_script.specs.Stock.{bitmap_sides}
 use Rattle.gfx_script.proofs.Bitmaps.{slot_has}

@@ -1,9 +1,0 @@
-use Rattle.std.proofs.Common.{◌≡◌, map, drop}
-use Rattle.toml.specs.View.{view}
-use Rattle.gfx_base.specs.Results.{each}
-use Rattle.gfx_script.specs.Places.{rect_in}
-use Rattle.gfx_script.proofs.Runs.{after_these}
-use Rattle.gfx_script.proofs.places.read_rects.Given as goal
-
-abbrev pub invariant-values : goal.invariant-values
-invariant-values l = each rect_in (map view l.values) ≡ after_these l.rects (each rect_in (map view (drop l.value-index l.values)))

@@ -1,5 +1,0 @@
-use Rattle.gfx_script.proofs.Accepted.{accepted}
-use Rattle.gfx_script.proofs.promises.accepted_scripts_are_good.Goals as goal
-
-pub returns : goal.returns
-returns c = accepted

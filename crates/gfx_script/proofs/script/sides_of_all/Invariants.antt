@@ -1,6 +1,0 @@
-use Rattle.std.proofs.Common.{◌≡◌, ◌++◌, drop}
-use Rattle.gfx_script.specs.Checks.{sides_of_all}
-use Rattle.gfx_script.proofs.script.sides_of_all.Given as goal
-
-abbrev pub invariant-pictures : goal.invariant-pictures
-invariant-pictures l = sides_of_all l.pictures ≡ l.sides.items ++ sides_of_all (drop l.picture-index l.pictures)

@@ -1,8 +1,0 @@
-//! What holds of every script, as the contract of a call that does nothing.
-
-ghost use Rattle.gfx_script.specs.Laws.{AcceptedIsGood};
-
-/// What the planner may rely on.
-pub fn accepted_scripts_are_good()
-    ensures { AcceptedIsGood }
-{}

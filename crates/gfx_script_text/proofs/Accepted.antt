@@ -1,0 +1,108 @@
+-- What holds of every script that is read.
+use Rattle.std.proofs.Common.{◌≡◌, ℕ, suc, ◌+◌, ◌≤◌, List, [], ◌∷◌, length, Result, Ok, Err, refl, sym, ap, ◌∙◌, subst}
+use Rattle.std.proofs.lemmas.Bool.{leb-true}
+use Rattle.std.specs.List.{AllByRecursion}
+use Rattle.toml.specs.Data.{Data}
+use Rattle.gfx_base.specs.Results.{Has}
+use Rattle.gfx_base.proofs.ResultLemmas.{and_then_ok, and_then_at, chain, gives, check_ok}
+use Rattle.gfx_script.specs.declared.TheConstants.{MOST_STEPS}
+use Rattle.gfx_script.specs.declared.error.ScriptKind.{ScriptKind}
+use Rattle.gfx_script.specs.declared.error.ScriptKind.TheVariants.{Range, Unframed}
+use Rattle.gfx_script.specs.declared.step.Step.{Step}
+use Rattle.gfx_script.specs.Checks.{Held, held_first, sides_of_all, held_after, held_through}
+use Rattle.gfx_script.specs.Kinds.{HasKind, own}
+use Rattle.gfx_script.specs.Scripted.{Script}
+use Rattle.gfx_script.specs.Script.{is_framed, IsStep, IsAccepted}
+use Rattle.gfx_script_text.specs.Text.{Top, Head, at_step, head_of, next_step, steps_of, script_of}
+use Rattle.gfx_script_text.proofs.PictureRanges.{AreGood, pictures_of-good}
+use Rattle.gfx_script_text.proofs.Ranges.{IsRead, step_of-fits}
+
+at_step_ok : {A : Type 0} (number : ℕ) (r : Result A ScriptKind) (x : A) → at_step number r ≡ Ok x → r ≡ Ok x
+at_step_ok number (Ok y) x is = cc
+at_step_ok number (Err kind) x is = absurd cc
+
+-- what holds of steps that were read from so many values, where this was held before them
+record Good (count : ℕ) (held : Held) (steps : List Step) : Type 0 where
+  many : length steps ≡ count
+  numbers : AllByRecursion IsStep steps
+  told : AllByRecursion (λ step. HasKind (own step)) steps
+  after : Held
+  checked : held_through held steps ≡ Ok after
+
+-- what holds of the next step
+record Next (held : Held) (next : Step × Held) : Type 0 where
+  numbers : IsStep next.0
+  told : HasKind (own next.0)
+  checked : held_after held next.0 ≡ Ok next.1
+
+next_good : (names : List (List ℕ)) (held : Held) (value : Data) (next : Step × Held) → next_step names held value ≡ Ok next → Next held next
+unfolding next_step
+next_good names held value next is =
+    let read = and_then_ok _ _ next is in
+    let taken = and_then_ok _ _ next read.2 in
+    let same : (read.0, taken.0) ≡ next = let h = taken.2 in cc in
+    subst (Next held) same (let is_read : IsRead read.0 = (step_of-fits names value).each read.0 read.1 in record { numbers = is_read.0; told = is_read.1; checked = taken.1 })
+
+no_good : (held : Held) → Good 0 held []
+unfolding held_through
+no_good held = record { many = refl; numbers = tt; told = tt; after = held; checked = refl }
+
+more_good : (count : ℕ) (held : Held) (next : Step × Held) (steps : List Step) → Next held next → Good count next.1 steps → Good (suc count) held (next.0 ∷ steps)
+unfolding held_through
+more_good count held next steps one others = record {
+  many = ap suc others.many;
+  numbers = (one.numbers, others.numbers);
+  told = (one.told, others.told);
+  after = others.after;
+  checked = and_then_at (held_after held next.0) next.1 _ one.checked ∙ others.checked;
+}
+
+steps_good : (names : List (List ℕ)) (number : ℕ) (held : Held) (values : List Data) (steps : List Step) → steps_of names number held values ≡ Ok steps → Good (length values) held steps
+unfolding steps_of
+steps_good names number held [] steps is = subst (Good 0 held) (let e : [] ≡ steps = cc in e) (no_good held)
+steps_good names number held (value ∷ values) steps is =
+    let first = and_then_ok (at_step number (next_step names held value)) _ steps is in
+    let others = and_then_ok (steps_of names (number + 1) first.0.1 values) _ steps first.2 in
+    let same : first.0.0 ∷ others.0 ≡ steps = let h = others.2 in cc in
+    subst (Good (suc (length values)) held) same
+    (more_good (length values) held first.0 others.0 (next_good names held value first.0 (at_step_ok number _ first.0 first.1))
+    (steps_good names (number + 1) first.0.1 values others.0 others.1))
+
+-- what holds of what stands before the steps
+record HeadGood (top : Top) (head : Head) : Type 0 where
+  few : length top.step ≤ MOST_STEPS
+  pictures : AreGood head.gallery
+
+head_of-good : (top : Top) → Has (head_of top) (HeadGood top)
+unfolding head_of
+head_of-good top =
+    chain _ _ (HeadGood top) (λ small found_small.
+    chain _ _ (HeadGood top) (λ gallery found_gallery.
+    chain _ _ (HeadGood top) (λ few are_few.
+    gives _ (HeadGood top) record {
+      few = leb-true (length top.step) MOST_STEPS (check_ok Range _ are_few);
+      pictures = (pictures_of-good top.picture).each gallery found_gallery;
+    })))
+
+-- a script that is read is good
+pub accepted : (text : List ℕ) (script : Script) → script_of text ≡ Ok script → IsAccepted script
+unfolding script_of
+accepted text script is =
+    let table = and_then_ok _ _ script is in
+    let top = and_then_ok _ _ script table.2 in
+    let head = and_then_ok _ _ script top.2 in
+    let steps = and_then_ok _ _ script head.2 in
+    let framed = and_then_ok _ _ script steps.2 in
+    let same : record { pictures = head.0.gallery.pictures; small = head.0.small; steps = steps.0 } ≡ script = let h = framed.2 in cc in
+    let before = (head_of-good top.0).each head.0 (at_step_ok 0 _ head.0 head.1) in
+    let good = steps_good head.0.gallery.names 1 (held_first (sides_of_all head.0.gallery.pictures) head.0.small) top.0.step steps.0 steps.1 in
+    subst IsAccepted same record {
+      few_pictures = before.pictures.few;
+      pictures = before.pictures.each;
+      few = subst (λ n. n ≤ MOST_STEPS) (sym good.many) before.few;
+      numbers = good.numbers;
+      told = good.told;
+      held = good.after;
+      checked = good.checked;
+      framed = check_ok Unframed (is_framed steps.0) (at_step_ok 0 _ framed.0 framed.1);
+    }

@@ -1,0 +1,13 @@
+pub mod Arrays
+pub mod Runs
+pub mod NameLists
+pub mod RawPixels
+pub mod Gathered
+pub mod Documents
+pub mod Copies
+pub mod Faults
+pub mod Ranges
+pub mod Offers
+pub mod PictureRanges
+pub mod Accepted
+pub mod Limits

@@ -1,0 +1,5 @@
+use Rattle.gfx_script_text.proofs.Accepted.{accepted}
+use Rattle.gfx_script_text.proofs.reading.read_script.Goals as goal
+
+pub new-requires : goal.new-requires
+new-requires c = accepted c.args.text.now _ c.in_ok-parts.ensures

@@ -1,0 +1,9 @@
+pub mod Members
+pub mod Colour
+pub mod Pictures
+pub mod Places
+pub mod Clients
+pub mod Words
+pub mod Text
+pub mod Told
+pub mod Laws

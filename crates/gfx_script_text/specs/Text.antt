@@ -1,0 +1,97 @@
+-- The script of a text, and the order of checks: this project's own format.
+use Rattle.std.specs.Prelude.{ℕ, ◌+◌, Bool, if◌then◌else◌, nat_le, List, [], ◌∷◌, length, Option, Some, None, Result, Ok, Err, codes}
+use Rattle.std.specs.Option.{ok_or}
+use Rattle.std.specs.Str.{is_utf8}
+use Rattle.toml.specs.Data.{Data, Members, get_member}
+use Rattle.toml.specs.Parse.{parse_document}
+use Rattle.gfx_base.specs.Results.{◌>>=◌, check}
+use Rattle.gfx_script.specs.declared.TheConstants.{MOST_STEPS}
+use Rattle.gfx_script.specs.declared.error.ScriptKind.{ScriptKind}
+use Rattle.gfx_script.specs.declared.error.ScriptKind.TheVariants.{Toml, Key, Range, Unframed}
+use Rattle.gfx_script.specs.declared.step.Step.{Step}
+use Rattle.gfx_script.specs.Checks.{Held, held_first, sides_of_all, held_after}
+use Rattle.gfx_script.specs.Script.{is_framed}
+use Rattle.gfx_script.specs.Scripted.{Script}
+use Rattle.gfx_script_text.specs.Clients.{small_of}
+use Rattle.gfx_script_text.specs.Members.{items_in, has_only}
+use Rattle.gfx_script_text.specs.Pictures.{Gallery, pictures_of}
+use Rattle.gfx_script_text.specs.Words.{step_of}
+
+-- what is wrong, at which step; 0 stands for a fault outside the steps
+pub record Wrong : Type 0 where
+  pub step : ℕ
+  pub kind : ScriptKind
+
+-- a fault as one of the step of this number
+abbrev pub at_step : {A : Type 0} → ℕ → Result A ScriptKind → Result A Wrong
+at_step number (Ok found) = Ok found
+at_step number (Err kind) = Err record { step = number; kind = kind }
+
+-- the table of a text
+unfoldable pub document_of : List ℕ → Result Members ScriptKind
+document_of bytes = ok_or (if is_utf8 bytes then parse_document bytes else None) Toml
+
+-- the items of an array, which may be missing
+abbrev pub items_or_none : Option Data → Result (List Data) ScriptKind
+items_or_none None = Ok []
+items_or_none (Some value) = ok_or (items_in value) Key
+
+-- the same, where missing is told from empty
+abbrev pub items_if_any : Option Data → Result (Option (List Data)) ScriptKind
+items_if_any None = Ok None
+items_if_any (Some value) = do
+  items ← ok_or (items_in value) Key
+  Ok (Some items)
+
+-- what stands under the keys at the top
+pub record Top : Type 0 where
+  pub client : Option (List Data)
+  pub picture : List Data
+  pub step : List Data
+
+-- the same of a text's table: the faults of the top table itself come before all others
+unfoldable pub top_of : Members → Result Top ScriptKind
+top_of top = do
+  known ← check Key (has_only (codes "client" ∷ codes "picture" ∷ codes "step" ∷ []) top)
+  client ← items_if_any (get_member (codes "client") top)
+  picture ← items_or_none (get_member (codes "picture") top)
+  step ← items_or_none (get_member (codes "step") top)
+  Ok record { client = client; picture = picture; step = step }
+
+-- what stands before the steps
+pub record Head : Type 0 where
+  pub small : Bool
+  pub gallery : Gallery
+
+-- the same of a top: `client` comes before `picture`, and `step` behind it
+unfoldable pub head_of : Top → Result Head ScriptKind
+head_of top = do
+  small ← small_of top.client
+  gallery ← pictures_of top.picture
+  few ← check Range (nat_le (length top.step) MOST_STEPS)
+  Ok record { small = small; gallery = gallery }
+
+-- the step that a value is, and what is held after it
+unfoldable pub next_step : List (List ℕ) → Held → Data → Result (Step × Held) ScriptKind
+next_step names held value = do
+  step ← step_of names value
+  after ← held_after held step
+  Ok (step, after)
+
+-- the steps that these values are, the first of this number, where this is held before it
+unfoldable pub steps_of : List (List ℕ) → ℕ → Held → List Data → Result (List Step) Wrong
+steps_of names number held [] = Ok []
+steps_of names number held (value ∷ values) = do
+  next ← at_step number (next_step names held value)
+  steps ← steps_of names (number + 1) next.1 values
+  Ok (next.0 ∷ steps)
+
+-- the script of a text, or what is wrong first
+unfoldable pub script_of : List ℕ → Result Script Wrong
+script_of bytes = do
+  table ← at_step 0 (document_of bytes)
+  top ← at_step 0 (top_of table)
+  head ← at_step 0 (head_of top)
+  steps ← steps_of head.gallery.names 1 (held_first (sides_of_all head.gallery.pictures) head.small) top.step
+  framed ← at_step 0 (check Unframed (is_framed steps))
+  Ok record { pictures = head.gallery.pictures; small = head.small; steps = steps }

@@ -1,0 +1,33 @@
+//! Scripts as text in TOML. `read_script` reads one whole, or says what is wrong with it and at which
+//! step.
+//!
+//! In the pipe it stands before the planner, which makes each step of a script into messages. The
+//! format is this project's own (docs/SCRIPTS.md).
+#![tactic(auto)]
+
+mod cache;
+mod client;
+mod colour;
+mod copy;
+mod error;
+mod fill;
+mod members;
+mod names;
+mod output;
+mod paint;
+mod pictures;
+mod places;
+mod promises;
+mod reading;
+mod surface;
+mod words;
+
+pub use error::ScriptError;
+pub use promises::accepted_scripts_are_good;
+pub use reading::read_script;
+
+/// The most capability sets of a client.
+pub const MOST_CLIENTS: usize = 8;
+
+/// The most that an id or a coordinate is.
+pub const MOST_NUMBER: u16 = 65535;

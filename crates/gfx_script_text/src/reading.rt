@@ -1,0 +1,189 @@
+//! The whole of a script's text, and the order of checks.
+
+ghost use Rattle.std.specs.Prelude.{◌≤◌, length, map, IfOk};
+ghost use Rattle.std.specs.Option.{option_map};
+ghost use Rattle.toml.specs.Data.{get_member};
+ghost use Rattle.toml.specs.View.{table_view, view};
+ghost use Rattle.gfx_base.specs.Outcome.{Gives, Says};
+ghost use Rattle.gfx_script.specs.declared.TheConstants.{MOST_STEPS};
+ghost use Rattle.gfx_script_text.specs.Text.{script_of, document_of, items_or_none, items_if_any, top_of, head_of, next_step, steps_of};
+ghost use Rattle.gfx_script_text.specs.Told.{Reads, parts_seen, top_seen, head_seen};
+
+use crate::client::read_small;
+use crate::error::ScriptError;
+use crate::members::{check_keys, items_in, member};
+use crate::names::Names;
+use crate::pictures::{Gallery, read_pictures};
+use crate::words::read_step;
+use gfx_script::{Flaw, Held, MOST_STEPS, Picture, Script, ScriptKind, Step, is_framed};
+use std::alloc::Global;
+use toml::{Table, Value};
+
+/// What a script is made of.
+#[derive(Drop)]
+struct Parts {
+    pictures: Vec<Picture>,
+    small: bool,
+    steps: Vec<Step>,
+}
+
+/// What stands under the keys at the top.
+#[derive(Clone, Copy)]
+struct Top<'a> {
+    client: Option<&'a [Value]>,
+    picture: &'a [Value],
+    step: &'a [Value],
+}
+
+/// What stands before the steps.
+#[derive(Drop)]
+struct Head<'a> {
+    small: bool,
+    gallery: Gallery<'a>,
+}
+
+/// Reads a script, or says what is wrong first.
+pub fn read_script(alloc: Global, text: &[u8]) -> Result<Script, ScriptError>
+    ensures { Reads (λ script. script) result (script_of text.now) }
+{
+    let parts = read_parts(alloc, text)?;
+    Ok(Script::new(parts.pictures, parts.small, parts.steps))
+}
+
+/// Reads the parts of a script.
+#[tactic(auto, unfolding(crate::specs::Text::script_of, gfx_base::specs::Results::and_then))]
+fn read_parts(alloc: Global, text: &[u8]) -> Result<Parts, ScriptError>
+    ensures { Reads parts_seen result (script_of text.now) }
+{
+    let table = match read_document(alloc, text) {
+        Ok(table) => table,
+        Err(flaw) => return Err(ScriptError::at(0, flaw)),
+    };
+    let top = match read_top(&table) {
+        Ok(top) => top,
+        Err(kind) => return Err(ScriptError::Fault { step: 0, kind }),
+    };
+    let Head { small, gallery } = match read_head(alloc, top) {
+        Ok(head) => head,
+        Err(flaw) => return Err(ScriptError::at(0, flaw)),
+    };
+    let Gallery { names, pictures } = gallery;
+    let Ok(held) = Held::new(alloc, &pictures, small) else {
+        return Err(ScriptError::Memory);
+    };
+    let steps = read_steps(alloc, &names, held, top.step)?;
+    if !is_framed(&steps) {
+        return Err(ScriptError::Fault {
+            step: 0,
+            kind: ScriptKind::Unframed,
+        });
+    }
+    Ok(Parts {
+        pictures,
+        small,
+        steps,
+    })
+}
+
+/// Reads the table of a text.
+#[tactic(auto, unfolding(crate::specs::Text::document_of))]
+fn read_document(alloc: Global, text: &[u8]) -> Result<Table, Flaw>
+    ensures { Gives table_view result (document_of text.now) }
+{
+    let Ok(text) = std::str::from_utf8(text) else {
+        return Err(Flaw::Refused(ScriptKind::Toml));
+    };
+    match toml::table_from_str(alloc, text) {
+        Ok(top) => Ok(top),
+        Err(error) if error.is_memory() => Err(Flaw::Memory),
+        Err(_) => Err(Flaw::Refused(ScriptKind::Toml)),
+    }
+}
+
+/// What stands under the keys at the top, after the checks of the top table.
+#[tactic(auto, unfolding(crate::specs::Text::top_of, gfx_base::specs::Results::and_then))]
+fn read_top(table: &Table) -> Result<Top<'_>, ScriptKind>
+    ensures { Says top_seen result (top_of (table_view table.now)) }
+{
+    check_keys(table, &["client", "picture", "step"])?;
+    let client = items_if_any(table, "client")?;
+    let picture = items_or_none(table, "picture")?;
+    let step = items_or_none(table, "step")?;
+    Ok(Top {
+        client,
+        picture,
+        step,
+    })
+}
+
+/// The items of the array under a key, which may be missing.
+#[tactic(auto, unfolding(crate::specs::Members::items_in))]
+fn items_or_none<'a>(table: &'a Table, key: &str) -> Result<&'a [Value], ScriptKind>
+    ensures { Says (λ x. map view x.now) result (items_or_none (get_member key.now (table_view table.now))) }
+{
+    match member(table, key) {
+        None => Ok(&[]),
+        Some(value) => items_in(value).ok_or(ScriptKind::Key),
+    }
+}
+
+/// The same, where missing is told from empty.
+#[tactic(auto, unfolding(crate::specs::Members::items_in, gfx_base::specs::Results::and_then))]
+fn items_if_any<'a>(table: &'a Table, key: &str) -> Result<Option<&'a [Value]>, ScriptKind>
+    ensures { Says (option_map (λ x. map view x.now)) result (items_if_any (get_member key.now (table_view table.now))) }
+{
+    match member(table, key) {
+        None => Ok(None),
+        Some(value) => match items_in(value) {
+            Some(items) => Ok(Some(items)),
+            None => Err(ScriptKind::Key),
+        },
+    }
+}
+
+/// Reads what stands before the steps, and says whether the steps are too many.
+#[tactic(auto, unfolding(crate::specs::Text::head_of, gfx_base::specs::Results::and_then))]
+fn read_head(alloc: Global, top: Top<'_>) -> Result<Head<'_>, Flaw>
+    ensures exact { Gives head_seen result (head_of (top_seen top.entry)) }
+    ensures few { IfOk result (λ _. length top.entry.step.now ≤ MOST_STEPS) }
+{
+    let small = read_small(top.client)?;
+    let gallery = read_pictures(alloc, top.picture)?;
+    if top.step.len() > MOST_STEPS as usize {
+        return Err(Flaw::Refused(ScriptKind::Range));
+    }
+    Ok(Head { small, gallery })
+}
+
+/// Reads the steps, one after another, where the pictures have these names and this is held before.
+fn read_steps(
+    alloc: Global,
+    names: &Names<'_>,
+    held: Held,
+    values: &[Value],
+) -> Result<Vec<Step>, ScriptError>
+    requires { length values.now ≤ MOST_STEPS }
+    ensures { Reads (λ steps. steps.items) result (steps_of names.now 1 held (map view values.now)) }
+{
+    let mut steps = Vec::new(alloc);
+    let mut held = held;
+    let mut number: u32 = 1;
+    'values: for value in values {
+        match next_step(alloc, names, &mut held, value) {
+            Ok(step) => steps.push(step)?,
+            Err(flaw) => return Err(ScriptError::at(number, flaw)),
+        }
+        number += 1;
+    }
+    Ok(steps)
+}
+
+/// Reads a step and checks it against what is held.
+#[tactic(auto, unfolding(crate::specs::Text::next_step, gfx_base::specs::Results::and_then))]
+fn next_step(alloc: Global, names: &Names<'_>, held: &mut Held, value: &Value) -> Result<Step, Flaw>
+    ensures { Gives (λ step. (step, held.new)) result (next_step names.now held.old (view value.now)) }
+{
+    let step = read_step(alloc, names, value)?;
+    held.take(alloc, &step)?;
+    Ok(step)
+}

@@ -1,79 +1,123 @@
 -- What the planner's calls answer.
-use Rattle.std.proofs.Common.{◌≡◌, ℕ, ◌+◌, Bool, true, false, List, [], ◌∷◌, ◌++◌, Some, Result, Ok, Err, IfOk, sym, ap, ◌∙◌, subst}
-use Rattle.std.specs.Result.{is_err}
+use Rattle.std.proofs.Common.{◌≡◌, ℕ, ◌+◌, ◌<◌, ◌^◌, Bool, true, false, List, [], ◌∷◌, ◌++◌, Option, Some, None, Ok, Err, refl, sym, ap, ◌∙◌, subst, arith}
+use Rattle.std.specs.Result.{IsOk, is_ok}
+use Rattle.std.specs.Option.{option_map}
 use Rattle.std.proofs.lemmas.List.{append-nil}
 use Rattle.gfx_base.specs.declared.answer.NoMemory.{NoMemory}
-use Rattle.gfx_script.specs.declared.picture.Picture.{Picture as Source}
+use Rattle.gfx_pdu.specs.declared.pdu.Pdu.{Pdu}
+use Rattle.gfx_script.specs.Checks.{Held}
+use Rattle.gfx_script.specs.Kinds.{KindedStep, as_kind}
+use Rattle.gfx_script.specs.Script.{step_at}
+use Rattle.gfx_script.specs.Scripted.{Script}
+use Rattle.gfx_script.specs.declared.step.Kind.{Kind}
 use Rattle.gfx_script.specs.declared.step.Step.{Step}
-use Rattle.gfx_script.specs.declared.step.Step.TheVariants.{Frame}
 use Rattle.gfx_slot_plan.specs.Plan.{Plan}
 use Rattle.gfx_state.specs.State.{State}
-use Rattle.gfx_state.specs.Sending.{all_steps, sent}
-use Rattle.gfx_planner.specs.Agree.{Agree, IsAllowed}
-use Rattle.gfx_planner.specs.Planned.{Planned, Sends, ShowsStep, Puts, Passes}
+use Rattle.gfx_state.specs.Step as message
+use Rattle.gfx_state.specs.Sending.{all_steps, sent, IsCarried}
+use Rattle.gfx_planner.specs.Agree.{Agree, Holds, IsInFrame, IsAllowed, IsAllowedStep, kinded_at}
+use Rattle.gfx_planner.specs.Planned.{Planned, PutsFront, SendsMessages, Sends, ShowsStep, PutsStep}
 use Rattle.gfx_planner.specs.Want.{wanted_after}
-use Rattle.gfx_planner.specs.Wire.{Server, messages, plan_after, frame_start, frame_end, after_open, after_close}
-use Rattle.gfx_planner.proofs.SurfaceSteps.{going}
-use Rattle.gfx_planner.proofs.Steps.{step_fine, messages-frame}
-use Rattle.gfx_planner.proofs.Streams.{after_messages-is, after_put-is}
+use Rattle.gfx_planner.specs.Wire.{Server, Made, made, made_by, frame_start, frame_end, after_open, after_close}
+use Rattle.gfx_planner.specs.declared.planner.TheConstants.{MOST_FRAMES}
+use Rattle.gfx_planner.proofs.Effects.{after_messages-is}
+use Rattle.gfx_planner.proofs.SurfaceSteps.{Fine, starts, ends, going}
+use Rattle.gfx_planner.proofs.Steps.{step_fine, allowed_fine, same_made, messages-is, after_put-is}
 
 -- a planner whose fields are these
 abbrev pub planned : State → Plan → ℕ → Bool → Planned
 planned state plan frames spent = record { server = record { state = state; plan = plan; frames = frames }; spent = spent }
 
--- a step that has no message
-pub frame_passes : (pictures : List Source) (server : Server) (before : List ℕ) (step : Step) → step ≡ Frame
-    → (all_steps server.state (messages pictures server step) ≡ Ok server.state) × (before ≡ before ++ sent (messages pictures server step))
-unfolding all_steps sent
-frame_passes pictures server before step is =
-    let none : messages pictures server step ≡ [] = ap (messages pictures server) is ∙ messages-frame pictures server in
-    (ap (all_steps server.state) none, sym (append-nil before) ∙ ap (λ z. before ++ sent z) (sym none))
-
 -- a planner that isn't spent
 unspent : {X : Type 0} (a : Bool) → a ≡ false → a ≡ true → X
 unspent a fresh was = absurd cc
 
-pub open_answer : (result : Result ℕ NoMemory) (old : Planned) (new : State) (plan : Plan) (before now : List ℕ) (frames : ℕ) (spent : Bool) → old.spent ≡ false
-    → Passes result old.server.state new before now (frame_start old.server ∷ []) → plan ≡ old.server.plan → IfOk result (λ id. (id ≡ old.server.frames + 1) × (frames ≡ id)) → spent ≡ is_err result
-    → Sends result old (planned new plan frames spent) before now (frame_start old.server ∷ []) (after_open old.server)
-open_answer (Ok id) old new plan before now frames spent fresh passes kept is says =
-    let state = after_messages-is old.server (frame_start old.server ∷ []) new passes.0 in
-    (fresh, (λ i. planned ((ap (λ z. z.state) (sym state)) i) ((kept ∙ ap (λ z. z.plan) (sym state)) i) ((is.1 ∙ is.0) i) (says i)), passes.1)
-open_answer (Err e) old new plan before now frames spent fresh passes kept is says = (says, passes, λ was. unspent old.spent fresh was)
-
-pub close_answer : (result : Result (Unit {0}) NoMemory) (old : Planned) (new : State) (plan : Plan) (before now : List ℕ) (frames : ℕ) (spent : Bool) → old.spent ≡ false
-    → Passes result old.server.state new before now (frame_end old.server ∷ []) → plan ≡ old.server.plan → frames ≡ old.server.frames → spent ≡ is_err result
-    → Sends result old (planned new plan frames spent) before now (frame_end old.server ∷ []) (after_close old.server)
-close_answer (Ok done) old new plan before now frames spent fresh passes kept is says =
-    let state = after_messages-is old.server (frame_end old.server ∷ []) new passes.0 in
-    (fresh, (λ i. planned ((ap (λ z. z.state) (sym state)) i) ((kept ∙ ap (λ z. z.plan) (sym state)) i) ((is ∙ ap (λ z. z.frames) (sym state)) i) (says i)), passes.1)
-close_answer (Err e) old new plan before now frames spent fresh passes kept is says = (says, passes, λ was. unspent old.spent fresh was)
-
-same_state : {E : Type 0} (a b : State) → ◌≡◌ {A = Result State E} (Ok a) (Ok b) → a ≡ b
-same_state a b e = cc
-
-shows_step : (pictures : List Source) (server : Server) (new : State) (step : Step) → IsAllowed pictures server step → all_steps server.state (messages pictures server step) ≡ Ok new
-    → ShowsStep pictures server (going server new (plan_after server.plan step)) step
-shows_step pictures server new step allowed accepted =
-    let fine = step_fine pictures server allowed.held allowed.after step allowed.holds allowed.numbers allowed.checked in
-    let same : fine.next ≡ new = same_state fine.next new (sym fine.accepted ∙ accepted) in
-    record {
-      accepted = accepted;
-      agrees = λ wanted agree. subst (λ s. Agree (going server s (plan_after server.plan step)) (wanted_after pictures wanted step)) same (fine.agrees wanted agree);
-    }
-
-pub put_answer : (pictures : List Source) (result : Result (Unit {0}) NoMemory) (old : Planned) (new : State) (plan : Plan) (before now : List ℕ) (step : Step) (frames : ℕ) (spent : Bool) → old.spent ≡ false
-    → IsAllowed pictures old.server step → Passes result old.server.state new before now (messages pictures old.server step)
-    → IfOk result (λ _. plan ≡ plan_after old.server.plan step) → frames ≡ old.server.frames → spent ≡ is_err result
-    → Puts pictures result old (planned new plan frames spent) before now (Some step)
-put_answer pictures (Ok done) old new plan before now step frames spent fresh allowed passes kept is says =
-    let put = after_put-is pictures old.server step new passes.0 in (
-      (fresh, (λ i. planned ((ap (λ z. z.state) (sym put)) i) ((kept ∙ ap (λ z. z.plan) (sym put)) i) ((is ∙ ap (λ z. z.frames) (sym put)) i) (says i)), passes.1),
-      (let due : going old.server new (plan_after old.server.plan step) ≡ record { state = new; plan = plan; frames = frames } = λ i. record { state = new; plan = sym kept i; frames = sym is i } in
-          subst (λ s. ShowsStep pictures old.server s step) due (shows_step pictures old.server new step allowed passes.0)),
-    )
-put_answer pictures (Err e) old new plan before now step frames spent fresh allowed passes kept is says = (says, passes, λ was. unspent old.spent fresh was)
-
 -- nothing more is put out
 pub same_out : (out : List ℕ) → out ≡ out ++ []
 same_out out = sym (append-nil out)
+
+-- frames --------------------------------------------------------------------------------------------
+
+-- the message can be sent that opens the next frame
+pub may_open : (server : Server) → server.frames < MOST_FRAMES → server.state.frame ≡ None → IsCarried (frame_start server) × IsOk (message.step server.state (frame_start server))
+may_open server few none =
+    let accepts = starts server.state (server.frames + 1) (omega arith) none in (accepts.carried, ap is_ok accepts.stepped)
+
+-- and that which ends the open one
+pub may_close : (server : Server) → server.frames < 2 ^ 32 → IsInFrame server → IsCarried (frame_end server) × IsOk (message.step server.state (frame_end server))
+may_close server few within = let accepts = ends server.state server.frames few within in (accepts.carried, ap is_ok accepts.stepped)
+
+pub opens : (id : ℕ) (state new : State) (plan : Plan) (frames : ℕ) (spent : Bool) (before now : List ℕ) → spent ≡ false
+    → SendsMessages {X = Unit {0}} (Ok tt) state new before now (frame_start (planned state plan frames spent).server ∷ [])
+    → Sends {X = ℕ} (Ok id) (planned state plan frames spent) (planned new plan (frames + 1) false) before now (frame_start (planned state plan frames spent).server ∷ []) (after_open (planned state plan frames spent).server)
+opens id state new plan frames spent before now fresh done =
+    let server : Server = record { state = state; plan = plan; frames = frames } in
+    let after = after_messages-is server (frame_start server ∷ []) new done.0 in
+    (fresh, ((λ i. planned (sym after i).state (sym after i).plan (frames + 1) false), done.1))
+
+pub closes : (state new : State) (plan : Plan) (frames : ℕ) (spent : Bool) (before now : List ℕ) → spent ≡ false
+    → SendsMessages {X = Unit {0}} (Ok tt) state new before now (frame_end (planned state plan frames spent).server ∷ [])
+    → Sends {X = Unit {0}} (Ok tt) (planned state plan frames spent) (planned new plan frames false) before now (frame_end (planned state plan frames spent).server ∷ []) (after_close (planned state plan frames spent).server)
+closes state new plan frames spent before now fresh done =
+    let server : Server = record { state = state; plan = plan; frames = frames } in
+    let after = after_messages-is server (frame_end server ∷ []) new done.0 in
+    (fresh, ((λ i. record { server = sym after i; spent = false }), done.1))
+
+-- steps ---------------------------------------------------------------------------------------------
+
+-- the step of a number that is there
+pub is_kinded : (steps : List Step) (number : ℕ) (kind : Option Kind) (step : Step) → Some step ≡ step_at steps number → kinded_at steps number kind ≡ Some (as_kind kind step)
+is_kinded steps number kind step found = ap (option_map (as_kind kind)) (sym found)
+
+pub is_allowed : (script : Script) (server : Server) (number : ℕ) (kind : Option Kind) (step : Step) → Some step ≡ step_at script.steps number → IsAllowedStep script server (kinded_at script.steps number kind)
+    → IsAllowed script server (as_kind kind step)
+is_allowed script server number kind step found allowed = subst (IsAllowedStep script server) (is_kinded script.steps number kind step found) allowed
+
+-- what an allowed step comes to is what it was made into and what its messages gave
+same_state : (a b : State) (pdus : List Pdu) (state : State) → all_steps state pdus ≡ Ok a → all_steps state pdus ≡ Ok b → a ≡ b
+same_state a b pdus state first second = cc
+
+came_to : (script : Script) (server : Server) (one : KindedStep) (after : Held) (into : Made) (new : State) (fine : Fine script server one after) → made_by script server one ≡ Some into
+    → all_steps server.state into.pdus ≡ Ok new → going server fine.next fine.into.plan ≡ going server new into.plan
+came_to script server one after into new fine is accepted =
+    let same = same_made _ fine.into into fine.is is in
+    let reached : fine.next ≡ new = same_state fine.next new into.pdus server.state (ap (λ (z : Made). all_steps server.state z.pdus) (sym same) ∙ fine.accepted) accepted in
+    λ i. going server (reached i) (same i).plan
+
+shows_step : (script : Script) (server : Server) (one : KindedStep) (into : Made) (new : State) → IsAllowed script server one → made_by script server one ≡ Some into → all_steps server.state into.pdus ≡ Ok new
+    → ShowsStep script server (going server new into.plan) one
+shows_step script server one into new allowed is accepted =
+    let due = messages-is script server one into is in
+    let fine = allowed_fine script server one allowed in
+    let same = came_to script server one allowed.after into new fine is accepted in
+    record {
+      possible = is ∙ ap (λ z. made z into.plan) (sym due);
+      accepted = ap (all_steps server.state) due ∙ accepted;
+      frame = ap (λ z. z.state.frame) (sym same) ∙ fine.frame;
+      holds = λ held after holds checked.
+          let other = step_fine script server one.kind held after one.step holds allowed.numbers allowed.kind checked in
+          subst (Holds script after) (came_to script server one after into new other is accepted) other.holds;
+      agrees = λ wanted agree. subst (λ z. Agree z (wanted_after script wanted one)) same (fine.agrees wanted agree);
+    }
+
+-- the step is put out, and the server's end has gone on
+pub puts : (script : Script) (state new : State) (plan next : Plan) (frames : ℕ) (spent : Bool) (one : KindedStep) (pdus : List Pdu) (before now : List ℕ) → spent ≡ false
+    → IsAllowed script (planned state plan frames spent).server one → made_by script (planned state plan frames spent).server one ≡ made pdus next
+    → SendsMessages {X = Unit {0}} (Ok tt) state new before now pdus → PutsStep script (Ok tt) (planned state plan frames spent) (planned new next frames false) before now (Some one)
+puts script state new plan next frames spent one pdus before now fresh allowed is done =
+    let server : Server = record { state = state; plan = plan; frames = frames } in
+    let into : Made = record { pdus = pdus; plan = next } in
+    let due = messages-is script server one into is in
+    let after = after_put-is script server one into new is done.0 in (
+      (fresh, ((λ i. record { server = sym after i; spent = false }), done.1 ∙ ap (λ z. before ++ sent z) (sym due))),
+      shows_step script server one into new allowed is done.0,
+    )
+
+-- a front of it is
+pub puts_front : (script : Script) (e : NoMemory) (state new : State) (plan next : Plan) (frames : ℕ) (spent : Bool) (one : KindedStep) (pdus : List Pdu) (before now : List ℕ) → spent ≡ false
+    → made_by script (planned state plan frames spent).server one ≡ made pdus next
+    → SendsMessages {X = Unit {0}} (Err e) state new before now pdus → PutsStep script (Err e) (planned state plan frames spent) (planned new next frames true) before now (Some one)
+puts_front script e state new plan next frames spent one pdus before now fresh is done =
+    let server : Server = record { state = state; plan = plan; frames = frames } in
+    let due = messages-is script server one record { pdus = pdus; plan = next } is in
+    ((refl, subst (λ z. PutsFront before now (sent z)) (sym due) done), λ was. unspent spent fresh was)

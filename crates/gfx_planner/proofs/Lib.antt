@@ -4,7 +4,8 @@ pub mod Held
 pub mod Effects
 pub mod Paints
 pub mod Payloads
-pub mod Passing
+pub mod StepMessages
+pub mod MessageSending
 pub mod SlotLists
 pub mod Slots
 pub mod SurfaceSteps
@@ -13,3 +14,5 @@ pub mod Steps
 pub mod Streams
 pub mod Calls
 pub mod Frames
+pub mod Within
+pub mod Fronts

@@ -4,7 +4,7 @@ use Rattle.std.specs.List.{slice_index_or}
 use Rattle.std.specs.Option.{ok_or}
 use Rattle.std.specs.FinMap.{get}
 use Rattle.gfx_base.specs.Format.{byte_of, format_of}
-use Rattle.gfx_base.specs.Geometry.{holds, lies_in, width_of, height_of, moved, sized}
+use Rattle.gfx_base.specs.Geometry.{holds, lies_in, width_of, height_of}
 use Rattle.gfx_base.specs.Results.{check}
 use Rattle.gfx_base.proofs.ResultLemmas.{and_then_at}
 use Rattle.gfx_base.specs.declared.format.Format.{Format}
@@ -19,6 +19,7 @@ use Rattle.gfx_surface.proofs.PictureLemmas.{length-drawn}
 use Rattle.gfx_surface_map.specs.Shown.{with_picture}
 use Rattle.gfx_script.specs.declared.picture.Picture.{Picture as Source}
 use Rattle.gfx_script.specs.Patterns.{pixel_of}
+use Rattle.gfx_script.specs.Writes.{place_of}
 use Rattle.gfx_state.specs.State.{State}
 use Rattle.gfx_state.specs.Step as message
 use Rattle.gfx_state.specs.Step.{UNCOMPRESSED, data_painted}
@@ -62,10 +63,6 @@ length-pixels_in picture = length-drawn picture.width picture.height (pixel_of p
 pub format_back : (format : Format) → format_of (byte_of format) ≡ Some format
 format_back Xrgb = refl
 format_back Argb = refl
-
--- the rectangle of a picture at a place
-abbrev pub place_of : Source → Point → Rect
-place_of picture at = moved (sized picture.width picture.height) at
 
 payload_whole : (picture : Source) (at : Point) → length (raw_bytes (pixels_in picture)) ≡ 4 * (width_of (place_of picture at) * height_of (place_of picture at))
 payload_whole picture at =

@@ -18,12 +18,12 @@ use Rattle.gfx_bitmap_cache.specs.Slots.{total as total_in}
 use Rattle.gfx_bitmap_cache.proofs.Totals.{total-insert, total-remove, bytes_at-most}
 use Rattle.gfx_slot_plan.specs.declared.allocation.Allocation.{Allocation}
 use Rattle.gfx_slot_plan.specs.Pool.{is_none}
-use Rattle.gfx_slot_plan.specs.Plan.{Allocations, AreSlots, place, total, is_used, free_slots, has_room, staying, left_for, gone_for, without, slot_of, slots_back, least_free, dropped_for}
+use Rattle.gfx_slot_plan.specs.Plan.{Allocations, AreSlots, place, total, is_used, free_slots, takes_more, staying, left_for, gone_for, without, slot_of, slots_back, least_free, dropped_for}
 use Rattle.gfx_slot_plan.proofs.Dropping.{denied}
 use Rattle.gfx_slot_plan.proofs.Order.{not_among, room_alone, staying_stops, staying_goes, length-without, length-held}
 use Rattle.gfx_slot_plan.proofs.Ranges.{first_passes}
 use Rattle.gfx_slot_plan.proofs.Ties.{slots_middle, total_middle}
-use Rattle.gfx_planner.specs.Shelves.{emptied}
+use Rattle.gfx_planner.specs.Slots.{emptied}
 
 -- finite maps -------------------------------------------------------------------------------------
 
@@ -223,7 +223,7 @@ first_there : (xs : List ℕ) → not (is_none xs) ≡ true → slice_get xs 0 �
 first_there [] some = absurd cc
 first_there (x ∷ xs) some = refl
 
-pub room_of : (last most bytes : ℕ) (left : Allocations) → has_room last most bytes left ≡ true → Room last most bytes left
+pub room_of : (last most bytes : ℕ) (left : Allocations) → takes_more last most bytes left ≡ true → Room last most bytes left
 room_of last most bytes left room =
     let parts = and_parts (not (is_none (free_slots last left))) (nat_le (total left + bytes) most) room in
     let first = first_passes (λ slot. not (is_used left slot)) 1 last (least_free last left) (first_there (free_slots last left) parts.0) in
@@ -235,14 +235,14 @@ room_of last most bytes left room =
       within = (let test = parts.1 in grind (arith, nat_tests));
     }
 
-pub room-left : (last most bytes : ℕ) (places : Allocations) (n : ℕ) → 1 ≤ last → bytes ≤ most → has_room last most bytes (take (staying last most bytes places n) places) ≡ true
+pub room-left : (last most bytes : ℕ) (places : Allocations) (n : ℕ) → 1 ≤ last → bytes ≤ most → takes_more last most bytes (take (staying last most bytes places n) places) ≡ true
 room-left last most bytes places zero first alone = room_alone last most bytes first alone
-room-left last most bytes places (suc n) first alone = by (has_room last most bytes (take (suc n) places)) refl (room-left last most bytes places n first alone)
+room-left last most bytes places (suc n) first alone = by (takes_more last most bytes (take (suc n) places)) refl (room-left last most bytes places n first alone)
   where
-    by : (b : Bool) → has_room last most bytes (take (suc n) places) ≡ b → has_room last most bytes (take (staying last most bytes places n) places) ≡ true
-        → has_room last most bytes (take (staying last most bytes places (suc n)) places) ≡ true
-    by true room rest = ap (λ k. has_room last most bytes (take k places)) (staying_stops last most bytes places (suc n) room) ∙ room
-    by false full rest = ap (λ k. has_room last most bytes (take k places)) (staying_goes last most bytes places n full) ∙ rest
+    by : (b : Bool) → takes_more last most bytes (take (suc n) places) ≡ b → takes_more last most bytes (take (staying last most bytes places n) places) ≡ true
+        → takes_more last most bytes (take (staying last most bytes places (suc n)) places) ≡ true
+    by true room rest = ap (λ k. takes_more last most bytes (take k places)) (staying_stops last most bytes places (suc n) room) ∙ room
+    by false full rest = ap (λ k. takes_more last most bytes (take k places)) (staying_goes last most bytes places n full) ∙ rest
 
 -- what stays where a key is kept, and its slot
 abbrev pub left_of : ℕ → ℕ → ℕ → ℕ → Allocations → Allocations

@@ -33,7 +33,7 @@ use Rattle.gfx_state.specs.State.{State}
 use Rattle.gfx_state.specs.Step.{step, caching, showing, rect_stored, slot_put, image_in}
 use Rattle.gfx_surface.specs.Picture.{Picture}
 use Rattle.gfx_surface_map.specs.Shown.{pixels_put}
-use Rattle.gfx_planner.specs.Shelves.{emptied, InSlot, Shelved, sides_in, SidesIn, Sided}
+use Rattle.gfx_planner.specs.Slots.{emptied, InSlot, PlanFitsCache, sides_in, SidesIn, SidesFitSlots}
 use Rattle.gfx_planner.proofs.SlotLists.{Filled, cut_at, get-insert_here, get-insert_apart, filled-out, filled-touched, filled-kept, left_of, slot_for, room_for, dropped-within, length-dropped}
 
 -- both ways to say it ----------------------------------------------------------------------------
@@ -41,11 +41,11 @@ use Rattle.gfx_planner.proofs.SlotLists.{Filled, cut_at, get-insert_here, get-in
 in_slot-counts : (held : ℕ × Allocation) (o : Option Entry) → InSlot o held → bytes_at o ≡ held.1.bytes
 in_slot-counts held o (e, there, key, bytes) = ap bytes_at there ∙ bytes
 
-filled : (p : Plan) (cache : Cached) → Shelved p cache → Filled InSlot (last_slot p.small) p.places cache.slots
-filled p cache shelved = record { apart = shelved.sound.slots; each = shelved.each; counts = in_slot-counts; bytes = shelved.bytes }
+filled : (p : Plan) (cache : Cached) → PlanFitsCache p cache → Filled InSlot (last_slot p.small) p.places cache.slots
+filled p cache fits_cache = record { apart = fits_cache.sound.slots; each = fits_cache.each; counts = in_slot-counts; bytes = fits_cache.bytes }
 
-shelved_from : (p : Plan) (cache : Cached) → AreKeys p.places → total p.places ≤ budget p.small → Filled InSlot (last_slot p.small) p.places cache.slots → Shelved p cache
-shelved_from p cache keys within f = record {
+fits_cache_from : (p : Plan) (cache : Cached) → AreKeys p.places → total p.places ≤ budget p.small → Filled InSlot (last_slot p.small) p.places cache.slots → PlanFitsCache p cache
+fits_cache_from p cache keys within f = record {
   sound = record { keys = keys; slots = f.apart; within = within };
   each = f.each;
   bytes = f.bytes;
@@ -66,21 +66,21 @@ all-second P Q (x ∷ xs) each = (each.0.1, all-second P Q xs each.1)
 both-counts : (sides : FinMap nat_cmp Sides) (held : ℕ × Allocation) (o : Option Entry) → Both sides o held → bytes_at o ≡ held.1.bytes
 both-counts sides held o says = in_slot-counts held o says.0
 
-filled_both : (p : Plan) (cache : Cached) (sides : FinMap nat_cmp Sides) → Shelved p cache → Sided p.places sides cache.slots → Filled (Both sides) (last_slot p.small) p.places cache.slots
-filled_both p cache sides shelved sided = record {
-  apart = shelved.sound.slots;
-  each = all-zip (λ held. InSlot (get cache.slots held.1.slot) held) (λ held. SidesIn sides (get cache.slots held.1.slot) held) p.places shelved.each sided;
+filled_both : (p : Plan) (cache : Cached) (sides : FinMap nat_cmp Sides) → PlanFitsCache p cache → SidesFitSlots p.places sides cache.slots → Filled (Both sides) (last_slot p.small) p.places cache.slots
+filled_both p cache sides fits_cache sides_fit = record {
+  apart = fits_cache.sound.slots;
+  each = all-zip (λ held. InSlot (get cache.slots held.1.slot) held) (λ held. SidesIn sides (get cache.slots held.1.slot) held) p.places fits_cache.each sides_fit;
   counts = both-counts sides;
-  bytes = shelved.bytes;
+  bytes = fits_cache.bytes;
 }
 
-sided_from : (last : ℕ) (places : Allocations) (sides : FinMap nat_cmp Sides) (slots : FinMap nat_cmp Entry) → Filled (Both sides) last places slots → Sided places sides slots
-sided_from last places sides slots f = all-second (λ held. InSlot (get slots held.1.slot) held) (λ held. SidesIn sides (get slots held.1.slot) held) places f.each
+sides_fit_from : (last : ℕ) (places : Allocations) (sides : FinMap nat_cmp Sides) (slots : FinMap nat_cmp Entry) → Filled (Both sides) last places slots → SidesFitSlots places sides slots
+sides_fit_from last places sides slots f = all-second (λ held. InSlot (get slots held.1.slot) held) (λ held. SidesIn sides (get slots held.1.slot) held) places f.each
 
 -- at the start -----------------------------------------------------------------------------------
 
-pub shelved-start : (small : Bool) → Shelved (plan [] small) (cached finmap.empty false)
-shelved-start small = record {
+pub fits_cache-start : (small : Bool) → PlanFitsCache (plan [] small) (cached finmap.empty small)
+fits_cache-start small = record {
   sound = record { keys = tt; slots = tt; within = omega arith };
   each = tt;
   bytes = total-empty;
@@ -88,14 +88,10 @@ shelved-start small = record {
 
 -- a key that is held -------------------------------------------------------------------------------
 
--- no plan has a slot that the cache doesn't take, nor more bytes
+-- no plan has a slot that no cache has
 slots_most : (small : Bool) (n : ℕ) → n ≤ last_slot small → n ≤ MOST_SLOTS
 slots_most true n within = omega (arith, within)
 slots_most false n within = within
-
-bytes_most : (small : Bool) (n : ℕ) → n ≤ budget small → n ≤ budget false
-bytes_most true n within = omega (arith, within)
-bytes_most false n within = within
 
 slots_some : (small : Bool) → 1 ≤ last_slot small
 slots_some true = omega arith
@@ -103,6 +99,10 @@ slots_some false = omega arith
 
 slot_from : (slot : ℕ) → 1 ≤ slot → slot ≤ MOST_SLOTS → is_slot slot ≡ true
 slot_from slot from to = grind (arith, nat_tests)
+
+slot_taken : (small : Bool) (slot : ℕ) → 1 ≤ slot → slot ≤ last_slot small → takes_slot small slot ≡ true
+slot_taken true slot from to = grind (arith, nat_tests)
+slot_taken false slot from to = grind (arith, nat_tests)
 
 -- a key's place, by its slot
 pub record At (key slot : ℕ) (places : Allocations) : Type 0 where
@@ -141,10 +141,10 @@ pub record Showing (cache : Cached) (key slot : ℕ) : Type 0 where
   pub keyed : entry.key ≡ key
   pub is : is_slot slot ≡ true
 
-pub shelved-shows : (p : Plan) (cache : Cached) (key slot : ℕ) → Shelved p cache → slot_of key p.places ≡ Some slot → Showing cache key slot
-shelved-shows p cache key slot shelved some =
+pub fits_cache-shows : (p : Plan) (cache : Cached) (key slot : ℕ) → PlanFitsCache p cache → slot_of key p.places ≡ Some slot → Showing cache key slot
+fits_cache-shows p cache key slot fits_cache some =
     let at = at_slot key slot p.places some in
-    let f = filled-touched InSlot (last_slot p.small) key at.held p.places cache.slots at.there (filled p cache shelved) in
+    let f = filled-touched InSlot (last_slot p.small) key at.held p.places cache.slots at.there (filled p cache fits_cache) in
     let front = f.each.0 in
     let to : at.held.slot ≤ MOST_SLOTS = slots_most p.small at.held.slot f.apart.1 in
     record {
@@ -168,29 +168,29 @@ unfolding step slot_put
 shown-step state key slot id points at =
     and_then_at (shown state.cache slot) at.entry.image _ (shown-ok state.cache key slot at)
 
-pub shelved-touched : (p : Plan) (cache : Cached) (key slot : ℕ) → Shelved p cache → slot_of key p.places ≡ Some slot → Shelved (touched p key) cache
-shelved-touched p cache key slot shelved some =
+pub fits_cache-touched : (p : Plan) (cache : Cached) (key slot : ℕ) → PlanFitsCache p cache → slot_of key p.places ≡ Some slot → PlanFitsCache (touched p key) cache
+fits_cache-touched p cache key slot fits_cache some =
     let at = at_slot key slot p.places some in
-    let keys = keys_without key p.places shelved.sound.keys in
-    let within : total ((key, at.held) ∷ without key p.places) ≤ budget p.small = subst (λ n. n ≤ budget p.small) (sym (total_first key at.held p.places at.there)) shelved.sound.within in
-    subst (λ q. Shelved q cache) (sym (places_touched p key at.held at.there))
-    (shelved_from (plan ((key, at.held) ∷ without key p.places) p.small) cache (keys.1, keys.0) within
-    (filled-touched InSlot (last_slot p.small) key at.held p.places cache.slots at.there (filled p cache shelved)))
+    let keys = keys_without key p.places fits_cache.sound.keys in
+    let within : total ((key, at.held) ∷ without key p.places) ≤ budget p.small = subst (λ n. n ≤ budget p.small) (sym (total_first key at.held p.places at.there)) fits_cache.sound.within in
+    subst (λ q. PlanFitsCache q cache) (sym (places_touched p key at.held at.there))
+    (fits_cache_from (plan ((key, at.held) ∷ without key p.places) p.small) cache (keys.1, keys.0) within
+    (filled-touched InSlot (last_slot p.small) key at.held p.places cache.slots at.there (filled p cache fits_cache)))
 
-pub sided-touched : (p : Plan) (cache : Cached) (sides : FinMap nat_cmp Sides) (key slot : ℕ) → Shelved p cache → slot_of key p.places ≡ Some slot
-    → Sided p.places sides cache.slots → Sided (touched p key).places sides cache.slots
-sided-touched p cache sides key slot shelved some sided =
+pub sides_fit-touched : (p : Plan) (cache : Cached) (sides : FinMap nat_cmp Sides) (key slot : ℕ) → PlanFitsCache p cache → slot_of key p.places ≡ Some slot
+    → SidesFitSlots p.places sides cache.slots → SidesFitSlots (touched p key).places sides cache.slots
+sides_fit-touched p cache sides key slot fits_cache some sides_fit =
     let at = at_slot key slot p.places some in
-    subst (λ (q : Plan). Sided q.places sides cache.slots) (sym (places_touched p key at.held at.there))
-    (sided_from (last_slot p.small) ((key, at.held) ∷ without key p.places) sides cache.slots
-    (filled-touched (Both sides) (last_slot p.small) key at.held p.places cache.slots at.there (filled_both p cache sides shelved sided)))
+    subst (λ (q : Plan). SidesFitSlots q.places sides cache.slots) (sym (places_touched p key at.held at.there))
+    (sides_fit_from (last_slot p.small) ((key, at.held) ∷ without key p.places) sides cache.slots
+    (filled-touched (Both sides) (last_slot p.small) key at.held p.places cache.slots at.there (filled_both p cache sides fits_cache sides_fit)))
 
 -- the sides beside a held key's slot are those of what it holds
-pub sided-shows : (p : Plan) (cache : Cached) (sides : FinMap nat_cmp Sides) (key slot : ℕ) → Shelved p cache → slot_of key p.places ≡ Some slot
-    → Sided p.places sides cache.slots → (shows : Showing cache key slot) → get sides slot ≡ Some (sides_in shows.entry)
-sided-shows p cache sides key slot shelved some sided shows =
+pub sides_fit-shows : (p : Plan) (cache : Cached) (sides : FinMap nat_cmp Sides) (key slot : ℕ) → PlanFitsCache p cache → slot_of key p.places ≡ Some slot
+    → SidesFitSlots p.places sides cache.slots → (shows : Showing cache key slot) → get sides slot ≡ Some (sides_in shows.entry)
+sides_fit-shows p cache sides key slot fits_cache some sides_fit shows =
     let at = at_slot key slot p.places some in
-    let f = filled-touched (Both sides) (last_slot p.small) key at.held p.places cache.slots at.there (filled_both p cache sides shelved sided) in
+    let f = filled-touched (Both sides) (last_slot p.small) key at.held p.places cache.slots at.there (filled_both p cache sides fits_cache sides_fit) in
     subst (λ n. get sides n ≡ option_map sides_in (get cache.slots n)) at.is f.each.0.1 ∙ ap (option_map sides_in) shows.there
 
 -- a key that is forgotten ---------------------------------------------------------------------------
@@ -199,9 +199,9 @@ pub evicted-ok : (cache : Cached) (slot : ℕ) → is_slot slot ≡ true → evi
 unfolding evicted
 evicted-ok cache slot is = and_then_at (check SlotRange (is_slot slot)) tt (λ _. Ok (cached (remove cache.slots slot) cache.small)) (ap (check SlotRange) is)
 
-pub shelved-evicts : (p : Plan) (cache : Cached) (key slot : ℕ) → Shelved p cache → slot_of key p.places ≡ Some slot
+pub fits_cache-evicts : (p : Plan) (cache : Cached) (key slot : ℕ) → PlanFitsCache p cache → slot_of key p.places ≡ Some slot
     → evicted cache slot ≡ Ok (cached (remove cache.slots slot) cache.small)
-shelved-evicts p cache key slot shelved some = evicted-ok cache slot (shelved-shows p cache key slot shelved some).is
+fits_cache-evicts p cache key slot fits_cache some = evicted-ok cache slot (fits_cache-shows p cache key slot fits_cache some).is
 
 -- a key's place and its slot are taken out
 filled-forgotten : (says : Option Entry → ℕ × Allocation → Type 0) (last key : ℕ) (held : Allocation) (places : Allocations) (slots : FinMap nat_cmp Entry)
@@ -209,23 +209,23 @@ filled-forgotten : (says : Option Entry → ℕ × Allocation → Type 0) (last 
 filled-forgotten says last key held places slots there f =
     filled-out says last [] (without key places) (key, held) slots (filled-touched says last key held places slots there f)
 
-pub shelved-forgotten : (p : Plan) (cache : Cached) (key slot : ℕ) → Shelved p cache → slot_of key p.places ≡ Some slot
-    → Shelved (forgotten p key) (cached (remove cache.slots slot) cache.small)
-shelved-forgotten p cache key slot shelved some =
+pub fits_cache-forgotten : (p : Plan) (cache : Cached) (key slot : ℕ) → PlanFitsCache p cache → slot_of key p.places ≡ Some slot
+    → PlanFitsCache (forgotten p key) (cached (remove cache.slots slot) cache.small)
+fits_cache-forgotten p cache key slot fits_cache some =
     let at = at_slot key slot p.places some in
     let all = total_touched key at.held p.places at.there in
-    let most = shelved.sound.within in
-    subst (λ n. Shelved (forgotten p key) (cached (remove cache.slots n) cache.small)) at.is
-    (shelved_from (forgotten p key) (cached (remove cache.slots at.held.slot) cache.small) (keys_without key p.places shelved.sound.keys).0 (omega (arith, all, most))
-    (filled-forgotten InSlot (last_slot p.small) key at.held p.places cache.slots at.there (filled p cache shelved)))
+    let most = fits_cache.sound.within in
+    subst (λ n. PlanFitsCache (forgotten p key) (cached (remove cache.slots n) cache.small)) at.is
+    (fits_cache_from (forgotten p key) (cached (remove cache.slots at.held.slot) cache.small) (keys_without key p.places fits_cache.sound.keys).0 (omega (arith, all, most))
+    (filled-forgotten InSlot (last_slot p.small) key at.held p.places cache.slots at.there (filled p cache fits_cache)))
 
-pub sided-forgotten : (p : Plan) (cache : Cached) (sides : FinMap nat_cmp Sides) (key slot : ℕ) → Shelved p cache → slot_of key p.places ≡ Some slot
-    → Sided p.places sides cache.slots → Sided (forgotten p key).places sides (remove cache.slots slot)
-sided-forgotten p cache sides key slot shelved some sided =
+pub sides_fit-forgotten : (p : Plan) (cache : Cached) (sides : FinMap nat_cmp Sides) (key slot : ℕ) → PlanFitsCache p cache → slot_of key p.places ≡ Some slot
+    → SidesFitSlots p.places sides cache.slots → SidesFitSlots (forgotten p key).places sides (remove cache.slots slot)
+sides_fit-forgotten p cache sides key slot fits_cache some sides_fit =
     let at = at_slot key slot p.places some in
-    subst (λ n. Sided (forgotten p key).places sides (remove cache.slots n)) at.is
-    (sided_from (last_slot p.small) (without key p.places) sides (remove cache.slots at.held.slot)
-    (filled-forgotten (Both sides) (last_slot p.small) key at.held p.places cache.slots at.there (filled_both p cache sides shelved sided)))
+    subst (λ n. SidesFitSlots (forgotten p key).places sides (remove cache.slots n)) at.is
+    (sides_fit_from (last_slot p.small) (without key p.places) sides (remove cache.slots at.held.slot)
+    (filled-forgotten (Both sides) (last_slot p.small) key at.held p.places cache.slots at.there (filled_both p cache sides fits_cache sides_fit)))
 
 -- the messages -------------------------------------------------------------------------------------
 
@@ -246,12 +246,12 @@ evict-all (slot ∷ gone) state rest each =
     ∙ evict-all gone next rest each.1
 
 -- and where a key is forgotten
-pub forgotten-steps : (state : State) (p : Plan) (key slot : ℕ) → Shelved p state.cache → slot_of key p.places ≡ Some slot
+pub forgotten-steps : (state : State) (p : Plan) (key slot : ℕ) → PlanFitsCache p state.cache → slot_of key p.places ≡ Some slot
     → all_steps state (EvictCacheEntry slot ∷ []) ≡ Ok (record state { cache = cached (remove state.cache.slots slot) state.cache.small })
 unfolding all_steps
-forgotten-steps state p key slot shelved some =
+forgotten-steps state p key slot fits_cache some =
     and_then_at (step state (EvictCacheEntry slot)) (record state { cache = cached (remove state.cache.slots slot) state.cache.small }) (λ s. all_steps s [])
-    (evict-step state slot (shelved-shows p state.cache key slot shelved some).is)
+    (evict-step state slot (fits_cache-shows p state.cache key slot fits_cache some).is)
 
 -- a rectangle is stored
 store-step : (state : State) (id key slot : ℕ) (rect : Rect) (picture : Picture) → get state.shown.surfaces id ≡ Some picture
@@ -280,13 +280,13 @@ store-one state id key slot rect picture there taken inside within =
 
 -- the cache after a rectangle is kept
 abbrev pub cache_kept : State → ℕ → Rect → Picture → Kept → Cached
-cache_kept state key rect picture kept = cached (insert (emptied state.cache.slots kept.dropped) kept.slot (entry key (image_in picture rect))) false
+cache_kept state key rect picture kept = cached (insert (emptied state.cache.slots kept.dropped) kept.slot (entry key (image_in picture rect))) state.cache.small
 
 -- no message is refused, each slot fits its field, and the plan and the cache are tied again
 pub record Keeping (state : State) (p : Plan) (id key : ℕ) (rect : Rect) (picture : Picture) (next : Plan) (kept : Kept) : Type 0 where
   pub accepted : all_steps state (map EvictCacheEntry kept.dropped ++ (SurfaceToCache id key kept.slot rect ∷ []))
       ≡ Ok (record state { cache = cache_kept state key rect picture kept })
-  pub shelved : Shelved next (cache_kept state key rect picture kept)
+  pub fits_cache : PlanFitsCache next (cache_kept state key rect picture kept)
   pub slot : (1 ≤ kept.slot) × (kept.slot ≤ MOST_SLOTS)
   pub slots : AllByRecursion (λ slot. (1 ≤ slot) × (slot ≤ MOST_SLOTS)) kept.dropped
   pub fewer : length kept.dropped ≤ length p.places
@@ -300,14 +300,18 @@ keeps_chosen p next kept key width height due =
     let test : nat_le (bytes_for width height) (budget p.small) ≡ true = check_ok CacheBudget (nat_le (bytes_for width height) (budget p.small)) first.1 in
     (grind (arith, nat_tests), (let same = first.2 in cc))
 
+-- and has the limits of the old one
+pub small_kept : (p next : Plan) (kept : Kept) (key width height : ℕ) → keeps p key width height ≡ Ok (next, kept) → next.small ≡ p.small
+small_kept p next kept key width height due = ap (λ (z : Plan × Kept). z.0.small) (sym (keeps_chosen p next kept key width height due).1)
+
 all-most : (small : Bool) (gone : List ℕ) → AllByRecursion (λ slot. (1 ≤ slot) × (slot ≤ last_slot small)) gone → AllByRecursion (λ slot. (1 ≤ slot) × (slot ≤ MOST_SLOTS)) gone
 all-most small [] each = tt
 all-most small (slot ∷ gone) each = ((each.0.0, slots_most small slot each.0.1), all-most small gone each.1)
 
-keeping_chosen : (state : State) (p : Plan) (id key : ℕ) (rect : Rect) (picture : Picture) (bytes : ℕ) → state.cache.small ≡ false → Shelved p state.cache
+keeping_chosen : (state : State) (p : Plan) (id key : ℕ) (rect : Rect) (picture : Picture) (bytes : ℕ) → p.small ≡ state.cache.small → PlanFitsCache p state.cache
     → get state.shown.surfaces id ≡ Some picture → lies_in picture.width picture.height rect ≡ true → bytes ≤ budget p.small → bytes_of (entry key (image_in picture rect)) ≡ bytes
     → Keeping state p id key rect picture (chosen p key bytes).0 (chosen p key bytes).1
-keeping_chosen state p id key rect picture bytes large shelved there inside alone counted =
+keeping_chosen state p id key rect picture bytes limits fits_cache there inside alone counted =
     let last = last_slot p.small in
     let most = budget p.small in
     let held : Entry = entry key (image_in picture rect) in
@@ -315,59 +319,57 @@ keeping_chosen state p id key rect picture bytes large shelved there inside alon
     let gone = dropped_for last most key bytes p.places in
     let left = left_of last most key bytes p.places in
     let room = room_for last most key bytes p.places (slots_some p.small) alone in
-    let f = filled-kept InSlot InSlot last most key bytes p.places state.cache.slots held (slots_some p.small) alone (filled p state.cache shelved) counted
+    let f = filled-kept InSlot InSlot last most key bytes p.places state.cache.slots held (slots_some p.small) alone (filled p state.cache fits_cache) counted
     (λ h o other says. says) in_slot-counts (held, refl, refl, counted) in
     let all : total ((key, place slot bytes) ∷ left) ≡ bytes + total left = total_middle [] left (key, place slot bytes) in
     let fits = room.within in
     let within : total ((key, place slot bytes) ∷ left) ≤ most = omega (arith, all, fits) in
-    let slots = all-most p.small gone (dropped-within last most key bytes p.places shelved.sound.slots) in
+    let slots = all-most p.small gone (dropped-within last most key bytes p.places fits_cache.sound.slots) in
     let to = slots_most p.small slot room.to in
     let stood : State = record state { cache = cached (emptied state.cache.slots gone) state.cache.small } in
-    let room_there : total_in (insert (emptied state.cache.slots gone) slot held) ≤ budget false =
-    bytes_most p.small (total_in (insert (emptied state.cache.slots gone) slot held)) (subst (λ n. n ≤ most) (sym f.bytes) within) in
+    let room_there : total_in (insert (emptied state.cache.slots gone) slot held) ≤ most = subst (λ n. n ≤ most) (sym f.bytes) within in
     record {
       accepted = evict-all gone state (SurfaceToCache id key slot rect ∷ []) slots
-          ∙ store-one stood id key slot rect picture there (ap (λ b. takes_slot b slot) large ∙ slot_from slot room.from to) inside
-          (subst (λ b. total_in (insert (emptied state.cache.slots gone) slot held) ≤ budget b) (sym large) room_there)
-          ∙ ap (λ b. Ok (record state { cache = cached (insert (emptied state.cache.slots gone) slot held) b })) large;
-      shelved = shelved_from (chosen p key bytes).0 (cached (insert (emptied state.cache.slots gone) slot held) false)
-          (keys_kept key (place slot bytes) last most bytes p.places shelved.sound.keys) within f;
+          ∙ store-one stood id key slot rect picture there (subst (λ b. takes_slot b slot ≡ true) limits (slot_taken p.small slot room.from room.to)) inside
+          (subst (λ b. total_in (insert (emptied state.cache.slots gone) slot held) ≤ budget b) limits room_there);
+      fits_cache = fits_cache_from (chosen p key bytes).0 (cached (insert (emptied state.cache.slots gone) slot held) state.cache.small)
+          (keys_kept key (place slot bytes) last most bytes p.places fits_cache.sound.keys) within f;
       slot = (room.from, to);
       slots = slots;
       fewer = length-dropped last most key bytes p.places;
     }
 
-pub shelved-kept : (state : State) (p next : Plan) (kept : Kept) (id key : ℕ) (rect : Rect) (picture : Picture) → state.cache.small ≡ false → Shelved p state.cache
+pub fits_cache-kept : (state : State) (p next : Plan) (kept : Kept) (id key : ℕ) (rect : Rect) (picture : Picture) → p.small ≡ state.cache.small → PlanFitsCache p state.cache
     → get state.shown.surfaces id ≡ Some picture → lies_in picture.width picture.height rect ≡ true → keeps p key (width_of rect) (height_of rect) ≡ Ok (next, kept)
     → Keeping state p id key rect picture next kept
-shelved-kept state p next kept id key rect picture large shelved there inside due =
+fits_cache-kept state p next kept id key rect picture limits fits_cache there inside due =
     let parts = keeps_chosen p next kept key (width_of rect) (height_of rect) due in
     subst (λ (z : Plan × Kept). Keeping state p id key rect picture z.0 z.1) parts.1
-    (keeping_chosen state p id key rect picture (bytes_for (width_of rect) (height_of rect)) large shelved there inside parts.0 refl)
+    (keeping_chosen state p id key rect picture (bytes_for (width_of rect) (height_of rect)) limits fits_cache there inside parts.0 refl)
 
 -- the sides of the rectangle go beside its slot
 abbrev pub rect_sides : Rect → Sides
 rect_sides rect = record { width = width_of rect; height = height_of rect }
 
-sided_chosen : (p : Plan) (cache : Cached) (sides : FinMap nat_cmp Sides) (key bytes : ℕ) (e : Entry) → Shelved p cache → Sided p.places sides cache.slots
+sides_fit_chosen : (p : Plan) (cache : Cached) (sides : FinMap nat_cmp Sides) (key bytes : ℕ) (e : Entry) → PlanFitsCache p cache → SidesFitSlots p.places sides cache.slots
     → bytes ≤ budget p.small → e.key ≡ key → bytes_of e ≡ bytes
-    → Sided (chosen p key bytes).0.places (insert sides (chosen p key bytes).1.slot (sides_in e)) (insert (emptied cache.slots (chosen p key bytes).1.dropped) (chosen p key bytes).1.slot e)
-sided_chosen p cache sides key bytes e shelved sided alone keyed counted =
+    → SidesFitSlots (chosen p key bytes).0.places (insert sides (chosen p key bytes).1.slot (sides_in e)) (insert (emptied cache.slots (chosen p key bytes).1.dropped) (chosen p key bytes).1.slot e)
+sides_fit_chosen p cache sides key bytes e fits_cache sides_fit alone keyed counted =
     let last = last_slot p.small in
     let most = budget p.small in
     let slot = slot_for last most key bytes p.places in
     let gone = dropped_for last most key bytes p.places in
     let more : FinMap nat_cmp Sides = insert sides slot (sides_in e) in
-    sided_from last ((key, place slot bytes) ∷ left_of last most key bytes p.places) more (insert (emptied cache.slots gone) slot e)
-    (filled-kept (Both sides) (Both more) last most key bytes p.places cache.slots e (slots_some p.small) alone (filled_both p cache sides shelved sided) counted
+    sides_fit_from last ((key, place slot bytes) ∷ left_of last most key bytes p.places) more (insert (emptied cache.slots gone) slot e)
+    (filled-kept (Both sides) (Both more) last most key bytes p.places cache.slots e (slots_some p.small) alone (filled_both p cache sides fits_cache sides_fit) counted
     (λ h o other says. (says.0, get-insert_apart sides slot (sides_in e) h.1.slot other ∙ says.1)) (both-counts more)
     ((e, refl, keyed, counted), get-insert_here sides slot (sides_in e)))
 
-pub sided-kept : (state : State) (p next : Plan) (kept : Kept) (sides : FinMap nat_cmp Sides) (key : ℕ) (rect : Rect) (picture : Picture) → Shelved p state.cache
-    → Sided p.places sides state.cache.slots → keeps p key (width_of rect) (height_of rect) ≡ Ok (next, kept)
-    → Sided next.places (insert sides kept.slot (rect_sides rect)) (cache_kept state key rect picture kept).slots
-sided-kept state p next kept sides key rect picture shelved sided due =
+pub sides_fit-kept : (state : State) (p next : Plan) (kept : Kept) (sides : FinMap nat_cmp Sides) (key : ℕ) (rect : Rect) (picture : Picture) → PlanFitsCache p state.cache
+    → SidesFitSlots p.places sides state.cache.slots → keeps p key (width_of rect) (height_of rect) ≡ Ok (next, kept)
+    → SidesFitSlots next.places (insert sides kept.slot (rect_sides rect)) (cache_kept state key rect picture kept).slots
+sides_fit-kept state p next kept sides key rect picture fits_cache sides_fit due =
     let parts = keeps_chosen p next kept key (width_of rect) (height_of rect) due in
     let held : Entry = entry key (image_in picture rect) in
-    subst (λ (z : Plan × Kept). Sided z.0.places (insert sides z.1.slot (sides_in held)) (insert (emptied state.cache.slots z.1.dropped) z.1.slot held)) parts.1
-    (sided_chosen p state.cache sides key (bytes_for (width_of rect) (height_of rect)) held shelved sided parts.0 refl refl)
+    subst (λ (z : Plan × Kept). SidesFitSlots z.0.places (insert sides z.1.slot (sides_in held)) (insert (emptied state.cache.slots z.1.dropped) z.1.slot held)) parts.1
+    (sides_fit_chosen p state.cache sides key (bytes_for (width_of rect) (height_of rect)) held fits_cache sides_fit parts.0 refl refl)

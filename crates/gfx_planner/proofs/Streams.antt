@@ -1,42 +1,35 @@
 -- The stream of an accepted script: step by step it is accepted, and shows what is wanted.
-use Rattle.std.proofs.Common.{◌≡◌, ◌+◌, ◌%◌, ◌≤◌, ◌<◌, ◌^◌, cond, List, [], ◌∷◌, ◌++◌, length, fold, Some, None, is_some, Ok, inl, inr, refl, sym, ap, ◌∙◌, subst, arith, append_assoc, length-append}
+use Rattle.std.proofs.Common.{◌≡◌, ◌+◌, ◌%◌, ◌≤◌, ◌<◌, ◌^◌, cond, List, [], ◌∷◌, ◌++◌, length, fold, map, Some, None, is_some, Ok, inl, inr, refl, sym, ap, ◌∙◌, subst, arith, append_assoc, length-append}
+use Rattle.std.proofs.lemmas.List.{map-append, length-map}
 use Rattle.std.specs.List.{AllByRecursion}
 use Rattle.gfx_base.specs.Results.{and_then}
 use Rattle.gfx_base.proofs.ResultLemmas.{and_then_at, and_then_ok}
 use Rattle.gfx_pdu.specs.declared.pdu.Pdu.{Pdu}
-use Rattle.gfx_script.specs.declared.picture.Picture.{Picture as Source}
 use Rattle.gfx_script.specs.Checks.{Held, held_first, sides_of_all, held_after, held_through}
+use Rattle.gfx_script.specs.Kinds.{KindedStep, HasKind, Fits}
 use Rattle.gfx_script.specs.Script.{IsStep, IsAccepted}
 use Rattle.gfx_script.specs.Scripted.{Script}
 use Rattle.gfx_script.specs.declared.step.Step.{Step}
 use Rattle.gfx_script.specs.declared.step.Step.TheVariants.{Frame}
 use Rattle.gfx_state.specs.State.{State, fresh}
 use Rattle.gfx_state.specs.Sending.{all_steps, sent, IsCarried, count_after}
-use Rattle.gfx_state.proofs.Sent.{all_steps-append, eats-sent, sent-append}
+use Rattle.gfx_state.proofs.Sent.{all_steps-append, sent-append}
+use Rattle.gfx_state.proofs.Wider.{sent_wider, started_fresh, Wider_same}
 use Rattle.gfx_planner.specs.Agree.{Agree, HoldsSurfaces, HoldsBitmaps, Holds, IsInFrame, KeepsFrame, IsAllowed}
 use Rattle.gfx_planner.specs.Stream.{opening, opened, closing, closed, sends, served, stream, serves, end_after}
 use Rattle.gfx_planner.specs.Want.{Wanted, nothing_wanted, wanted_after, want}
 use Rattle.gfx_planner.specs.Shows.{ScriptsAreShown}
-use Rattle.gfx_planner.specs.Wire.{Server, at_start, messages, frame_start, frame_end, reached, after_messages, plan_after, after_put, after_open, after_close}
+use Rattle.gfx_planner.specs.Wire.{Server, at_start, messages, frame_start, frame_end, after_put, after_open, after_close}
 use Rattle.gfx_planner.proofs.Lists.{all_both, all_front, all_behind}
-use Rattle.gfx_planner.proofs.Effects.{all_steps-one}
+use Rattle.gfx_planner.proofs.Effects.{all_steps-none, all_steps-one, after_messages-is}
 use Rattle.gfx_planner.proofs.Held.{holds-nothing}
-use Rattle.gfx_planner.proofs.Slots.{shelved-start}
+use Rattle.gfx_planner.proofs.Slots.{fits_cache-start}
 use Rattle.gfx_planner.proofs.SurfaceSteps.{starts, ends, going}
-use Rattle.gfx_planner.proofs.Steps.{step_fine}
-
--- where messages are accepted, the server's end goes on from the state that they give
-pub after_messages-is : (server : Server) (pdus : List Pdu) (next : State) → all_steps server.state pdus ≡ Ok next → after_messages server pdus ≡ record server { state = next }
-unfolding after_messages reached
-after_messages-is server pdus next accepted = ap (λ r. record server { state = reached server.state r }) accepted
+use Rattle.gfx_planner.proofs.Steps.{step_fine, allowed_fine, messages-is, after_put-is}
 
 -- messages, accepted one list after another
 both : (state via last : State) (xs ys : List Pdu) → all_steps state xs ≡ Ok via → all_steps via ys ≡ Ok last → all_steps state (xs ++ ys) ≡ Ok last
 both state via last xs ys first second = all_steps-append state xs ys ∙ and_then_at (all_steps state xs) via (λ next. all_steps next ys) first ∙ second
-
-all_steps-none : (state : State) → all_steps state [] ≡ Ok state
-unfolding all_steps
-all_steps-none state = refl
 
 -- frames ------------------------------------------------------------------------------------------
 
@@ -116,21 +109,21 @@ closed_fine server step few within =
 -- a step of a script --------------------------------------------------------------------------------
 
 -- the server's end, in step with the script
-pub record Stands (pictures : List Source) (server : Server) (held : Held) (wanted : Wanted) : Type 0 where
-  pub holds : Holds pictures held server
+pub record Stands (script : Script) (server : Server) (held : Held) (wanted : Wanted) : Type 0 where
+  pub holds : Holds script held server
   pub agrees : Agree server wanted
   pub frame : KeepsFrame server
 
 -- it goes on by a step
-pub record Goes (pictures : List Source) (server : Server) (step : Step) (after : Held) (wanted : Wanted) : Type 0 where
-  pub accepted : all_steps server.state (sends pictures server step) ≡ Ok (served pictures server step).state
-  pub carried : AllByRecursion IsCarried (sends pictures server step)
-  pub stands : Stands pictures (served pictures server step) after wanted
-  pub frames : (served pictures server step).frames ≤ server.frames + 1
+pub record Goes (script : Script) (server : Server) (one : KindedStep) (after : Held) (wanted : Wanted) : Type 0 where
+  pub accepted : all_steps server.state (sends script server one) ≡ Ok (served script server one).state
+  pub carried : AllByRecursion IsCarried (sends script server one)
+  pub stands : Stands script (served script server one) after wanted
+  pub frames : (served script server one).frames ≤ server.frames + 1
 
 -- what a frame that is opened or ended leaves
-holds_passed : (pictures : List Source) (held : Held) (server after : Server) (pdus : List Pdu) → Passed server after pdus → Holds pictures held server → Holds pictures held after
-holds_passed pictures held server after pdus passed holds = record {
+holds_passed : (script : Script) (held : Held) (server after : Server) (pdus : List Pdu) → Passed server after pdus → Holds script held server → Holds script held after
+holds_passed script held server after pdus passed holds = record {
   drawn = holds.drawn;
   same = holds.same;
   surfaces = subst (λ z. HoldsSurfaces held.sides held.cells z.surfaces) (sym passed.shown) holds.surfaces;
@@ -144,33 +137,29 @@ agree_passed server after wanted pdus passed agree = record {
   plan = passed.plan ∙ agree.plan;
 }
 
--- where the messages of a step are accepted, the server's end goes on from the state that they give
-pub after_put-is : (pictures : List Source) (server : Server) (step : Step) (next : State) → all_steps server.state (messages pictures server step) ≡ Ok next
-    → after_put pictures server step ≡ going server next (plan_after server.plan step)
-after_put-is pictures server step next accepted =
-    ap (λ (z : Server). record z { plan = plan_after server.plan step }) (after_messages-is server (messages pictures server step) next accepted)
-
-pub goes : (pictures : List Source) (server : Server) (held after : Held) (wanted : Wanted) (step : Step) → server.frames + 1 < 2 ^ 32 → Stands pictures server held wanted → IsStep step
-    → held_after held step ≡ Ok after → Goes pictures server step after (wanted_after pictures wanted step)
+pub goes : (script : Script) (server : Server) (held after : Held) (wanted : Wanted) (one : KindedStep) → server.frames + 1 < 2 ^ 32 → Stands script server held wanted → IsStep one.step → HasKind one
+    → held_after held one.step ≡ Ok after → Goes script server one after (wanted_after script wanted one)
 unfolding sends served
-goes pictures server held after wanted step few stands numbers checked =
+goes script server held after wanted one few stands numbers kind checked =
     let o = opened_fine server few stands.frame in
     let ready : Server = opened server in
-    let there = holds_passed pictures held server ready (opening server) o.0 stands.holds in
-    let fine = step_fine pictures ready held after step there numbers checked in
-    let put : Server = after_put pictures ready step in
-    let put_is : put ≡ going ready fine.next (plan_after ready.plan step) = after_put-is pictures ready step fine.next fine.accepted in
+    let there = holds_passed script held server ready (opening server) o.0 stands.holds in
+    let fine = step_fine script ready one.kind held after one.step there numbers kind checked in
+    let put : Server = after_put script ready one in
+    let pdus : messages script ready one ≡ fine.into.pdus = messages-is script ready one fine.into fine.is in
+    let put_is : put ≡ going ready fine.next fine.into.plan = after_put-is script ready one fine.into fine.next fine.is fine.accepted in
     let within : IsInFrame put = ap (λ z. z.state.frame) put_is ∙ fine.frame ∙ o.1 ∙ ap (λ z. Some z.frames) (sym put_is) in
     let frames : put.frames ≡ ready.frames = ap (λ z. z.frames) put_is in
-    let c = closed_fine put step (omega (arith, frames, o.2)) within in
+    let c = closed_fine put one.step (omega (arith, frames, o.2)) within in
     let agreed = fine.agrees wanted (agree_passed server ready wanted (opening server) o.0 stands.agrees) in
+    let accepted = ap (all_steps ready.state) pdus ∙ fine.accepted ∙ ap (λ z. Ok z.state) (sym put_is) in
     record {
-      accepted = both server.state ready.state _ (opening server) _ o.0.accepted
-          (both ready.state put.state _ (messages pictures ready step) (closing put step) (fine.accepted ∙ ap (λ z. Ok z.state) (sym put_is)) c.0.accepted);
-      carried = all_both IsCarried (opening server) _ o.0.carried (all_both IsCarried (messages pictures ready step) (closing put step) fine.carried c.0.carried);
+      accepted = both server.state ready.state _ (opening server) _ o.0.accepted (both ready.state put.state _ (messages script ready one) (closing put one.step) accepted c.0.accepted);
+      carried = all_both IsCarried (opening server) _ o.0.carried
+          (all_both IsCarried (messages script ready one) (closing put one.step) (subst (AllByRecursion IsCarried) (sym pdus) fine.carried) c.0.carried);
       stands = record {
-        holds = holds_passed pictures after put _ (closing put step) c.0 (subst (Holds pictures after) (sym put_is) fine.holds);
-        agrees = agree_passed put _ _ (closing put step) c.0 (subst (λ z. Agree z (wanted_after pictures wanted step)) (sym put_is) agreed);
+        holds = holds_passed script after put _ (closing put one.step) c.0 (subst (Holds script after) (sym put_is) fine.holds);
+        agrees = agree_passed put _ _ (closing put one.step) c.0 (subst (λ z. Agree z (wanted_after script wanted one)) (sym put_is) agreed);
         frame = c.1;
       };
       frames = omega (arith, c.2, frames, o.2);
@@ -178,57 +167,61 @@ goes pictures server held after wanted step few stands numbers checked =
 
 -- steps one after another ---------------------------------------------------------------------------
 
+-- the steps without their kinds
+abbrev pub bare : List KindedStep → List Step
+bare steps = map (λ (one : KindedStep). one.step) steps
+
 -- the stream of steps is accepted, and the server's end stays in step with the script
-pub record Streams (pictures : List Source) (server : Server) (steps : List Step) (after : Held) (wanted : Wanted) : Type 0 where
-  pub accepted : all_steps server.state (stream pictures server steps) ≡ Ok (serves pictures server steps).state
-  pub carried : AllByRecursion IsCarried (stream pictures server steps)
-  pub stands : Stands pictures (serves pictures server steps) after wanted
-  pub frames : (serves pictures server steps).frames ≤ server.frames + length steps
+pub record Streams (script : Script) (server : Server) (steps : List KindedStep) (after : Held) (wanted : Wanted) : Type 0 where
+  pub accepted : all_steps server.state (stream script server steps) ≡ Ok (serves script server steps).state
+  pub carried : AllByRecursion IsCarried (stream script server steps)
+  pub stands : Stands script (serves script server steps) after wanted
+  pub frames : (serves script server steps).frames ≤ server.frames + length steps
 
-pub stream-nil : (pictures : List Source) (server : Server) → stream pictures server [] ≡ []
+pub stream-nil : (script : Script) (server : Server) → stream script server [] ≡ []
 unfolding stream
-stream-nil pictures server = refl
+stream-nil script server = refl
 
-pub stream-cons : (pictures : List Source) (server : Server) (step : Step) (steps : List Step) → stream pictures server (step ∷ steps) ≡ sends pictures server step ++ stream pictures (served pictures server step) steps
+pub stream-cons : (script : Script) (server : Server) (one : KindedStep) (steps : List KindedStep) → stream script server (one ∷ steps) ≡ sends script server one ++ stream script (served script server one) steps
 unfolding stream
-stream-cons pictures server step steps = refl
+stream-cons script server one steps = refl
 
 held_through-nil : (held after : Held) → held_through held [] ≡ Ok after → held ≡ after
 unfolding held_through
 held_through-nil held after checked = cc
 
-held_through-cons : (held after : Held) (step : Step) (steps : List Step) → held_through held (step ∷ steps) ≡ Ok after
+pub held_through-cons : (held after : Held) (step : Step) (steps : List Step) → held_through held (step ∷ steps) ≡ Ok after
     → (next : Held) × (held_after held step ≡ Ok next) × (held_through next steps ≡ Ok after)
 unfolding held_through
 held_through-cons held after step steps checked = and_then_ok (held_after held step) (λ next. held_through next steps) after checked
 
-pub streams : (pictures : List Source) (server : Server) (held after : Held) (wanted : Wanted) (steps : List Step) → server.frames + length steps < 2 ^ 32 → Stands pictures server held wanted
-    → AllByRecursion IsStep steps → held_through held steps ≡ Ok after → Streams pictures server steps after (fold (wanted_after pictures) wanted steps)
-streams pictures server held after wanted [] few stands numbers checked = record {
-  accepted = ap (all_steps server.state) (stream-nil pictures server) ∙ all_steps-none server.state;
-  carried = subst (AllByRecursion IsCarried) (sym (stream-nil pictures server)) tt;
-  stands = subst (λ h. Stands pictures server h wanted) (held_through-nil held after checked) stands;
+pub streams : (script : Script) (server : Server) (held after : Held) (wanted : Wanted) (steps : List KindedStep) → server.frames + length steps < 2 ^ 32 → Stands script server held wanted
+    → AllByRecursion IsStep (bare steps) → AllByRecursion HasKind steps → held_through held (bare steps) ≡ Ok after → Streams script server steps after (fold (wanted_after script) wanted steps)
+streams script server held after wanted [] few stands numbers kinds checked = record {
+  accepted = ap (all_steps server.state) (stream-nil script server) ∙ all_steps-none server.state;
+  carried = subst (AllByRecursion IsCarried) (sym (stream-nil script server)) tt;
+  stands = subst (λ h. Stands script server h wanted) (held_through-nil held after checked) stands;
   frames = omega arith;
 }
-streams pictures server held after wanted (step ∷ steps) few stands numbers checked =
-    let c = held_through-cons held after step steps checked in
-    let first = goes pictures server held c.0 wanted step (omega arith) stands numbers.0 c.1 in
-    let next : Server = served pictures server step in
-    let others = streams pictures next c.0 after (wanted_after pictures wanted step) steps (omega (arith, first.frames)) first.stands numbers.1 c.2 in
+streams script server held after wanted (one ∷ steps) few stands numbers kinds checked =
+    let c = held_through-cons held after one.step (bare steps) checked in
+    let first = goes script server held c.0 wanted one (omega arith) stands numbers.0 kinds.0 c.1 in
+    let next : Server = served script server one in
+    let others = streams script next c.0 after (wanted_after script wanted one) steps (omega (arith, first.frames)) first.stands numbers.1 kinds.1 c.2 in
     record {
-      accepted = ap (all_steps server.state) (stream-cons pictures server step steps) ∙ both server.state next.state _ (sends pictures server step) (stream pictures next steps) first.accepted others.accepted;
-      carried = subst (AllByRecursion IsCarried) (sym (stream-cons pictures server step steps)) (all_both IsCarried (sends pictures server step) (stream pictures next steps) first.carried others.carried);
+      accepted = ap (all_steps server.state) (stream-cons script server one steps) ∙ both server.state next.state _ (sends script server one) (stream script next steps) first.accepted others.accepted;
+      carried = subst (AllByRecursion IsCarried) (sym (stream-cons script server one steps)) (all_both IsCarried (sends script server one) (stream script next steps) first.carried others.carried);
       stands = others.stands;
       frames = omega (arith, first.frames, others.frames);
     }
 
 -- in two parts
-pub stream-append : (pictures : List Source) (server : Server) (xs ys : List Step) → stream pictures server (xs ++ ys) ≡ stream pictures server xs ++ stream pictures (serves pictures server xs) ys
-stream-append pictures server [] ys = ap (λ z. z ++ stream pictures server ys) (sym (stream-nil pictures server))
-stream-append pictures server (x ∷ xs) ys =
-    stream-cons pictures server x (xs ++ ys) ∙ ap (λ z. sends pictures server x ++ z) (stream-append pictures (served pictures server x) xs ys)
-    ∙ sym (append_assoc (sends pictures server x) (stream pictures (served pictures server x) xs) _)
-    ∙ ap (λ z. z ++ stream pictures (serves pictures (served pictures server x) xs) ys) (sym (stream-cons pictures server x xs))
+pub stream-append : (script : Script) (server : Server) (xs ys : List KindedStep) → stream script server (xs ++ ys) ≡ stream script server xs ++ stream script (serves script server xs) ys
+stream-append script server [] ys = ap (λ z. z ++ stream script server ys) (sym (stream-nil script server))
+stream-append script server (x ∷ xs) ys =
+    stream-cons script server x (xs ++ ys) ∙ ap (λ z. sends script server x ++ z) (stream-append script (served script server x) xs ys)
+    ∙ sym (append_assoc (sends script server x) (stream script (served script server x) xs) _)
+    ∙ ap (λ z. z ++ stream script (serves script (served script server x) xs) ys) (sym (stream-cons script server x xs))
 
 -- a front of checked steps is checked
 pub held_through-append : (held after : Held) (xs ys : List Step) → held_through held (xs ++ ys) ≡ Ok after
@@ -240,75 +233,89 @@ held_through-append held after (x ∷ xs) ys checked =
     let r = held_through-append c.0 after xs ys c.2 in
     (r.0, and_then_at (held_after held x) c.0 (λ next. held_through next xs) c.1 ∙ r.1, r.2)
 
+-- a front has no more steps than the whole
+front_within : (front rest : List KindedStep) (steps : List Step) → bare (front ++ rest) ≡ steps → length front ≤ length steps
+front_within front rest steps same =
+    let all : length (front ++ rest) ≡ length steps = sym (length-map (front ++ rest) (λ (one : KindedStep). one.step)) ∙ ap length same in
+    omega (arith, length-append front rest, all)
+
 -- what is held before the first step
 abbrev pub first_held : Script → Held
 first_held script = held_first (sides_of_all script.pictures) script.small
 
-stands_at_start : (script : Script) → IsAccepted script → Stands script.pictures (at_start script.small) (first_held script) (nothing_wanted script.small)
+stands_at_start : (script : Script) → IsAccepted script → Stands script (at_start script.small) (first_held script) (nothing_wanted script.small)
 stands_at_start script good = record {
   holds = record {
     drawn = good.pictures;
     same = refl;
     surfaces = holds-nothing;
-    bitmaps = record { same = refl; large = refl; shelved = shelved-start script.small; sided = tt };
+    bitmaps = record { same = refl; limits = refl; fits_cache = fits_cache-start script.small; sides_fit = tt };
   };
   agrees = record { shown = refl; slots = refl; plan = refl };
   frame = inl refl;
 }
 
 -- what holds after a front of an accepted script
-pub record Along (script : Script) (front rest : List Step) : Type 0 where
+pub record Along (script : Script) (front rest : List KindedStep) : Type 0 where
   pub held : Held
-  pub streams : Streams script.pictures (at_start script.small) front held (want script front)
-  pub numbers : AllByRecursion IsStep rest
+  pub streams : Streams script (at_start script.small) front held (want script front)
+  pub numbers : AllByRecursion IsStep (bare rest)
+  pub kinds : AllByRecursion HasKind rest
   pub last : Held
-  pub checked : held_through held rest ≡ Ok last
+  pub checked : held_through held (bare rest) ≡ Ok last
 
-pub along : (script : Script) (front rest : List Step) → IsAccepted script → script.steps ≡ front ++ rest → Along script front rest
-along script front rest good cut =
+pub along : (script : Script) (front rest : List KindedStep) → IsAccepted script → Fits (front ++ rest) script.steps → Along script front rest
+along script front rest good fits =
+    let cut : script.steps ≡ bare front ++ bare rest = sym fits.same ∙ map-append (λ (one : KindedStep). one.step) front rest in
     let numbers = subst (AllByRecursion IsStep) cut good.numbers in
     let first = first_held script in
     let checked = ap (held_through first) (sym cut) ∙ good.checked in
-    let c = held_through-append first good.held front rest checked in
-    let many : length front + length rest ≡ length script.steps = sym (length-append front rest) ∙ ap length (sym cut) in
+    let c = held_through-append first good.held (bare front) (bare rest) checked in
+    let many : length front ≤ length script.steps = front_within front rest script.steps fits.same in
     record {
       held = c.0;
-      streams = streams script.pictures (at_start script.small) first c.0 (nothing_wanted script.small) front (omega (arith, good.few, many)) (stands_at_start script good) (all_front IsStep front rest numbers) c.1;
-      numbers = all_behind IsStep front rest numbers;
+      streams = streams script (at_start script.small) first c.0 (nothing_wanted script.small) front (omega (arith, good.few, many)) (stands_at_start script good)
+          (all_front IsStep (bare front) (bare rest) numbers) (all_front HasKind front rest fits.kinds) c.1;
+      numbers = all_behind IsStep (bare front) (bare rest) numbers;
+      kinds = all_behind HasKind front rest fits.kinds;
       last = good.held;
       checked = c.2;
     }
 
 -- the promise
 pub shown : ScriptsAreShown
-shown script front rest good cut =
-    let a = along script front rest good cut in
+shown script front rest good fits =
+    let a = along script front rest good fits in
     let s = a.streams in
-    let start = at_start script.small in (
+    let start = at_start script.small in
+    let ran = sent_wider start.state (end_after script front).state fresh 0 (stream script start front) s.carried s.accepted (started_fresh script.small) in (
       record {
-        applied = count_after 0 (stream script.pictures start front);
-        run = eats-sent fresh (end_after script front).state 0 (stream script.pictures start front) s.carried s.accepted;
+        applied = count_after 0 (stream script start front);
+        client = ran.0;
+        run = ran.1;
+        same = Wider_same _ ran.0 ran.2;
+        shown = sym ran.2.shown ∙ s.stands.agrees.shown;
         agrees = s.stands.agrees;
       },
-      ap (λ z. sent (stream script.pictures start z)) cut ∙ ap sent (stream-append script.pictures start front rest)
-          ∙ sent-append (stream script.pictures start front) (stream script.pictures (end_after script front) rest),
+      ap sent (stream-append script start front rest) ∙ sent-append (stream script start front) (stream script (end_after script front) rest),
     )
 
 -- a step that may be put still may once its frame is open
-pub allowed_opened : (pictures : List Source) (server : Server) (step : Step) → server.frames + 1 < 2 ^ 32 → KeepsFrame server → IsAllowed pictures server step → IsAllowed pictures (opened server) step
-allowed_opened pictures server step few keeps allowed =
+pub allowed_opened : (script : Script) (server : Server) (one : KindedStep) → server.frames + 1 < 2 ^ 32 → KeepsFrame server → IsAllowed script server one → IsAllowed script (opened server) one
+allowed_opened script server one few keeps allowed =
     let o = opened_fine server few keeps in
     record {
       numbers = allowed.numbers;
+      kind = allowed.kind;
       held = allowed.held;
-      holds = holds_passed pictures allowed.held server (opened server) (opening server) o.0 allowed.holds;
+      holds = holds_passed script allowed.held server (opened server) (opening server) o.0 allowed.holds;
       after = allowed.after;
       checked = allowed.checked;
     }
 
 -- and leaves the frame open
-pub put_in_frame : (pictures : List Source) (server : Server) (step : Step) → IsInFrame server → IsAllowed pictures server step → IsInFrame (after_put pictures server step)
-put_in_frame pictures server step within allowed =
-    let fine = step_fine pictures server allowed.held allowed.after step allowed.holds allowed.numbers allowed.checked in
-    let is = after_put-is pictures server step fine.next fine.accepted in
+pub put_in_frame : (script : Script) (server : Server) (one : KindedStep) → IsInFrame server → IsAllowed script server one → IsInFrame (after_put script server one)
+put_in_frame script server one within allowed =
+    let fine = allowed_fine script server one allowed in
+    let is = after_put-is script server one fine.into fine.next fine.is fine.accepted in
     ap (λ z. z.state.frame) is ∙ fine.frame ∙ within ∙ ap (λ z. Some z.frames) (sym is)

@@ -18,7 +18,7 @@ use Rattle.gfx_base.specs.declared.geometry.Rect.{Rect}
 use Rattle.gfx_base.specs.declared.pixel.Pixel.{Pixel}
 use Rattle.gfx_base.specs.declared.refusal.Refusal.TheVariants as refusal
 use Rattle.gfx_pdu.specs.declared.pdu.Pdu.{Pdu}
-use Rattle.gfx_pdu.specs.declared.pdu.Pdu.TheVariants.{SolidFill, SurfaceToSurface, CreateSurface, DeleteSurface, StartFrame, EndFrame, ResetGraphics, MapSurfaceToOutput}
+use Rattle.gfx_pdu.specs.declared.pdu.Pdu.TheVariants.{WireToSurface1, SolidFill, SurfaceToSurface, CreateSurface, DeleteSurface, StartFrame, EndFrame, ResetGraphics, MapSurfaceToOutput}
 use Rattle.gfx_pdu.specs.declared.pdu.Monitor.{Monitor}
 use Rattle.gfx_surface.specs.declared.TheConstants.{MOST_SIDE}
 use Rattle.gfx_surface.specs.Picture.{Picture, blank, overlaid}
@@ -39,23 +39,24 @@ use Rattle.gfx_script.specs.declared.step.Kind.TheVariants.{Raw}
 use Rattle.gfx_script.specs.Pictures.{IsDrawn}
 use Rattle.gfx_slot_plan.specs.Plan.{Plan}
 use Rattle.gfx_script.specs.Checks as check_of
-use Rattle.gfx_script.specs.Checks.{Held, has_room, with_surface, rects_filled, surface_mapped, rect_copied, picture_painted, sides_of_all, held_after}
+use Rattle.gfx_script.specs.Checks.{Held, may_add, with_surface, rects_filled, surface_mapped, rect_copied, picture_painted, sides_of_all, held_after}
+use Rattle.gfx_script.specs.Kinds.{KindedStep, as_kind, GoesAs}
 use Rattle.gfx_script.specs.Script.{IsStep}
+use Rattle.gfx_script.specs.Scripted.{Script}
+use Rattle.gfx_script.specs.Writes.{place_of}
 use Rattle.gfx_script.specs.declared.error.ScriptKind.{ScriptKind}
-use Rattle.gfx_script.specs.declared.error.ScriptKind.TheVariants as kind
-use Rattle.gfx_script.specs.declared.step.Step.{Step}
+use Rattle.gfx_script.specs.declared.error.ScriptKind.TheVariants as fault
 use Rattle.gfx_script.specs.declared.step.Step.TheVariants.{Surface, Delete, Reset, Map, Fill, Copy, Paint, Frame}
 use Rattle.gfx_state.specs.State.{State}
 use Rattle.gfx_state.specs.Step as message
 use Rattle.gfx_state.specs.Step.{UNCOMPRESSED, frame_started, frame_ended, is_open, surface_created, showing}
 use Rattle.gfx_state.specs.Sending.{all_steps, IsCarried}
 use Rattle.gfx_planner.specs.Agree.{Agree, sides_of, HoldsSurfaces, Holds}
-use Rattle.gfx_planner.specs.Want.{Wanted, drawn_on, drawing, without_surface, with_map, with_copy, pixels_in, with_painting, wanted_after}
-use Rattle.gfx_planner.specs.Wire.{Server, one_monitor, raw_bytes, plan_after, messages}
+use Rattle.gfx_planner.specs.Want.{Wanted, drawn_on, drawing, without_surface, with_map, with_copy, pixels_in, with_painting, wanted_as, wanted_after}
+use Rattle.gfx_planner.specs.Wire.{Server, Made, alone, one_monitor, raw_bytes, painting, made_as, made_by}
 use Rattle.gfx_planner.proofs.Carried.{carried-create, carried-delete, carried-reset, carried-map, carried-fill, carried-copy, carried-wire, carried-start, carried-end}
 use Rattle.gfx_planner.proofs.Effects.{all_steps-one}
-use Rattle.gfx_planner.proofs.Paints.{format_back, place_of, length-raw_bytes, length-pixels_in, painted_raw}
-use Rattle.gfx_planner.proofs.Passing.{painting_raw}
+use Rattle.gfx_planner.proofs.Paints.{format_back, length-raw_bytes, length-pixels_in, painted_raw}
 use Rattle.gfx_planner.proofs.Held.{holds-made, holds-drawn, holds-deleted}
 
 -- one message that the state accepts
@@ -83,7 +84,7 @@ ends state frame fits some = record {
 pub record MayMake (surfaces : Surfaces) (id width height : ℕ) : Type 0 where
   pub absent : get surfaces id ≡ None
   pub sides : is_size width height ≡ true
-  pub room : map.has_room surfaces width height ≡ true
+  pub room : map.fits_beside surfaces width height ≡ true
 
 none_of : (o : Option Picture) → is_some (option_map sides_of o) ≡ false → o ≡ None
 none_of None e = refl
@@ -100,10 +101,10 @@ pub may_make : (held after : Held) (surfaces : Surfaces) (id width height : ℕ)
     → check_of.surface_made held id width height ≡ Ok after → MayMake surfaces id width height × (after ≡ with_surface held id width height)
 unfolding check_of.surface_made
 may_make held after surfaces id width height format holds numbers checked =
-    let first = and_then_ok (check kind.SurfacePresent (not (contains_key held.sides id))) _ after checked in
-    let second = and_then_ok (check kind.CellBudget (has_room held width height)) _ after first.2 in
-    let fresh : contains_key held.sides id ≡ false = not_true _ (check_ok kind.SurfacePresent (not (contains_key held.sides id)) first.1) in
-    let room : has_room held width height ≡ true = check_ok kind.CellBudget (has_room held width height) second.1 in
+    let first = and_then_ok (check fault.SurfacePresent (not (contains_key held.sides id))) _ after checked in
+    let second = and_then_ok (check fault.CellBudget (may_add held width height)) _ after first.2 in
+    let fresh : contains_key held.sides id ≡ false = not_true _ (check_ok fault.SurfacePresent (not (contains_key held.sides id)) first.1) in
+    let room : may_add held width height ≡ true = check_ok fault.CellBudget (may_add held width height) second.1 in
     let count = sym holds.count in
     let total = sym holds.total in (
       record {
@@ -114,10 +115,10 @@ may_make held after surfaces id width height format holds numbers checked =
       (let same = second.2 in cc),
     )
 
-pub made : (state : State) (id width height : ℕ) (format : Format) → MayMake state.shown.surfaces id width height
+surface_accepted : (state : State) (id width height : ℕ) (format : Format) → MayMake state.shown.surfaces id width height
     → message.step state (CreateSurface id width height (byte_of format)) ≡ Ok (record state { shown = with_picture state.shown id (blank width height format) })
 unfolding message.step surface_created showing surface_made
-made state id width height format may =
+surface_accepted state id width height format may =
     let absent : contains_key state.shown.surfaces id ≡ false = ap is_some may.absent in
     and_then_at (check refusal.SurfaceExists (not (contains_key state.shown.surfaces id))) tt _ (ap (λ b. check refusal.SurfaceExists (not b)) absent)
     ∙ and_then_at (check refusal.SurfaceSize (is_size width height)) tt _ (ap (check refusal.SurfaceSize) may.sides)
@@ -146,14 +147,14 @@ pub may_fill : (held after : Held) (surfaces : Surfaces) (id : ℕ) (rects : Lis
     → MayFill surfaces id rects × (after ≡ held)
 unfolding rects_filled
 may_fill held after surfaces id rects holds checked =
-    let first = and_then_ok (ok_or (get held.sides id) kind.SurfaceAbsent) _ after checked in
+    let first = and_then_ok (ok_or (get held.sides id) fault.SurfaceAbsent) _ after checked in
     let sides : Sides = first.0 in
-    let second = and_then_ok (check kind.Outside (list_all (lies_in sides.width sides.height) rects)) _ after first.2 in
-    let found = some_of (get surfaces id) sides (sym (holds.sides id) ∙ ok_or_some (get held.sides id) kind.SurfaceAbsent sides first.1) in (
+    let second = and_then_ok (check fault.Outside (list_all (lies_in sides.width sides.height) rects)) _ after first.2 in
+    let found = some_of (get surfaces id) sides (sym (holds.sides id) ∙ ok_or_some (get held.sides id) fault.SurfaceAbsent sides first.1) in (
       record {
         picture = found.0;
         there = found.1;
-        inside = ap (λ s. list_all (lies_in s.width s.height) rects) found.2 ∙ check_ok kind.Outside (list_all (lies_in sides.width sides.height) rects) second.1;
+        inside = ap (λ s. list_all (lies_in s.width s.height) rects) found.2 ∙ check_ok fault.Outside (list_all (lies_in sides.width sides.height) rects) second.1;
       },
       (let same = second.2 in cc),
     )
@@ -171,14 +172,16 @@ filled state id colour rects may =
 abbrev pub going : Server → State → Plan → Server
 going server state plan = record server { state = state; plan = plan }
 
--- the messages of a step are accepted, and the server's end goes on to show what is wanted
-pub record Fine (pictures : List Source) (server : Server) (step : Step) (after : Held) : Type 0 where
+-- a step is made into messages that are accepted, and the server's end goes on to show what is wanted
+pub record Fine (script : Script) (server : Server) (one : KindedStep) (after : Held) : Type 0 where
+  pub into : Made
+  pub is : made_by script server one ≡ Some into
   pub next : State
-  pub accepted : all_steps server.state (messages pictures server step) ≡ Ok next
-  pub carried : AllByRecursion IsCarried (messages pictures server step)
-  pub holds : Holds pictures after (going server next (plan_after server.plan step))
+  pub accepted : all_steps server.state into.pdus ≡ Ok next
+  pub carried : AllByRecursion IsCarried into.pdus
+  pub holds : Holds script after (going server next into.plan)
   pub frame : next.frame ≡ server.state.frame
-  pub agrees : (wanted : Wanted) → Agree server wanted → Agree (going server next (plan_after server.plan step)) (wanted_after pictures wanted step)
+  pub agrees : (wanted : Wanted) → Agree server wanted → Agree (going server next into.plan) (wanted_after script wanted one)
 
 -- only what is shown changes ------------------------------------------------------------------------
 
@@ -186,9 +189,9 @@ pub record Fine (pictures : List Source) (server : Server) (step : Step) (after 
 abbrev pub shows : Server → Shown → Server
 shows server shown = record server { state = record server.state { shown = shown } }
 
-holds_shown : (pictures : List Source) (held : Held) (server : Server) (sides : FinMap nat_cmp Sides) (count : ℕ) (shown : Shown) → Holds pictures held server
-    → HoldsSurfaces sides count shown.surfaces → Holds pictures (record held { sides = sides; cells = count }) (shows server shown)
-holds_shown pictures held server sides count shown holds new = record { drawn = holds.drawn; same = holds.same; surfaces = new; bitmaps = holds.bitmaps }
+holds_shown : (script : Script) (held : Held) (server : Server) (sides : FinMap nat_cmp Sides) (count : ℕ) (shown : Shown) → Holds script held server
+    → HoldsSurfaces sides count shown.surfaces → Holds script (record held { sides = sides; cells = count }) (shows server shown)
+holds_shown script held server sides count shown holds new = record { drawn = holds.drawn; same = holds.same; surfaces = new; bitmaps = holds.bitmaps }
 
 agree_shown : (server : Server) (wanted : Wanted) (shown wants : Shown) → Agree server wanted → shown ≡ wants → Agree (shows server shown) (record wanted { shown = wants })
 agree_shown server wanted shown wants agree same = record { shown = same; slots = agree.slots; plan = agree.plan }
@@ -212,18 +215,20 @@ drawing_agrees server wanted id picture draw there agree =
 
 -- making, filling -----------------------------------------------------------------------------------
 
-pub surface_fine : (pictures : List Source) (server : Server) (held after : Held) (id width height : ℕ) (format : Format) → Holds pictures held server → IsStep (Surface id width height format)
-    → held_after held (Surface id width height format) ≡ Ok after → Fine pictures server (Surface id width height format) after
-unfolding messages held_after plan_after wanted_after
-surface_fine pictures server held after id width height format holds numbers checked =
+pub surface_fine : (script : Script) (server : Server) (kind : Option Kind) (held after : Held) (id width height : ℕ) (format : Format) → Holds script held server → IsStep (Surface id width height format)
+    → held_after held (Surface id width height format) ≡ Ok after → Fine script server (as_kind kind (Surface id width height format)) after
+unfolding made_as wanted_as held_after
+surface_fine script server kind held after id width height format holds numbers checked =
     let may = may_make held after server.state.shown.surfaces id width height format holds.surfaces numbers checked in
     let shown = with_picture server.state.shown id (blank width height format) in
     record {
+      into = record { pdus = CreateSurface id width height (byte_of format) ∷ []; plan = server.plan };
+      is = refl;
       next = record server.state { shown = shown };
-      accepted = all_steps-one server.state _ _ (made server.state id width height format may.0);
+      accepted = all_steps-one server.state _ _ (surface_accepted server.state id width height format may.0);
       carried = (carried-create id width height (byte_of format) numbers.0 (omega (arith, numbers.2)) (omega (arith, numbers.4)), tt);
-      holds = subst (λ h. Holds pictures h (shows server shown)) (sym may.1)
-          (holds_shown pictures held server _ _ shown holds
+      holds = subst (λ h. Holds script h (shows server shown)) (sym may.1)
+          (holds_shown script held server _ _ shown holds
           (holds-made held.sides held.cells server.state.shown.surfaces id (blank width height format) (omega (arith, numbers.2)) (omega (arith, numbers.4)) holds.surfaces may.0.absent));
       frame = refl;
       agrees = λ wanted agree. agree_shown server wanted _ _ agree (ap (λ (z : Shown). with_picture z id (blank width height format)) agree.shown);
@@ -235,19 +240,21 @@ sides_painted picture rects colour =
     let h = painted-height picture rects colour in
     λ i. record { width = w i; height = h i }
 
-pub fill_fine : (pictures : List Source) (server : Server) (held after : Held) (id : ℕ) (colour : Pixel) (rects : List Rect) → Holds pictures held server
-    → IsStep (Fill id colour rects) → held_after held (Fill id colour rects) ≡ Ok after → Fine pictures server (Fill id colour rects) after
-unfolding messages held_after plan_after wanted_after
-fill_fine pictures server held after id colour rects holds numbers checked =
+pub fill_fine : (script : Script) (server : Server) (kind : Option Kind) (held after : Held) (id : ℕ) (colour : Pixel) (rects : List Rect) → Holds script held server
+    → IsStep (Fill id colour rects) → held_after held (Fill id colour rects) ≡ Ok after → Fine script server (as_kind kind (Fill id colour rects)) after
+unfolding made_as wanted_as held_after
+fill_fine script server kind held after id colour rects holds numbers checked =
     let may = may_fill held after server.state.shown.surfaces id rects holds.surfaces checked in
     let picture : Picture = may.0.picture in
     let shown = with_picture server.state.shown id (painted picture rects colour) in
     record {
+      into = record { pdus = SolidFill id colour rects ∷ []; plan = server.plan };
+      is = refl;
       next = record server.state { shown = shown };
       accepted = all_steps-one server.state _ _ (filled server.state id colour rects may.0);
       carried = (carried-fill id colour rects numbers.0 numbers.4 numbers.3, tt);
-      holds = subst (λ h. Holds pictures h (shows server shown)) (sym may.1)
-          (holds_shown pictures held server _ _ shown holds
+      holds = subst (λ h. Holds script h (shows server shown)) (sym may.1)
+          (holds_shown script held server _ _ shown holds
           (holds-drawn held.sides held.cells server.state.shown.surfaces id picture (painted picture rects colour) holds.surfaces may.0.there (sides_painted picture rects colour)));
       frame = refl;
       agrees = λ wanted agree. drawing_agrees server wanted id picture (λ z. painted z rects colour) may.0.there agree;
@@ -261,9 +268,9 @@ pub record IsThere (surfaces : Surfaces) (id : ℕ) (sides : Sides) : Type 0 whe
   pub there : get surfaces id ≡ Some picture
   pub same : sides_of picture ≡ sides
 
-pub found_there : (held : Held) (surfaces : Surfaces) (id : ℕ) (sides : Sides) → HoldsSurfaces held.sides held.cells surfaces → ok_or (get held.sides id) kind.SurfaceAbsent ≡ Ok sides → IsThere surfaces id sides
+pub found_there : (held : Held) (surfaces : Surfaces) (id : ℕ) (sides : Sides) → HoldsSurfaces held.sides held.cells surfaces → ok_or (get held.sides id) fault.SurfaceAbsent ≡ Ok sides → IsThere surfaces id sides
 found_there held surfaces id sides holds e =
-    let found = some_of (get surfaces id) sides (sym (holds.sides id) ∙ ok_or_some (get held.sides id) kind.SurfaceAbsent sides e) in
+    let found = some_of (get surfaces id) sides (sym (holds.sides id) ∙ ok_or_some (get held.sides id) fault.SurfaceAbsent sides e) in
     record { picture = found.0; there = found.1; same = found.2 }
 
 deleted : (state : State) (id : ℕ) → contains_key state.shown.surfaces id ≡ true → message.step state (DeleteSurface id) ≡ Ok (record state { shown = without_surface state.shown id })
@@ -272,21 +279,23 @@ deleted state id there =
     and_then_at (surface_deleted state.shown id) (without_surface state.shown id) (λ shown. Ok (record state { shown = shown }))
     (and_then_at (check refusal.NoSurface (contains_key state.shown.surfaces id)) tt (λ _. Ok (without_surface state.shown id)) (ap (check refusal.NoSurface) there))
 
-pub delete_fine : (pictures : List Source) (server : Server) (held after : Held) (id : ℕ) → Holds pictures held server → IsStep (Delete id) → held_after held (Delete id) ≡ Ok after → Fine pictures server (Delete id) after
-unfolding messages held_after check_of.surface_deleted plan_after wanted_after
-delete_fine pictures server held after id holds numbers checked =
-    let first = and_then_ok (ok_or (get held.sides id) kind.SurfaceAbsent) _ after checked in
+pub delete_fine : (script : Script) (server : Server) (kind : Option Kind) (held after : Held) (id : ℕ) → Holds script held server → IsStep (Delete id) → held_after held (Delete id) ≡ Ok after → Fine script server (as_kind kind (Delete id)) after
+unfolding made_as wanted_as held_after check_of.surface_deleted
+delete_fine script server kind held after id holds numbers checked =
+    let first = and_then_ok (ok_or (get held.sides id) fault.SurfaceAbsent) _ after checked in
     let sides : Sides = first.0 in
     let found = found_there held server.state.shown.surfaces id sides holds.surfaces first.1 in
     let gone : Held = check_of.without_surface held id sides in
     let shown = without_surface server.state.shown id in
     let is : gone ≡ after = (let same = first.2 in cc) in
     record {
+      into = record { pdus = DeleteSurface id ∷ []; plan = server.plan };
+      is = refl;
       next = record server.state { shown = shown };
       accepted = all_steps-one server.state _ _ (deleted server.state id (ap is_some found.there));
       carried = (carried-delete id numbers, tt);
-      holds = subst (λ h. Holds pictures h (shows server shown)) is
-          (holds_shown pictures held server _ _ shown holds
+      holds = subst (λ h. Holds script h (shows server shown)) is
+          (holds_shown script held server _ _ shown holds
           (subst (λ (s : Sides). HoldsSurfaces (remove held.sides id) (held.cells - cells s.width s.height) (remove server.state.shown.surfaces id)) found.same
           (holds-deleted held.sides held.cells server.state.shown.surfaces id found.picture holds.surfaces found.there)));
       frame = refl;
@@ -306,12 +315,14 @@ was_reset state width height monitors sides =
     and_then_at (output_reset state.shown width height) (record state.shown { output = record { width = width; height = height } }) (λ shown. Ok (record state { shown = shown }))
     (and_then_at (check refusal.OutputSize (is_output_side width && is_output_side height)) tt (λ _. Ok (record state.shown { output = record { width = width; height = height } })) (ap (check refusal.OutputSize) sides))
 
-pub reset_fine : (pictures : List Source) (server : Server) (held after : Held) (width height : ℕ) → Holds pictures held server → IsStep (Reset width height) → held_after held (Reset width height) ≡ Ok after → Fine pictures server (Reset width height) after
-unfolding messages held_after plan_after wanted_after
-reset_fine pictures server held after width height holds numbers checked =
+pub reset_fine : (script : Script) (server : Server) (kind : Option Kind) (held after : Held) (width height : ℕ) → Holds script held server → IsStep (Reset width height) → held_after held (Reset width height) ≡ Ok after → Fine script server (as_kind kind (Reset width height)) after
+unfolding made_as wanted_as held_after
+reset_fine script server kind held after width height holds numbers checked =
     let sides = both_true _ _ (output_side width numbers.0 numbers.1) (output_side height numbers.2 numbers.3) in
     let shown : Shown = record server.state.shown { output = record { width = width; height = height } } in
     record {
+      into = record { pdus = ResetGraphics width height (one_monitor width height ∷ []) ∷ []; plan = server.plan };
+      is = refl;
       next = record server.state { shown = shown };
       accepted = all_steps-one server.state _ _ (was_reset server.state width height (one_monitor width height ∷ []) sides);
       carried = (
@@ -319,7 +330,7 @@ reset_fine pictures server held after width height holds numbers checked =
             (record { left = omega arith; top = omega arith; right = omega (arith, numbers.1); bottom = omega (arith, numbers.3); flags = omega arith }),
         tt,
       );
-      holds = (let same : held ≡ after = cc in subst (λ h. Holds pictures h (shows server shown)) same (holds_shown pictures held server held.sides held.cells shown holds holds.surfaces));
+      holds = (let same : held ≡ after = cc in subst (λ h. Holds script h (shows server shown)) same (holds_shown script held server held.sides held.cells shown holds holds.surfaces));
       frame = refl;
       agrees = λ wanted agree. agree_shown server wanted shown _ agree (ap (λ (z : Shown). record z { output = record { width = width; height = height } }) agree.shown);
     }
@@ -335,18 +346,20 @@ some_held : (o : Option Picture) → is_some (option_map sides_of o) ≡ true �
 some_held None e = absurd cc
 some_held (Some picture) e = refl
 
-pub map_fine : (pictures : List Source) (server : Server) (held after : Held) (id x y : ℕ) → Holds pictures held server → IsStep (Map id x y) → held_after held (Map id x y) ≡ Ok after → Fine pictures server (Map id x y) after
-unfolding messages held_after surface_mapped plan_after wanted_after
-map_fine pictures server held after id x y holds numbers checked =
-    let first = and_then_ok (check kind.SurfaceAbsent (contains_key held.sides id)) _ after checked in
-    let present : contains_key held.sides id ≡ true = check_ok kind.SurfaceAbsent (contains_key held.sides id) first.1 in
+pub map_fine : (script : Script) (server : Server) (kind : Option Kind) (held after : Held) (id x y : ℕ) → Holds script held server → IsStep (Map id x y) → held_after held (Map id x y) ≡ Ok after → Fine script server (as_kind kind (Map id x y)) after
+unfolding made_as wanted_as held_after surface_mapped
+map_fine script server kind held after id x y holds numbers checked =
+    let first = and_then_ok (check fault.SurfaceAbsent (contains_key held.sides id)) _ after checked in
+    let present : contains_key held.sides id ≡ true = check_ok fault.SurfaceAbsent (contains_key held.sides id) first.1 in
     let there : contains_key server.state.shown.surfaces id ≡ true = some_held (get server.state.shown.surfaces id) (ap is_some (sym (holds.surfaces.sides id)) ∙ present) in
     let shown : Shown = with_map server.state.shown id record { x = x; y = y } in
     record {
+      into = record { pdus = MapSurfaceToOutput id 0 x y ∷ []; plan = server.plan };
+      is = refl;
       next = record server.state { shown = shown };
       accepted = all_steps-one server.state _ _ (mapped server.state id x y there);
       carried = (carried-map id x y numbers.0 (omega (arith, numbers.1)) (omega (arith, numbers.2)), tt);
-      holds = (let same : held ≡ after = (let last = first.2 in cc) in subst (λ h. Holds pictures h (shows server shown)) same (holds_shown pictures held server held.sides held.cells shown holds holds.surfaces));
+      holds = (let same : held ≡ after = (let last = first.2 in cc) in subst (λ h. Holds script h (shows server shown)) same (holds_shown script held server held.sides held.cells shown holds holds.surfaces));
       frame = refl;
       agrees = λ wanted agree. agree_shown server wanted shown _ agree (ap (λ (z : Shown). with_map z id record { x = x; y = y }) agree.shown);
     }
@@ -380,38 +393,42 @@ copied_agrees server wanted from to rect points source target from_there to_ther
     (sym (with_copy_there wanted (get wanted.shown.surfaces from) source to rect points there))
     (drawing_agrees server wanted to target (copied_to source rect points) to_there agree)
 
-pub copy_fine : (pictures : List Source) (server : Server) (held after : Held) (from to : ℕ) (rect : Rect) (points : List Point) → Holds pictures held server → IsStep (Copy from to rect points)
-    → held_after held (Copy from to rect points) ≡ Ok after → Fine pictures server (Copy from to rect points) after
-unfolding messages held_after rect_copied plan_after wanted_after
-copy_fine pictures server held after from to rect points holds numbers checked =
+pub copy_fine : (script : Script) (server : Server) (kind : Option Kind) (held after : Held) (from to : ℕ) (rect : Rect) (points : List Point) → Holds script held server → IsStep (Copy from to rect points)
+    → held_after held (Copy from to rect points) ≡ Ok after → Fine script server (as_kind kind (Copy from to rect points)) after
+unfolding made_as wanted_as held_after rect_copied
+copy_fine script server kind held after from to rect points holds numbers checked =
     let surfaces = server.state.shown.surfaces in
-    let first = and_then_ok (ok_or (get held.sides from) kind.SurfaceAbsent) _ after checked in
+    let first = and_then_ok (ok_or (get held.sides from) fault.SurfaceAbsent) _ after checked in
     let source = found_there held surfaces from first.0 holds.surfaces first.1 in
-    let second = and_then_ok (ok_or (get held.sides to) kind.SurfaceAbsent) _ after first.2 in
+    let second = and_then_ok (ok_or (get held.sides to) fault.SurfaceAbsent) _ after first.2 in
     let target = found_there held surfaces to second.0 holds.surfaces second.1 in
-    let third = and_then_ok (check kind.Outside (lies_in first.0.width first.0.height rect)) _ after second.2 in
-    let last = and_then_ok (check kind.Outside (fit_all second.0.width second.0.height rect points)) _ after third.2 in
-    let inside = ap (λ (s : Sides). lies_in s.width s.height rect) source.same ∙ check_ok kind.Outside (lies_in first.0.width first.0.height rect) third.1 in
-    let fits = ap (λ (s : Sides). fit_all s.width s.height rect points) target.same ∙ check_ok kind.Outside (fit_all second.0.width second.0.height rect points) last.1 in
+    let third = and_then_ok (check fault.Outside (lies_in first.0.width first.0.height rect)) _ after second.2 in
+    let last = and_then_ok (check fault.Outside (fit_all second.0.width second.0.height rect points)) _ after third.2 in
+    let inside = ap (λ (s : Sides). lies_in s.width s.height rect) source.same ∙ check_ok fault.Outside (lies_in first.0.width first.0.height rect) third.1 in
+    let fits = ap (λ (s : Sides). fit_all s.width s.height rect points) target.same ∙ check_ok fault.Outside (fit_all second.0.width second.0.height rect points) last.1 in
     let copy = copied_to source.picture rect points target.picture in
     record {
+      into = record { pdus = SurfaceToSurface from to rect points ∷ []; plan = server.plan };
+      is = refl;
       next = record server.state { shown = with_picture server.state.shown to copy };
       accepted = all_steps-one server.state _ _ (was_copied server.state from to rect points source.picture target.picture source.there target.there inside fits);
       carried = (carried-copy from to rect points numbers.0 numbers.1 numbers.2 numbers.5 numbers.4, tt);
-      holds = (let same : held ≡ after = (let end = last.2 in cc) in subst (λ h. Holds pictures h (shows server (with_picture server.state.shown to copy))) same
-          (holds_shown pictures held server _ _ _ holds
+      holds = (let same : held ≡ after = (let end = last.2 in cc) in subst (λ h. Holds script h (shows server (with_picture server.state.shown to copy))) same
+          (holds_shown script held server _ _ _ holds
           (holds-drawn held.sides held.cells surfaces to target.picture copy holds.surfaces target.there (sides_copied source.picture rect points target.picture))));
       frame = refl;
       agrees = λ wanted agree. copied_agrees server wanted from to rect points source.picture target.picture source.there target.there agree;
     }
 
-pub frame_fine : (pictures : List Source) (server : Server) (held after : Held) → Holds pictures held server → held_after held Frame ≡ Ok after → Fine pictures server Frame after
-unfolding messages held_after all_steps plan_after wanted_after
-frame_fine pictures server held after holds checked = record {
+pub frame_fine : (script : Script) (server : Server) (kind : Option Kind) (held after : Held) → Holds script held server → held_after held Frame ≡ Ok after → Fine script server (as_kind kind Frame) after
+unfolding made_as wanted_as held_after all_steps
+frame_fine script server kind held after holds checked = record {
+  into = record { pdus = []; plan = server.plan };
+  is = refl;
   next = server.state;
   accepted = refl;
   carried = tt;
-  holds = (let same : held ≡ after = cc in subst (λ h. Holds pictures h server) same holds);
+  holds = (let same : held ≡ after = cc in subst (λ h. Holds script h server) same holds);
   frame = refl;
   agrees = λ wanted agree. agree;
 }
@@ -437,11 +454,11 @@ drawn_at (first ∷ others) zero picture all is = subst IsDrawn (let same : firs
 drawn_at (first ∷ others) (suc at) picture all is = drawn_at others at picture all.1 is
 
 -- what a script's checks of a paint say
-pub record MayPaint (pictures : List Source) (server : Server) (id number : ℕ) (at : Point) : Type 0 where
+pub record MayPaint (script : Script) (server : Server) (id number : ℕ) (at : Point) : Type 0 where
   pub surface : Picture
   pub there : get server.state.shown.surfaces id ≡ Some surface
   pub picture : Source
-  pub drawn : slice_get pictures number ≡ Some picture
+  pub drawn : slice_get script.pictures number ≡ Some picture
   pub inside : lies_in surface.width surface.height (place_of picture at) ≡ true
   pub place : IsRect (place_of picture at)
   pub short : picture.width * picture.height ≤ MOST_AREA
@@ -455,21 +472,21 @@ rect_fits width height picture at wide high point inside =
     let bottom : at.y + picture.height ≤ height = grind (arith, nat_tests) in
     record { left = point.x; top = point.y; right = omega arith; bottom = omega arith }
 
-pub may_paint : (pictures : List Source) (server : Server) (held after : Held) (id number : ℕ) (at : Point) → Holds pictures held server → IsPoint at
-    → picture_painted held id number at ≡ Ok after → MayPaint pictures server id number at × (held ≡ after)
+pub may_paint : (script : Script) (server : Server) (held after : Held) (id number : ℕ) (at : Point) → Holds script held server → IsPoint at
+    → picture_painted held id number at ≡ Ok after → MayPaint script server id number at × (held ≡ after)
 unfolding picture_painted
-may_paint pictures server held after id number at holds point checked =
+may_paint script server held after id number at holds point checked =
     let surfaces = server.state.shown.surfaces in
-    let first = and_then_ok (ok_or (get held.sides id) kind.SurfaceAbsent) _ after checked in
+    let first = and_then_ok (ok_or (get held.sides id) fault.SurfaceAbsent) _ after checked in
     let sides : Sides = first.0 in
     let surface = found_there held surfaces id sides holds.surfaces first.1 in
-    let second = and_then_ok (ok_or (slice_get held.pictures number) kind.Name) _ after first.2 in
-    let named = ok_or_some (slice_get held.pictures number) kind.Name second.0 second.1 in
-    let source = source_there pictures number second.0 (ap (λ ps. slice_get ps number) (sym holds.same) ∙ named) in
-    let third = and_then_ok (check kind.Outside (lies_in sides.width sides.height (moved (sized second.0.width second.0.height) at))) _ after second.2 in
-    let checked_inside = check_ok kind.Outside (lies_in sides.width sides.height (moved (sized second.0.width second.0.height) at)) third.1 in
+    let second = and_then_ok (ok_or (slice_get held.pictures number) fault.Name) _ after first.2 in
+    let named = ok_or_some (slice_get held.pictures number) fault.Name second.0 second.1 in
+    let source = source_there script.pictures number second.0 (ap (λ ps. slice_get ps number) (sym holds.same) ∙ named) in
+    let third = and_then_ok (check fault.Outside (lies_in sides.width sides.height (moved (sized second.0.width second.0.height) at))) _ after second.2 in
+    let checked_inside = check_ok fault.Outside (lies_in sides.width sides.height (moved (sized second.0.width second.0.height) at)) third.1 in
     let inside_held : lies_in sides.width sides.height (place_of source.0 at) ≡ true = ap (λ (s : Sides). lies_in sides.width sides.height (moved (sized s.width s.height) at)) source.2 ∙ checked_inside in
-    let narrow = narrow_there held surfaces id sides holds.surfaces (ok_or_some (get held.sides id) kind.SurfaceAbsent sides first.1) in (
+    let narrow = narrow_there held surfaces id sides holds.surfaces (ok_or_some (get held.sides id) fault.SurfaceAbsent sides first.1) in (
       record {
         surface = surface.picture;
         there = surface.there;
@@ -477,7 +494,7 @@ may_paint pictures server held after id number at holds point checked =
         drawn = source.1;
         inside = ap (λ (s : Sides). lies_in s.width s.height (place_of source.0 at)) surface.same ∙ inside_held;
         place = rect_fits sides.width sides.height source.0 at narrow.0 narrow.1 point inside_held;
-        short = (drawn_at pictures number source.0 holds.drawn source.1).area;
+        short = (drawn_at script.pictures number source.0 holds.drawn source.1).area;
       },
       (let end = third.2 in cc),
     )
@@ -489,31 +506,41 @@ sides_overlaid picture rect pixels =
     λ i. record { width = w i; height = h i }
 
 with_painting_there : (wanted : Wanted) (o : Option Source) (picture : Source) (id : ℕ) (at : Point) → o ≡ Some picture
-    → with_painting wanted o id at ≡ drawing wanted id (λ surface. overlaid surface (place_of picture at) (pixels_in picture))
+    → with_painting wanted o (Some Raw) id at ≡ drawing wanted id (λ surface. overlaid surface (place_of picture at) (pixels_in picture))
 unfolding with_painting
 with_painting_there wanted o picture id at there = rw there refl
 
-pub paint_fine : (pictures : List Source) (server : Server) (held after : Held) (id number : ℕ) (at : Point) (kind : Option Kind) → Holds pictures held server → IsStep (Paint id number at kind)
-    → held_after held (Paint id number at kind) ≡ Ok after → Fine pictures server (Paint id number at kind) after
-unfolding messages held_after plan_after wanted_after
-paint_fine pictures server held after id number at None holds numbers checked = absurd (let none : false ≡ true = numbers.2 in cc)
-paint_fine pictures server held after id number at (Some Raw) holds numbers checked =
-    let may = may_paint pictures server held after id number at holds numbers.1 checked in
+-- the message of a picture that goes as raw
+painting_there : (surface : Option Picture) (source : Option Source) (a : Picture) (b : Source) (id : ℕ) (at : Point) → surface ≡ Some a → source ≡ Some b
+    → painting surface source (Some Raw) id at ≡ Some (WireToSurface1 id UNCOMPRESSED (byte_of a.format) (place_of b at) (raw_bytes (pixels_in b)))
+unfolding painting
+painting_there surface source a b id at there is = rw (there, is) refl
+
+raw_fine : (script : Script) (server : Server) (held after : Held) (id number : ℕ) (at : Point) (named : Option Kind) → Holds script held server → IsStep (Paint id number at named)
+    → held_after held (Paint id number at named) ≡ Ok after → Fine script server (as_kind (Some Raw) (Paint id number at named)) after
+unfolding made_as wanted_as held_after
+raw_fine script server held after id number at named holds numbers checked =
+    let may = may_paint script server held after id number at holds numbers.1 checked in
     let m = may.0 in
     let rect = place_of m.picture at in
     let pixels = pixels_in m.picture in
     let shown = with_picture server.state.shown id (overlaid m.surface rect pixels) in
-    let due = painting_raw (get server.state.shown.surfaces id) (slice_get pictures number) (Some Raw) m.surface m.picture id at m.there m.drawn refl in
     let length_is : length (raw_bytes pixels) ≡ 4 * (m.picture.width * m.picture.height) = length-raw_bytes pixels ∙ ap (λ n. 4 * n) (length-pixels_in m.picture) in
     record {
+      into = record { pdus = WireToSurface1 id UNCOMPRESSED (byte_of m.surface.format) rect (raw_bytes pixels) ∷ []; plan = server.plan };
+      is = ap (λ o. alone o server.plan) (painting_there (get server.state.shown.surfaces id) (slice_get script.pictures number) m.surface m.picture id at m.there m.drawn);
       next = record server.state { shown = shown };
-      accepted = ap (all_steps server.state) due ∙ all_steps-one server.state _ _ (painted_raw server.state id m.surface m.picture at m.there m.inside);
-      carried = subst (AllByRecursion IsCarried) (sym due)
-          (carried-wire id UNCOMPRESSED (byte_of m.surface.format) rect (raw_bytes pixels) numbers.0 (omega arith) m.place (omega (arith, length_is, m.short)), tt);
-      holds = subst (λ h. Holds pictures h (shows server shown)) may.1
-          (holds_shown pictures held server _ _ shown holds
+      accepted = all_steps-one server.state _ _ (painted_raw server.state id m.surface m.picture at m.there m.inside);
+      carried = (carried-wire id UNCOMPRESSED (byte_of m.surface.format) rect (raw_bytes pixels) numbers.0 (omega arith) m.place (omega (arith, length_is, m.short)), tt);
+      holds = subst (λ h. Holds script h (shows server shown)) may.1
+          (holds_shown script held server _ _ shown holds
           (holds-drawn held.sides held.cells server.state.shown.surfaces id m.surface _ holds.surfaces m.there (sides_overlaid m.surface rect pixels)));
       frame = refl;
-      agrees = λ wanted agree. subst (Agree (shows server shown)) (sym (with_painting_there wanted (slice_get pictures number) m.picture id at m.drawn))
+      agrees = λ wanted agree. subst (Agree (shows server shown)) (sym (with_painting_there wanted (slice_get script.pictures number) m.picture id at m.drawn))
           (drawing_agrees server wanted id m.surface (λ z. overlaid z rect pixels) m.there agree);
     }
+
+pub paint_fine : (script : Script) (server : Server) (kind : Option Kind) (held after : Held) (id number : ℕ) (at : Point) (named : Option Kind) → Holds script held server → IsStep (Paint id number at named)
+    → GoesAs kind (Paint id number at named) → held_after held (Paint id number at named) ≡ Ok after → Fine script server (as_kind kind (Paint id number at named)) after
+paint_fine script server None held after id number at named holds numbers goes checked = absurd (let none : false ≡ true = goes.0 in cc)
+paint_fine script server (Some Raw) held after id number at named holds numbers goes checked = raw_fine script server held after id number at named holds numbers checked

@@ -1,5 +1,5 @@
 -- When a state shows what a script wants, and when a step may be put: this project's own rule.
-use Rattle.std.specs.Prelude.{◌≡◌, ◌<◌, ◌^◌, ◌⊎◌, IfSome, ℕ, List, false, Option, Some, None, option_map, Ok}
+use Rattle.std.specs.Prelude.{◌≡◌, ◌<◌, ◌^◌, ◌⊎◌, IfSome, ℕ, List, Option, Some, None, option_map, Ok}
 use Rattle.std.specs.FinMap as finmap
 use Rattle.std.specs.FinMap.{FinMap}
 use Rattle.std.specs.List.{AllByRecursion}
@@ -9,13 +9,15 @@ use Rattle.gfx_slot_plan.specs.Plan.{Plan}
 use Rattle.gfx_surface.specs.Picture.{Picture}
 use Rattle.gfx_surface_map.specs.Surfaces.{Surfaces, cells_of}
 use Rattle.gfx_script.specs.declared.held.Sides.{Sides}
-use Rattle.gfx_script.specs.declared.picture.Picture.{Picture as Source}
 use Rattle.gfx_script.specs.Checks.{Held, sides_of_all, held_after}
 use Rattle.gfx_script.specs.Pictures.{IsDrawn}
-use Rattle.gfx_script.specs.Script.{IsStep}
+use Rattle.gfx_script.specs.declared.step.Kind.{Kind}
 use Rattle.gfx_script.specs.declared.step.Step.{Step}
+use Rattle.gfx_script.specs.Kinds.{KindedStep, as_kind, HasKind}
+use Rattle.gfx_script.specs.Script.{IsStep, step_at}
+use Rattle.gfx_script.specs.Scripted.{Script}
 use Rattle.gfx_script.specs.Stock.{Stock}
-use Rattle.gfx_planner.specs.Shelves.{Shelved, Sided}
+use Rattle.gfx_planner.specs.Slots.{PlanFitsCache, SidesFitSlots}
 use Rattle.gfx_planner.specs.Want.{Wanted}
 use Rattle.gfx_planner.specs.Wire.{Server}
 
@@ -37,17 +39,17 @@ pub record HoldsSurfaces (held : FinMap nat_cmp Sides) (cells : ℕ) (surfaces :
   -- and the sides fit their fields
   pub narrow : (id : ℕ) → IfSome (finmap.get held id) (λ sides. (sides.width < 2 ^ 16) × (sides.height < 2 ^ 16))
 
--- and of these bitmaps, on which a state's own small limits don't bind
+-- and of these bitmaps, whose limits are those of the state
 pub record HoldsBitmaps (stock : Stock) (plan : Plan) (cache : Cached) : Type 0 where
   pub same : stock.plan ≡ plan
-  pub large : cache.small ≡ false
-  pub shelved : Shelved plan cache
-  pub sided : Sided plan.places stock.sides cache.slots
+  pub limits : plan.small ≡ cache.small
+  pub fits_cache : PlanFitsCache plan cache
+  pub sides_fit : SidesFitSlots plan.places stock.sides cache.slots
 
 -- what a script's checks hold of the server's end
-pub record Holds (pictures : List Source) (held : Held) (server : Server) : Type 0 where
-  pub drawn : AllByRecursion IsDrawn pictures
-  pub same : held.pictures ≡ sides_of_all pictures
+pub record Holds (script : Script) (held : Held) (server : Server) : Type 0 where
+  pub drawn : AllByRecursion IsDrawn script.pictures
+  pub same : held.pictures ≡ sides_of_all script.pictures
   pub surfaces : HoldsSurfaces held.sides held.cells server.state.shown.surfaces
   pub bitmaps : HoldsBitmaps held.stock server.plan server.state.cache
 
@@ -59,15 +61,21 @@ IsInFrame server = server.state.frame ≡ Some server.frames
 abbrev pub KeepsFrame : Server → Type 0
 KeepsFrame server = (server.state.frame ≡ None) ⊎ IsInFrame server
 
--- the step's numbers are within their ranges, and its checks hold on what the server's end has
-pub record IsAllowed (pictures : List Source) (server : Server) (step : Step) : Type 0 where
-  pub numbers : IsStep step
+-- the step's numbers are within their ranges, its kind is one that it may go as, and its checks hold on
+-- what the server's end has
+pub record IsAllowed (script : Script) (server : Server) (one : KindedStep) : Type 0 where
+  pub numbers : IsStep one.step
+  pub kind : HasKind one
   pub held : Held
-  pub holds : Holds pictures held server
+  pub holds : Holds script held server
   pub after : Held
-  pub checked : held_after held step ≡ Ok after
+  pub checked : held_after held one.step ≡ Ok after
 
 -- the same of a step that may be missing
-abbrev pub IsAllowedStep : List Source → Server → Option Step → Type 0
-IsAllowedStep pictures server None = ⊥
-IsAllowedStep pictures server (Some step) = IsAllowed pictures server step
+abbrev pub IsAllowedStep : Script → Server → Option KindedStep → Type 0
+IsAllowedStep script server None = ⊥
+IsAllowedStep script server (Some one) = IsAllowed script server one
+
+-- the step of a number, counted from 1, as it goes as a kind
+abbrev pub kinded_at : List Step → ℕ → Option Kind → Option KindedStep
+kinded_at steps number kind = option_map (as_kind kind) (step_at steps number)

@@ -3,9 +3,9 @@
 use Rattle.std.specs.Prelude.{ℕ, List, [], ◌∷◌, ◌++◌, fold, Option, Some, None, is_some, Result, if◌then◌else◌}
 use Rattle.gfx_base.specs.declared.answer.NoMemory.{NoMemory}
 use Rattle.gfx_pdu.specs.declared.pdu.Pdu.{Pdu}
-use Rattle.gfx_script.specs.declared.picture.Picture.{Picture as Source}
 use Rattle.gfx_script.specs.declared.step.Step.{Step}
 use Rattle.gfx_script.specs.declared.step.Step.TheVariants.{Frame}
+use Rattle.gfx_script.specs.Kinds.{KindedStep}
 use Rattle.gfx_script.specs.Scripted.{Script}
 use Rattle.gfx_state.specs.Sending.{sent}
 use Rattle.gfx_planner.specs.Planned.{Planned, SendsOn}
@@ -28,33 +28,33 @@ closed server Frame = after_close server
 closed server step = server
 
 -- what is sent for a step, and the server's end after it
-unfoldable pub sends : List Source → Server → Step → List Pdu
-sends pictures server step =
+unfoldable pub sends : Script → Server → KindedStep → List Pdu
+sends script server one =
     let ready = opened server in
-    opening server ++ (messages pictures ready step ++ closing (after_put pictures ready step) step)
+    opening server ++ (messages script ready one ++ closing (after_put script ready one) one.step)
 
-unfoldable pub served : List Source → Server → Step → Server
-served pictures server step = closed (after_put pictures (opened server) step) step
+unfoldable pub served : Script → Server → KindedStep → Server
+served script server one = closed (after_put script (opened server) one) one.step
 
 -- what a planner answers that puts out a step in this way
-abbrev pub PutsInFrame : List Source → Result (Unit {0}) NoMemory → Server → Planned → List ℕ → List ℕ → Option Step → Type 0
-PutsInFrame pictures result server new before now None = ⊥
-PutsInFrame pictures result server new before now (Some step) =
-    SendsOn result new before now (sends pictures server step) (served pictures server step)
+abbrev pub PutsInFrame : Script → Result (Unit {0}) NoMemory → Server → Planned → List ℕ → List ℕ → Option KindedStep → Type 0
+PutsInFrame script result server new before now None = ⊥
+PutsInFrame script result server new before now (Some one) =
+    SendsOn result new before now (sends script server one) (served script server one)
 
 -- what is sent for steps one after another
-unfoldable pub stream : List Source → Server → List Step → List Pdu
-stream pictures server [] = []
-stream pictures server (step ∷ steps) = sends pictures server step ++ stream pictures (served pictures server step) steps
+unfoldable pub stream : Script → Server → List KindedStep → List Pdu
+stream script server [] = []
+stream script server (one ∷ steps) = sends script server one ++ stream script (served script server one) steps
 
 -- the server's end after them
-abbrev pub serves : List Source → Server → List Step → Server
-serves pictures server steps = fold (served pictures) server steps
+abbrev pub serves : Script → Server → List KindedStep → Server
+serves script server steps = fold (served script) server steps
 
 -- the server's end after these steps of a script
-abbrev pub end_after : Script → List Step → Server
-end_after script steps = serves script.pictures (at_start script.small) steps
+abbrev pub end_after : Script → List KindedStep → Server
+end_after script steps = serves script (at_start script.small) steps
 
 -- the bytes of their stream
-abbrev pub stream_of : Script → List Step → List ℕ
-stream_of script steps = sent (stream script.pictures (at_start script.small) steps)
+abbrev pub stream_of : Script → List KindedStep → List ℕ
+stream_of script steps = sent (stream script (at_start script.small) steps)

@@ -11,7 +11,7 @@ use Rattle.gfx_base.specs.declared.geometry.Point.{Point}
 use Rattle.gfx_base.specs.declared.geometry.Rect.{Rect}
 use Rattle.gfx_base.specs.declared.pixel.Pixel.{Pixel}
 use Rattle.gfx_base.specs.declared.refusal.Refusal.{Refusal}
-use Rattle.gfx_base.specs.Geometry.{width_of, height_of, moved, sized}
+use Rattle.gfx_base.specs.Geometry.{width_of, height_of, sized}
 use Rattle.gfx_bitmap_cache.specs.Slots.{Entry, entry}
 use Rattle.gfx_slot_plan.specs.declared.kept.Kept.{Kept}
 use Rattle.gfx_slot_plan.specs.Plan.{Plan, plan, keeps, slot_of, touched, forgotten}
@@ -21,11 +21,15 @@ use Rattle.gfx_surface_map.specs.Shown.{Shown, nothing_shown, with_picture, copi
 use Rattle.gfx_surface_map.specs.declared.place.Place.{Place}
 use Rattle.gfx_surface_map.specs.Surfaces.{painted}
 use Rattle.gfx_script.specs.declared.picture.Picture.{Picture as Source}
+use Rattle.gfx_script.specs.declared.step.Kind.{Kind}
+use Rattle.gfx_script.specs.declared.step.Kind.TheVariants.{Raw}
 use Rattle.gfx_script.specs.declared.step.Step.{Step}
 use Rattle.gfx_script.specs.declared.step.Step.TheVariants.{Surface, Delete, Reset, Map, Fill, Copy, Keep, Show, Forget, Paint, Frame}
+use Rattle.gfx_script.specs.Kinds.{KindedStep}
 use Rattle.gfx_script.specs.Patterns.{pixel_of}
 use Rattle.gfx_script.specs.Scripted.{Script}
-use Rattle.gfx_planner.specs.Shelves.{emptied}
+use Rattle.gfx_script.specs.Writes.{place_of}
+use Rattle.gfx_planner.specs.Slots.{emptied}
 
 pub record Wanted : Type 0 where
   -- the surfaces, the output, and what is mapped to it
@@ -70,11 +74,11 @@ with_copy wanted (Some source) to rect points = drawing wanted to (copied_to sou
 unfoldable pub pixels_in : Source → List Pixel
 pixels_in picture = drawn picture.width picture.height (pixel_of picture)
 
--- a picture lies on a surface, its top left corner at a place
-unfoldable pub with_painting : Wanted → Option Source → ℕ → Point → Wanted
-with_painting wanted None id at = wanted
-with_painting wanted (Some picture) id at =
-    drawing wanted id (λ surface. overlaid surface (moved (sized picture.width picture.height) at) (pixels_in picture))
+-- a picture lies on a surface, its top left corner at a place, as it is where it goes as raw
+unfoldable pub with_painting : Wanted → Option Source → Option Kind → ℕ → Point → Wanted
+with_painting wanted (Some picture) (Some Raw) id at =
+    drawing wanted id (λ surface. overlaid surface (place_of picture at) (pixels_in picture))
+with_painting wanted picture kind id at = wanted
 
 -- a rectangle of a surface, as it stands, is kept as the bitmap of a key, in the slot that is chosen
 -- for it; other bitmaps go for it
@@ -101,26 +105,29 @@ abbrev pub without_slot : FinMap nat_cmp Entry → Option ℕ → FinMap nat_cmp
 without_slot slots None = slots
 without_slot slots (Some slot) = remove slots slot
 
--- after one more step
-unfoldable pub wanted_after : List Source → Wanted → Step → Wanted
-wanted_after pictures wanted (Surface id width height format) = with_surface wanted id (blank width height format)
-wanted_after pictures wanted (Delete id) = record wanted { shown = without_surface wanted.shown id }
-wanted_after pictures wanted (Reset width height) = record wanted { shown = record wanted.shown { output = record { width = width; height = height } } }
-wanted_after pictures wanted (Map id x y) = record wanted { shown = with_map wanted.shown id record { x = x; y = y } }
-wanted_after pictures wanted (Fill id colour rects) = drawing wanted id (λ picture. painted picture rects colour)
-wanted_after pictures wanted (Copy from to rect points) = with_copy wanted (get wanted.shown.surfaces from) to rect points
-wanted_after pictures wanted (Keep id key rect) =
+-- after one more step, which goes as a kind
+unfoldable pub wanted_as : Script → Wanted → Option Kind → Step → Wanted
+wanted_as script wanted kind (Surface id width height format) = with_surface wanted id (blank width height format)
+wanted_as script wanted kind (Delete id) = record wanted { shown = without_surface wanted.shown id }
+wanted_as script wanted kind (Reset width height) = record wanted { shown = record wanted.shown { output = record { width = width; height = height } } }
+wanted_as script wanted kind (Map id x y) = record wanted { shown = with_map wanted.shown id record { x = x; y = y } }
+wanted_as script wanted kind (Fill id colour rects) = drawing wanted id (λ picture. painted picture rects colour)
+wanted_as script wanted kind (Copy from to rect points) = with_copy wanted (get wanted.shown.surfaces from) to rect points
+wanted_as script wanted kind (Keep id key rect) =
     with_bitmap wanted (get wanted.shown.surfaces id) (keeps wanted.plan key (width_of rect) (height_of rect)) key rect
-wanted_after pictures wanted (Show key to points) = record
+wanted_as script wanted kind (Show key to points) = record
     (with_stamps wanted (bitmap_in wanted.slots (slot_of key wanted.plan.places)) to points)
     { plan = touched wanted.plan key }
-wanted_after pictures wanted (Forget key) = record wanted {
+wanted_as script wanted kind (Forget key) = record wanted {
   plan = forgotten wanted.plan key;
   slots = without_slot wanted.slots (slot_of key wanted.plan.places);
 }
-wanted_after pictures wanted (Paint id picture at kind) = with_painting wanted (slice_get pictures picture) id at
-wanted_after pictures wanted Frame = wanted
+wanted_as script wanted kind (Paint id picture at named) = with_painting wanted (slice_get script.pictures picture) kind id at
+wanted_as script wanted kind Frame = wanted
+
+abbrev pub wanted_after : Script → Wanted → KindedStep → Wanted
+wanted_after script wanted one = wanted_as script wanted one.kind one.step
 
 -- after these steps of a script
-abbrev pub want : Script → List Step → Wanted
-want script steps = fold (wanted_after script.pictures) (nothing_wanted script.small) steps
+abbrev pub want : Script → List KindedStep → Wanted
+want script steps = fold (wanted_after script) (nothing_wanted script.small) steps

@@ -1,27 +1,30 @@
 -- Which messages the server's end sends, and what it then keeps ([MS-RDPEGFX] 3.2.5; which message a
 -- step is made into is this project's own rule).
 use Rattle.std.specs.Prelude.{ℕ, ◌+◌, ◌-◌, Bool, List, [], ◌∷◌, ◌++◌, map, Option, Some, None, Result, Ok, Err}
-use Rattle.std.specs.List.{slice_get}
+use Rattle.std.specs.List.{slice_get, AllByRecursion}
 use Rattle.std.specs.FinMap.{get}
 use Rattle.gfx_base.specs.Format.{byte_of}
 use Rattle.gfx_base.specs.declared.geometry.Point.{Point}
 use Rattle.gfx_base.specs.declared.geometry.Rect.{Rect}
 use Rattle.gfx_base.specs.declared.pixel.Pixel.{Pixel}
 use Rattle.gfx_base.specs.declared.refusal.Refusal.{Refusal}
-use Rattle.gfx_base.specs.Geometry.{width_of, height_of, moved, sized}
+use Rattle.gfx_base.specs.Geometry.{width_of, height_of}
 use Rattle.gfx_pdu.specs.declared.pdu.Pdu.{Pdu}
 use Rattle.gfx_pdu.specs.declared.pdu.Pdu.TheVariants.{WireToSurface1, SolidFill, SurfaceToSurface, SurfaceToCache, CacheToSurface, EvictCacheEntry, CreateSurface, DeleteSurface, StartFrame, EndFrame, ResetGraphics, MapSurfaceToOutput}
 use Rattle.gfx_pdu.specs.declared.pdu.Monitor.{Monitor}
-use Rattle.gfx_planner.specs.declared.planner.TheConstants.{PRIMARY}
+use Rattle.gfx_planner.specs.declared.messages.TheConstants.{PRIMARY}
 use Rattle.gfx_script.specs.declared.picture.Picture.{Picture as Source}
 use Rattle.gfx_script.specs.declared.step.Kind.{Kind}
 use Rattle.gfx_script.specs.declared.step.Kind.TheVariants.{Raw}
 use Rattle.gfx_script.specs.declared.step.Step.{Step}
 use Rattle.gfx_script.specs.declared.step.Step.TheVariants.{Surface, Delete, Reset, Map, Fill, Copy, Keep, Show, Forget, Paint, Frame}
+use Rattle.gfx_script.specs.Kinds.{KindedStep}
+use Rattle.gfx_script.specs.Scripted.{Script}
+use Rattle.gfx_script.specs.Writes.{place_of}
 use Rattle.gfx_slot_plan.specs.declared.kept.Kept.{Kept}
 use Rattle.gfx_slot_plan.specs.Plan.{Plan, plan, keeps, slot_of, touched, forgotten}
-use Rattle.gfx_state.specs.State.{State, fresh}
-use Rattle.gfx_state.specs.Sending.{all_steps}
+use Rattle.gfx_state.specs.State.{State, started}
+use Rattle.gfx_state.specs.Sending.{all_steps, IsCarried}
 use Rattle.gfx_state.specs.Step.{UNCOMPRESSED}
 use Rattle.gfx_surface.specs.Picture.{Picture}
 use Rattle.gfx_planner.specs.Want.{pixels_in}
@@ -35,7 +38,7 @@ pub record Server : Type 0 where
 
 -- nothing was sent yet; the small limits on bitmaps bind, or the large ones
 abbrev pub at_start : Bool → Server
-at_start small = record { state = fresh; plan = plan [] small; frames = 0 }
+at_start small = record { state = started small; plan = plan [] small; frames = 0 }
 
 -- the one monitor of an output of these sides, which is the primary one
 abbrev pub one_monitor : ℕ → ℕ → Monitor
@@ -46,41 +49,72 @@ unfoldable pub raw_bytes : List Pixel → List ℕ
 raw_bytes [] = []
 raw_bytes (pixel ∷ pixels) = pixel.b ∷ pixel.g ∷ pixel.r ∷ pixel.a ∷ raw_bytes pixels
 
--- the message that paints a picture on a surface, in the surface's format
-unfoldable pub painting : Option Picture → Option Source → Option Kind → ℕ → Point → List Pdu
-painting (Some surface) (Some picture) (Some Raw) id at =
-    WireToSurface1 id UNCOMPRESSED (byte_of surface.format) (moved (sized picture.width picture.height) at) (raw_bytes (pixels_in picture)) ∷ []
-painting surface picture kind id at = []
+-- what a step is made into: its messages, and which keys have which slots after it
+pub record Made : Type 0 where
+  pub pdus : List Pdu
+  pub plan : Plan
 
--- the messages that keep a rectangle in the slot that is chosen: those that go for it are emptied first
-unfoldable pub keeping : Result (Plan × Kept) Refusal → ℕ → ℕ → Rect → List Pdu
-keeping (Ok found) id key rect = map EvictCacheEntry found.1.dropped ++ (SurfaceToCache id key found.1.slot rect ∷ [])
-keeping (Err r) id key rect = []
+abbrev pub made : List Pdu → Plan → Option Made
+made pdus next = Some record { pdus = pdus; plan = next }
+
+-- one message alone, where there is one
+abbrev pub alone : Option Pdu → Plan → Option Made
+alone None next = None
+alone (Some pdu) next = made (pdu ∷ []) next
+
+-- the message that paints a picture on a surface as a kind, in the surface's format
+unfoldable pub painting : Option Picture → Option Source → Option Kind → ℕ → Point → Option Pdu
+painting (Some surface) (Some picture) (Some Raw) id at =
+    Some (WireToSurface1 id UNCOMPRESSED (byte_of surface.format) (place_of picture at) (raw_bytes (pixels_in picture)))
+painting surface picture kind id at = None
 
 -- the message that puts a slot's bitmap at points
-unfoldable pub showing_slot : Option ℕ → ℕ → List Point → List Pdu
-showing_slot None to points = []
-showing_slot (Some slot) to points = CacheToSurface slot to points ∷ []
+unfoldable pub showing_slot : Option ℕ → ℕ → List Point → Option Pdu
+showing_slot None to points = None
+showing_slot (Some slot) to points = Some (CacheToSurface slot to points)
 
 -- the message that empties a slot
-unfoldable pub emptying : Option ℕ → List Pdu
-emptying None = []
-emptying (Some slot) = EvictCacheEntry slot ∷ []
+unfoldable pub emptying : Option ℕ → Option Pdu
+emptying None = None
+emptying (Some slot) = Some (EvictCacheEntry slot)
 
--- the messages of a step, inside a frame, where these are the script's pictures
-unfoldable pub messages : List Source → Server → Step → List Pdu
-messages pictures server (Surface id width height format) = CreateSurface id width height (byte_of format) ∷ []
-messages pictures server (Delete id) = DeleteSurface id ∷ []
-messages pictures server (Reset width height) = ResetGraphics width height (one_monitor width height ∷ []) ∷ []
-messages pictures server (Map id x y) = MapSurfaceToOutput id 0 x y ∷ []
-messages pictures server (Fill id colour rects) = SolidFill id colour rects ∷ []
-messages pictures server (Copy from to rect points) = SurfaceToSurface from to rect points ∷ []
-messages pictures server (Keep id key rect) = keeping (keeps server.plan key (width_of rect) (height_of rect)) id key rect
-messages pictures server (Show key to points) = showing_slot (slot_of key server.plan.places) to points
-messages pictures server (Forget key) = emptying (slot_of key server.plan.places)
-messages pictures server (Paint id picture at kind) =
-    painting (get server.state.shown.surfaces id) (slice_get pictures picture) kind id at
-messages pictures server Frame = []
+-- the messages that keep a rectangle in the slot that is chosen: those that go for it are emptied first
+unfoldable pub keeping : Result (Plan × Kept) Refusal → ℕ → ℕ → Rect → Option Made
+keeping (Err r) id key rect = None
+keeping (Ok found) id key rect = made (map EvictCacheEntry found.1.dropped ++ (SurfaceToCache id key found.1.slot rect ∷ [])) found.0
+
+-- what a step is made into that goes as a kind, inside a frame, in this state and with this choice of
+-- slots; none where it can't be put, which no step is that passes its checks
+unfoldable pub made_as : Script → State → Plan → Option Kind → Step → Option Made
+made_as script state old kind (Surface id width height format) = made (CreateSurface id width height (byte_of format) ∷ []) old
+made_as script state old kind (Delete id) = made (DeleteSurface id ∷ []) old
+made_as script state old kind (Reset width height) = made (ResetGraphics width height (one_monitor width height ∷ []) ∷ []) old
+made_as script state old kind (Map id x y) = made (MapSurfaceToOutput id 0 x y ∷ []) old
+made_as script state old kind (Fill id colour rects) = made (SolidFill id colour rects ∷ []) old
+made_as script state old kind (Copy from to rect points) = made (SurfaceToSurface from to rect points ∷ []) old
+made_as script state old kind (Keep id key rect) = keeping (keeps old key (width_of rect) (height_of rect)) id key rect
+made_as script state old kind (Show key to points) = alone (showing_slot (slot_of key old.places) to points) (touched old key)
+made_as script state old kind (Forget key) = alone (emptying (slot_of key old.places)) (forgotten old key)
+made_as script state old kind (Paint id picture at named) =
+    alone (painting (get state.shown.surfaces id) (slice_get script.pictures picture) kind id at) old
+made_as script state old kind Frame = made [] old
+
+-- the same by the server's end
+abbrev pub made_by : Script → Server → KindedStep → Option Made
+made_by script server one = made_as script server.state server.plan one.kind one.step
+
+-- there are messages, and channel messages can carry them
+abbrev pub CanBeSent : Option Made → Type 0
+CanBeSent None = ⊥
+CanBeSent (Some found) = AllByRecursion IsCarried found.pdus
+
+-- the messages of a step
+abbrev pub pdus_of : Option Made → List Pdu
+pdus_of None = []
+pdus_of (Some found) = found.pdus
+
+unfoldable pub messages : Script → Server → KindedStep → List Pdu
+messages script server one = pdus_of (made_by script server one)
 
 -- the message that opens the next frame: frames are counted from 1
 abbrev pub frame_start : Server → Pdu
@@ -99,22 +133,14 @@ reached old (Err r) = old
 unfoldable pub after_messages : Server → List Pdu → Server
 after_messages server pdus = record server { state = reached server.state (all_steps server.state pdus) }
 
--- the plan that a choice of slots leaves
-unfoldable pub kept_plan : Plan → Result (Plan × Kept) Refusal → Plan
-kept_plan old (Ok found) = found.0
-kept_plan old (Err r) = old
-
--- which keys have which slots after a step
-unfoldable pub plan_after : Plan → Step → Plan
-plan_after old (Keep id key rect) = kept_plan old (keeps old key (width_of rect) (height_of rect))
-plan_after old (Show key to points) = touched old key
-plan_after old (Forget key) = forgotten old key
-plan_after old step = old
+-- and once these are sent that a step was made into
+abbrev pub after_made : Server → Option Made → Server
+after_made server None = server
+after_made server (Some found) = record (after_messages server found.pdus) { plan = found.plan }
 
 -- after the messages of a step
-abbrev pub after_put : List Source → Server → Step → Server
-after_put pictures server step =
-    record (after_messages server (messages pictures server step)) { plan = plan_after server.plan step }
+unfoldable pub after_put : Script → Server → KindedStep → Server
+after_put script server one = after_made server (made_by script server one)
 
 -- after a frame is opened
 abbrev pub after_open : Server → Server

@@ -1,7 +1,13 @@
 ghost use Rattle.gfx_planner.specs.Shows.{ScriptsAreShown};
+ghost use Rattle.gfx_planner.specs.Within.{StepsWriteWithin};
 
 /// The stream of an accepted script is accepted whole, and after each of its steps, its frames among
 /// them, the state is the planner's own and shows what the script wants.
 pub fn streams_show_their_scripts()
     ensures { ScriptsAreShown }
+{}
+
+/// No step changes a pixel outside of where it writes.
+pub fn steps_write_within()
+    ensures { StepsWriteWithin }
 {}

@@ -6,10 +6,12 @@
 #![tactic(auto)]
 
 mod laws;
+mod messages;
 mod paint;
 mod planner;
+mod sender;
 mod streaming;
 
-pub use laws::streams_show_their_scripts;
+pub use laws::{steps_write_within, streams_show_their_scripts};
 pub use planner::{MOST_FRAMES, Planner};
 pub use streaming::put_in_frame;

@@ -14,10 +14,10 @@ returns-in_err-open_frame c =
     let p = err_from_is_err_and c.from_residual.result c.from_residual.ensures.1 in
     let between : is_some c.args.planner.now.server.state.frame ≡ false = search rules in
     let s = c.in_err-open_frame.ensures.sends in
-    rw p.1 (not_opened c.open_frame.new.self c.args.out.now c.open_frame.new.out c.args.planner.now.server between (s.0, s.1))
+    rw p.1 (not_opened c.open_frame.new.self c.args.out.now c.open_frame.new.out c.args.planner.now.server between s.0)
 
 pub returns : goal.returns
 returns c =
     let between : is_some c.args.planner.now.server.state.frame ≡ false = search rules in
     let s = c.in_ok-open_frame.ensures.sends in
-    opened_now c.open_frame.new.self c.args.out.now c.open_frame.new.out c.args.planner.now.server between (s.1, s.2)
+    opened_now c.open_frame.new.self c.args.out.now c.open_frame.new.out c.args.planner.now.server between s.1

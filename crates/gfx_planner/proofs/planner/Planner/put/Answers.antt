@@ -1,31 +1,36 @@
-use Rattle.std.proofs.Common.{◌≡◌, false, ap, sym, subst, rules, ◌∙◌, Some, None}
-use Rattle.gfx_planner.specs.Planned.{Passes}
-use Rattle.gfx_planner.proofs.Calls.{put_answer}
-use Rattle.gfx_planner.proofs.planner.Planner.put.Goals as goal
-use Rattle.std.specs.Result.{is_err}
+use Rattle.std.proofs.Common.{◌≡◌, Some}
+use Rattle.std.proofs.lemmas.Result.{err_from_is_err_and}
+use Rattle.gfx_script.specs.Kinds.{as_kind}
 use Rattle.gfx_script.specs.Script.{step_at}
-use Rattle.gfx_script.specs.declared.step.Step.{Step}
-use Rattle.gfx_planner.specs.Agree.{IsAllowedStep}
-use Rattle.std.specs.Prelude.{IfOk}
-use Rattle.gfx_planner.specs.Wire.{messages, plan_after}
-use Rattle.gfx_planner.proofs.planner.Planner.put.Goals.{in-Some, in-None}
+use Rattle.gfx_planner.proofs.Steps.{can_be_sent, may_send}
+use Rattle.gfx_planner.proofs.Calls.{planned, is_allowed, puts, puts_front}
+use Rattle.gfx_planner.proofs.planner.Planner.put.Goals as goal
+
+pub step_messages-requires-clause-possible : goal.step_messages-requires-clause-possible
+step_messages-requires-clause-possible c =
+    let found : Some c.in-Some.step.now ≡ step_at c.args.script.now.steps c.args.step = rw c.in-Some.is at c.step.ensures in
+    let allowed = rw (← c.self.view_is) at c.requires.allowed in
+    rw c.state-state.ensures (can_be_sent c.args.script.now (planned c.self.inside.sender c.self.inside.plan c.self.inside.frames c.self.inside.spent).server (as_kind c.args.kind c.in-Some.step.now)
+    (is_allowed c.args.script.now _ c.args.step c.args.kind c.in-Some.step.now found (allowed c.if-self.false)))
+
+pub send-requires : goal.send-requires
+send-requires c =
+    let found : Some c.in-Some.step.now ≡ step_at c.args.script.now.steps c.args.step = rw c.in-Some.is at c.step.ensures in
+    let allowed = rw (← c.self.view_is) at c.requires.allowed in
+    rw c.as_slice.ensures.value (may_send c.args.script.now (planned c.self.inside.sender c.self.inside.plan c.self.inside.frames c.self.inside.spent).server (as_kind c.args.kind c.in-Some.step.now) _
+    (is_allowed c.args.script.now _ c.args.step c.args.kind c.in-Some.step.now found (allowed c.if-self.false)) (rw c.state-state.ensures at c.in_ok-pdus.ensures))
+
+pub returns-in_err-send : goal.returns-in_err-send
+returns-in_err-send c =
+    let p = err_from_is_err_and c.from_residual-in_err-send.result c.from_residual-in_err-send.ensures.1 in
+    let found : Some c.in-Some.step.now ≡ step_at c.args.script.now.steps c.args.step = rw c.in-Some.is at c.step.ensures in
+    rw (p.1, ← found, ← c.self.view_is) (puts_front c.args.script.now p.0 c.self.inside.sender c.send.new.self c.self.inside.plan c.step_messages.new.plan c.self.inside.frames c.self.inside.spent
+    (as_kind c.args.kind c.in-Some.step.now) c.in_ok-pdus.pdus.items c.args.out.now c.send.new.out c.if-self.false (rw c.state-state.ensures at c.in_ok-pdus.ensures) (rw c.as_slice.ensures.value at c.in_err-send.ensures))
 
 pub returns : goal.returns
 returns c =
-    let old = c.args.self.now in
-    let fresh : old.spent ≡ false = search rules in
-    elim c.match-step.branch [
-      | in-Some w ↦
-          let o = w.put_step-put in
-          let step : Step = w.in-Some.step.now in
-          let found : Some step ≡ step_at c.args.script.now.steps c.args.step = rw w.in-Some.is at c.step.ensures in
-          let state = ap (λ p. p.server.state) (sym (c.self-2.view_is ∙ w.self-is)) in
-          let plan = subst (λ p. IfOk o.result (λ _. p ≡ plan_after old.server.plan step)) (ap (λ p. p.server.plan) (sym (c.self-2.view_is ∙ w.self-is))) o.ensures.plan in
-          let frames = ap (λ p. p.server.frames) (c.self-2.view_is ∙ w.self-is) ∙ o.ensures.frames in
-          let passes = subst (λ z. Passes o.result old.server.state z c.args.out.now o.new.out (messages c.args.script.now.pictures old.server step)) state o.ensures.passes in
-          rw (← found, w.out-is, w.put-is) (put_answer c.args.script.now.pictures o.result old c.self-2.inside.screen c.self-2.inside.plan c.args.out.now o.new.out step c.self-2.inside.frames c.is_err-self-inside.result fresh
-          (subst (IsAllowedStep c.args.script.now.pictures old.server) (sym found) c.requires.allowed) passes plan frames (c.is_err-self-inside.ensures.value ∙ ap is_err w.put-is))
-      | in-None w ↦
-          let none : None ≡ step_at c.args.script.now.steps c.args.step = rw w.in-None.is at c.step.ensures in
-          absurd (subst (IsAllowedStep c.args.script.now.pictures old.server) (sym none) c.requires.allowed)
-    ]
+    let found : Some c.in-Some.step.now ≡ step_at c.args.script.now.steps c.args.step = rw c.in-Some.is at c.step.ensures in
+    let allowed = rw (← c.self.view_is) at c.requires.allowed in
+    rw (← found, ← c.self.view_is) (puts c.args.script.now c.self.inside.sender c.send.new.self c.self.inside.plan c.step_messages.new.plan c.self.inside.frames c.self.inside.spent
+    (as_kind c.args.kind c.in-Some.step.now) c.in_ok-pdus.pdus.items c.args.out.now c.send.new.out c.if-self.false
+    (is_allowed c.args.script.now _ c.args.step c.args.kind c.in-Some.step.now found (allowed c.if-self.false)) (rw c.state-state.ensures at c.in_ok-pdus.ensures) (rw c.as_slice.ensures.value at c.in_ok-send.ensures))

@@ -18,7 +18,7 @@ abbrev pub InSlot : Option Entry → ℕ × Allocation → Type 0
 InSlot o held = (e : Entry) × (o ≡ Some e) × (e.key ≡ held.0) × (bytes_of e ≡ held.1.bytes)
 
 -- the slots of the keys hold their bitmaps, and nothing else counts for the budget
-pub record Shelved (p : Plan) (cache : Cached) : Type 0 where
+pub record PlanFitsCache (p : Plan) (cache : Cached) : Type 0 where
   pub sound : IsPlan p
   pub each : AllByRecursion (λ held. InSlot (get cache.slots held.1.slot) held) p.places
   pub bytes : total_in cache.slots ≡ total p.places
@@ -32,5 +32,5 @@ abbrev pub SidesIn : FinMap nat_cmp Sides → Option Entry → ℕ × Allocation
 SidesIn sides o held = get sides held.1.slot ≡ option_map sides_in o
 
 -- so beside the slot of each key
-abbrev pub Sided : Allocations → FinMap nat_cmp Sides → FinMap nat_cmp Entry → Type 0
-Sided places sides slots = AllByRecursion (λ held. SidesIn sides (get slots held.1.slot) held) places
+abbrev pub SidesFitSlots : Allocations → FinMap nat_cmp Sides → FinMap nat_cmp Entry → Type 0
+SidesFitSlots places sides slots = AllByRecursion (λ held. SidesIn sides (get slots held.1.slot) held) places

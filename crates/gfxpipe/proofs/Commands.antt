@@ -1,93 +1,119 @@
--- What the parts of a command come to.
+-- What the parts of `render` come to, and a command of which nothing was begun.
 use Rattle.std.proofs.Common.{◌≡◌, ℕ, List, [], Option, Some, None, Result, Ok, Err, refl, sym, ap, ◌∙◌, subst, arith}
-use Rattle.gfx_base.specs.Stream.{Change, change, Gains, GainsPart, FailsAfter}
-use Rattle.gfx_base.proofs.Streams.{Gained_none, Gains_none}
+use Rattle.gfx_base.specs.Stream.{Change, change, Gains, GainsPart, FailsAfter, Keeps}
+use Rattle.gfx_base.proofs.Streams.{Gained_none, Gains_none, Keeps_same}
 use Rattle.gfx_client.specs.declared.client.Client.{Client}
-use Rattle.gfx_client.specs.Client.{cursor_of}
-use Rattle.gfx_state.specs.Run.{Run, begun}
+use Rattle.gfx_client.specs.declared.fault.ClientFault.{ClientFault}
+use Rattle.gfx_client.specs.declared.fault.ClientFault.TheVariants as fault
+use Rattle.gfx_client.specs.Client.{cursor_of, closed_by, end_of}
+use Rattle.gfx_input.specs.declared.fault.InputFault.{InputFault}
+use Rattle.gfx_input.specs.declared.fault.InputFault.TheVariants as input
+use Rattle.gfx_input.specs.declared.reading.Read.{Read}
+use Rattle.gfx_input.specs.declared.reading.Read.TheVariants as read
+use Rattle.gfx_input.specs.Reading.{rest_of, Reads, input_of, EndsBy, ReadsInput}
+use Rattle.gfx_input.proofs.Pieces.{Tells_rest}
+use Rattle.gfx_state.specs.Run.{Run, begun, run_of}
 use Rattle.gfx_state.specs.State.{State}
 use Rattle.gfx_state.proofs.Runs.{eats-nil}
 use Rattle.gfx_surface_map.specs.Shown.{Shown}
 use Rattle.gfx_words.specs.declared.table.Command.{Command}
 use Rattle.gfx_words.specs.declared.table.Command.TheVariants.{Render, RenderOutput, Encode}
 use Rattle.gfxpipe.specs.declared.ending.Ending.{Ending}
-use Rattle.gfxpipe.specs.declared.ending.Ending.TheVariants.{Usage, Played}
-use Rattle.gfxpipe.specs.declared.player.Stop.{Stop}
-use Rattle.gfxpipe.specs.declared.player.Stop.TheVariants as stop
+use Rattle.gfxpipe.specs.declared.ending.Ending.TheVariants.{Usage}
+use Rattle.gfxpipe.specs.declared.recording.Player.{Player}
+use Rattle.gfxpipe.specs.declared.render.Dump.{Dump}
 use Rattle.gfxpipe.specs.declared.trouble.Trouble.{Trouble}
 use Rattle.gfxpipe.specs.declared.trouble.Trouble.TheVariants as trouble
-use Rattle.gfxpipe.specs.declared.render.Dump.{Dump}
+use Rattle.gfxpipe.specs.Did.{IsNotRefused, IsFine, IsReadWhole, WritesOn, Did, Renders, trouble_of}
+use Rattle.gfxpipe.specs.Due.{shown, played}
 use Rattle.gfxpipe.specs.Dump.{dump_of, Prints}
-use Rattle.gfxpipe.specs.Played.{played}
-use Rattle.gfxpipe.specs.Play.{Reads, input_of, Plays}
-use Rattle.gfxpipe.specs.Run.{Limits, Renders, Executes}
-use Rattle.gfxpipe.specs.Encode.{encoded}
-use Rattle.gfxpipe.specs.Text.{ReadsText}
-use Rattle.gfxpipe.proofs.Pieces.{Tells_rest}
+use Rattle.gfxpipe.specs.Recording.{ending_by}
+use Rattle.gfxpipe.specs.Run.{Limits, limit_of, Executes}
+use Rattle.gfxpipe.proofs.Recordings.{Plays, Refuses, told, tells}
 
--- nothing was read
-pub reads_none : (limit n : ℕ) (left : Option (List ℕ)) → Reads limit (change n n left left)
-reads_none limit n left = record {
-  taken = [];
-  few = omega arith;
-  told = Tells_rest left;
-  early = ap (λ (z : Run). z.refusal) (eats-nil begun);
-}
+-- nothing was begun -----------------------------------------------------------------------------------
 
-pub reads_text_none : (limit n : ℕ) (left : Option (List ℕ)) → ReadsText limit (change n n left left)
-reads_text_none limit n left = record { taken = []; few = omega arith; told = Tells_rest left }
+-- the empty front of an input is fine
+fine_none : (command : Command) → IsFine command []
+fine_none Render = ap (λ (z : Run). z.refusal) (eats-nil begun)
+fine_none RenderOutput = ap (λ (z : Run). z.refusal) (eats-nil begun)
+fine_none Encode = tt
 
-part_none : (m : ℕ) (held : Option (List ℕ)) (due : List ℕ) → GainsPart (change m m held held) due
-part_none m held due = record { sent = []; rest = due; cut = refl; gained = Gained_none held }
+reads_none : (command : Command) (limit n : ℕ) (left : Option (List ℕ)) → Reads (IsFine command) limit (change n n left left)
+reads_none command limit n left = record { taken = []; few = omega arith; told = Tells_rest left; early = fine_none command }
+
+-- nothing was written
+pub writes_none : (command : Command) (m : ℕ) (held : Option (List ℕ)) (text : List ℕ) → WritesOn command (change m m held held) text
+writes_none Render m held text = Gains_none m held
+writes_none RenderOutput m held text = Gains_none m held
+writes_none Encode m held text = (refl, record { sent = []; rest = text; cut = refl; gained = Gained_none held })
 
 -- no memory is left before anything is read
+pub not_begun : (command : Command) (limit n m : ℕ) (left held : Option (List ℕ)) → Did (Err trouble.Memory) command limit (change n n left left) (change m m held held)
+not_begun command limit n m left held = (reads_none command limit n left, (refl, writes_none command m held _))
+
 pub memory_first : (command : Option Command) (bounds : Limits) (n m : ℕ) (left held : Option (List ℕ)) → Executes (Err trouble.Memory) command bounds (change n n left left) (change m m held held)
-unfolding encoded
-memory_first None bounds n m left held = (refl, refl, Gains_none m held)
-memory_first (Some Render) bounds n m left held = (reads_none bounds.stream n left, (refl, Gains_none m held))
-memory_first (Some RenderOutput) bounds n m left held = (reads_none bounds.stream n left, (refl, Gains_none m held))
-memory_first (Some Encode) bounds n m left held = (reads_text_none bounds.script n left, (refl, refl, part_none m held _))
+memory_first None bounds n m left held = record { count = refl; left = Keeps_same left; gains = Gains_none m held }
+memory_first (Some command) bounds n m left held = not_begun command (limit_of bounds command) n m left held
 
 -- the words are no command
 pub usage : (bounds : Limits) (n m : ℕ) (left held : Option (List ℕ)) → Executes (Ok Usage) None bounds (change n n left left) (change m m held held)
-usage bounds n m left held = (refl, refl, Gains_none m held)
-
--- what `render` comes to, with what it read
-abbrev pub Rendered : Result Ending Trouble → Dump → ℕ → Change → Change → Type 0
-Rendered ended dump limit i o = (reads : Reads limit i) × Renders ended (dump_of dump) limit (input_of reads) i o
-
-pub no_client : (dump : Dump) (limit n m : ℕ) (left held : Option (List ℕ)) → Rendered (Err trouble.Memory) dump limit (change n n left left) (change m m held held)
-no_client dump limit n m left held = (reads_none limit n left, (refl, Gains_none m held))
-
--- a recording could not be played
-pub not_played : (t : Trouble) (dump : Dump) (limit m : ℕ) (i : Change) (held : Option (List ℕ)) (client : Client) → Plays (Err t) limit i client → Rendered (Err t) dump limit i (change m m held held)
-not_played trouble.Read dump limit m i held client (reads, falls, rose) = (reads, (falls, rose, Gains_none m held))
-not_played trouble.Memory dump limit m i held client (reads, count) = (reads, (count, Gains_none m held))
-not_played trouble.Write dump limit m i held client never = absurd never
-
--- the text of a client is that of what was played
-text_of_client : (dump : Dump) (limit : ℕ) (bytes : List ℕ) (client : Client) (shown : Shown) → shown ≡ (cursor_of client).state.shown → (cursor_of client).state ≡ (played limit bytes).state
-    → dump_of dump shown ≡ dump_of dump (played limit bytes).state.shown
-text_of_client dump limit bytes client shown same shows = ap (dump_of dump) (same ∙ ap (λ (z : State). z.shown) shows)
-
--- a recording was played, and what the client shows was printed
-pub printed : (dump : Dump) (last : Stop) (limit : ℕ) (i o : Change) (client : Client) (shown : Shown) → Plays (Ok last) limit i client → shown ≡ (cursor_of client).state.shown
-    → Gains o (dump_of dump shown) → Rendered (Ok (Played last)) dump limit i o
-printed dump stop.End limit i o client shown (reads, count, ends, all) same gains =
-    (reads, (sym ends.stop_is, count, all refl, subst (Gains o) (text_of_client dump limit (input_of reads) client shown same ends.shows) gains))
-printed dump (stop.Refused number r) limit i o client shown (reads, count, ends, all) same gains =
-    (reads, (sym ends.stop_is, count, subst (Gains o) (text_of_client dump limit (input_of reads) client shown same ends.shows) gains))
-printed dump stop.TooLong limit i o client shown (reads, count, ends, all) same gains =
-    (reads, (sym ends.stop_is, count, subst (Gains o) (text_of_client dump limit (input_of reads) client shown same ends.shows) gains))
-
--- a recording was played, and what the client shows could not be printed
-pub not_printed : (t : Trouble) (dump : Dump) (last : Stop) (limit : ℕ) (i o : Change) (client : Client) (shown : Shown) → Plays (Ok last) limit i client → shown ≡ (cursor_of client).state.shown
-    → Prints (Err t) o (dump_of dump shown) → Rendered (Err t) dump limit i o
-not_printed trouble.Write dump last limit i o client shown (reads, count, ends, all) same fails =
-    (reads, (count, subst (FailsAfter o) (text_of_client dump limit (input_of reads) client shown same ends.shows) fails))
-not_printed trouble.Memory dump last limit i o client shown (reads, count, ends, all) same gains = (reads, (count, gains))
-not_printed trouble.Read dump last limit i o client shown plays same never = absurd never
+usage bounds n m left held = record { count = refl; left = Keeps_same left; gains = Gains_none m held }
 
 -- the words are another spelling of the same command
 pub by_words : (ended : Result Ending Trouble) (a b : Option Command) (bounds : Limits) (i o : Change) → a ≡ b → Executes ended a bounds i o → Executes ended b bounds i o
 by_words ended a b bounds i o same done = subst (λ (z : Option Command). Executes ended z bounds i o) same done
+
+-- the input could not be read ----------------------------------------------------------------------------
+
+pub not_read : {S : Type 0} (stands stops : S → List ℕ → Type 0) (f : InputFault) (command : Command) (limit m : ℕ) (i : Change) (held : Option (List ℕ)) (taker : S) → ReadsInput stands stops (IsFine command) (Err f) limit i taker
+    → Did (Err (trouble_of f)) command limit i (change m m held held)
+not_read stands stops input.Failed command limit m i held taker (reads, falls, rose) = (reads, (falls, rose, Gains_none m held))
+not_read stands stops input.Memory command limit m i held taker (reads, count) = (reads, (count, writes_none command m held _))
+
+-- a recording ----------------------------------------------------------------------------------------------
+
+-- no client can be made
+pub no_client : (d : Dump) (limit n m : ℕ) (left held : Option (List ℕ)) → Renders (Err trouble.Memory) d limit (change n n left left) (change m m held held)
+no_client d limit n m left held = (reads_none Render limit n left, (refl, Gains_none m held))
+
+-- a recording could not be read
+pub not_played : (f : InputFault) (d : Dump) (limit m : ℕ) (i : Change) (held : Option (List ℕ)) (player : Player) → ReadsInput Plays Refuses IsNotRefused (Err f) limit i player
+    → Renders (Err (trouble_of f)) d limit i (change m m held held)
+not_played input.Failed d limit m i held player (reads, falls, rose) = (reads, (falls, rose, Gains_none m held))
+not_played input.Memory d limit m i held player (reads, count) = (reads, (count, Gains_none m held))
+
+-- a recording that ends well was read to its end
+read_whole : (r : Read) (limit : ℕ) (bytes : List ℕ) (i : Change) (player : Player) → EndsBy Plays Refuses r limit bytes (rest_of i.new) player → IsReadWhole (told r player) i
+read_whole read.Whole limit bytes i player e = by (end_of (closed_by player.client) (cursor_of player.client))
+  where
+    by : (answer : Result (Unit {0}) ClientFault) → IsReadWhole (ending_by read.Whole answer) i
+    by (Ok done) = e.1
+    by (Err (fault.Refused number r)) = tt
+    by (Err fault.Memory) = e.1
+    by (Err (fault.ClosedRefused number r)) = e.1
+    by (Err fault.ClosedMemory) = e.1
+read_whole read.TooLong limit bytes i player e = tt
+read_whole read.Stopped limit bytes i player e =
+    subst (λ z. IsReadWhole (ending_by read.Stopped (end_of z (cursor_of player.client))) i) (sym e.stopped.refused.closed) tt
+
+-- the text of a client is that of what was played
+text_of : (d : Dump) (limit : ℕ) (bytes : List ℕ) (client : Client) (seen : Shown) → seen ≡ (cursor_of client).state.shown → (cursor_of client).state ≡ (played limit bytes).state
+    → dump_of d seen ≡ (shown (dump_of d) limit bytes).text
+text_of d limit bytes client seen same state = ap (dump_of d) (same ∙ ap (λ (z : State). z.shown) state)
+
+-- a recording was played, and what the client shows was printed
+pub printed : (d : Dump) (r : Read) (limit : ℕ) (i o : Change) (player : Player) (seen : Shown) → ReadsInput Plays Refuses IsNotRefused (Ok r) limit i player → seen ≡ (cursor_of player.client).state.shown
+    → Gains o (dump_of d seen) → Renders (Ok (told r player)) d limit i o
+printed d r limit i o player seen (reads, count, ends) same gains =
+    let t = tells r limit (input_of reads) (rest_of i.new) player ends in
+    (reads, (t.ending, count, read_whole r limit (input_of reads) i player ends, subst (Gains o) (text_of d limit (input_of reads) player.client seen same t.state) gains))
+
+-- a recording was played, and what the client shows could not be printed
+pub not_printed : (t : Trouble) (d : Dump) (r : Read) (limit : ℕ) (i o : Change) (player : Player) (seen : Shown) → ReadsInput Plays Refuses IsNotRefused (Ok r) limit i player → seen ≡ (cursor_of player.client).state.shown
+    → Prints (Err t) o (dump_of d seen) → Renders (Err t) d limit i o
+not_printed trouble.Write d r limit i o player seen (reads, count, ends) same fails =
+    let t = tells r limit (input_of reads) (rest_of i.new) player ends in
+    (reads, (count, subst (FailsAfter o) (text_of d limit (input_of reads) player.client seen same t.state) fails))
+not_printed trouble.Memory d r limit i o player seen (reads, count, ends) same gains = (reads, (count, gains))
+not_printed trouble.Read d r limit i o player seen reads same never = absurd never

@@ -1,7 +1,5 @@
-pub mod Drained
-pub mod Pieces
+pub mod Recordings
 pub mod Commands
-pub mod Planning
-pub mod Texts
 pub mod Encoding
+pub mod Planning
 pub mod Shown

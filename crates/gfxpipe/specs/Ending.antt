@@ -7,9 +7,7 @@ use Rattle.gfx_words.specs.declared.table.TheConstants.{USAGE}
 use Rattle.gfxpipe.specs.declared.ending.Ending.{Ending}
 use Rattle.gfx_script.specs.Kind as kind
 use Rattle.gfx_script.specs.declared.error.ScriptKind.{ScriptKind}
-use Rattle.gfxpipe.specs.declared.encode.Verdict.TheVariants as verdict
-use Rattle.gfxpipe.specs.declared.ending.Ending.TheVariants.{Usage, Played, Judged}
-use Rattle.gfxpipe.specs.declared.player.Stop.TheVariants as stop
+use Rattle.gfxpipe.specs.declared.ending.Ending.TheVariants as ending
 use Rattle.gfxpipe.specs.declared.status.Status.{Status}
 use Rattle.gfxpipe.specs.declared.status.Status.TheVariants as status
 use Rattle.gfxpipe.specs.declared.trouble.Trouble.{Trouble}
@@ -26,13 +24,11 @@ exit_number status.NoMemory = 5
 
 -- the status of a run that ends so
 abbrev pub status_of : Result Ending Trouble → Status
-status_of (Ok Usage) = status.Usage
-status_of (Ok (Played stop.End)) = status.Done
-status_of (Ok (Played (stop.Refused number r))) = status.Refused
-status_of (Ok (Played stop.TooLong)) = status.Refused
-status_of (Ok (Judged verdict.Accepted)) = status.Done
-status_of (Ok (Judged (verdict.Faulty step k))) = status.Refused
-status_of (Ok (Judged verdict.TooLong)) = status.Refused
+status_of (Ok ending.Done) = status.Done
+status_of (Ok ending.Usage) = status.Usage
+status_of (Ok ending.TooLong) = status.Refused
+status_of (Ok (ending.Refused number r)) = status.Refused
+status_of (Ok (ending.Faulty step k)) = status.Refused
 status_of (Err trouble.Read) = status.ReadFault
 status_of (Err trouble.Write) = status.WriteFault
 status_of (Err trouble.Memory) = status.NoMemory
@@ -52,13 +48,11 @@ script_line step k = codes "script: " ++ (at_step step ++ (kind.name_of k ++ cod
 
 -- the line that says how a run ends; none where all is done
 abbrev pub line_of : Result Ending Trouble → List ℕ
-line_of (Ok Usage) = USAGE.now ++ codes "\n"
-line_of (Ok (Played stop.End)) = []
-line_of (Ok (Played (stop.Refused number r))) = message_line number r
-line_of (Ok (Played stop.TooLong)) = codes "input: TooLong\n"
-line_of (Ok (Judged verdict.Accepted)) = []
-line_of (Ok (Judged (verdict.Faulty step k))) = script_line step k
-line_of (Ok (Judged verdict.TooLong)) = codes "input: TooLong\n"
+line_of (Ok ending.Done) = []
+line_of (Ok ending.Usage) = USAGE.now ++ codes "\n"
+line_of (Ok ending.TooLong) = codes "input: TooLong\n"
+line_of (Ok (ending.Refused number r)) = message_line number r
+line_of (Ok (ending.Faulty step k)) = script_line step k
 line_of (Err trouble.Read) = codes "input: read failed\n"
 line_of (Err trouble.Write) = codes "output: write failed\n"
 line_of (Err trouble.Memory) = codes "memory: none left\n"

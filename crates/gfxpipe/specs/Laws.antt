@@ -2,20 +2,21 @@
 use Rattle.std.specs.Prelude.{◌≡◌, ℕ, ◌≤◌, List, length, Ok}
 use Rattle.gfx_planner.specs.Stream.{stream_of}
 use Rattle.gfx_planner.specs.Want.{want}
-use Rattle.gfx_script.specs.Script.{script_of}
 use Rattle.gfx_script.specs.Scripted.{Script}
-use Rattle.gfxpipe.specs.declared.player.Stop.TheVariants as stop
+use Rattle.gfx_script_text.specs.Text.{script_of}
+use Rattle.gfxpipe.specs.declared.ending.Ending.TheVariants.{Done}
 use Rattle.gfxpipe.specs.declared.render.Dump.{Dump}
 use Rattle.gfxpipe.specs.Dump.{dump_of}
-use Rattle.gfxpipe.specs.Played.{played, stop_of}
+use Rattle.gfxpipe.specs.Due.{own_steps, shown}
 
--- a stream that is within its limit: no message is refused, and nothing is left of a message at its end;
--- what is printed, of the surfaces or of the output, is what the script wants
-pub record IsShown (limit : ℕ) (script : Script) : Type 0 where
-  pub ends : stop_of limit (stream_of script script.steps) ≡ stop.End
-  pub text : (dump : Dump) → dump_of dump (played limit (stream_of script script.steps)).state.shown ≡ dump_of dump (want script script.steps).shown
+-- what a script wants of a dump
+abbrev pub wanted_text : Dump → Script → List ℕ
+wanted_text dump script = dump_of dump (want script (own_steps script)).shown
 
--- so for the stream of every script that is accepted: `render` shows what `encode` wrote
+-- within the limit of a recording `render` of what `encode` wrote refuses nothing, and prints, of the
+-- surfaces or of the output, what the script wants
 abbrev pub EncodeThenRender : Type 0
 EncodeThenRender =
-    (limit : ℕ) (text : List ℕ) (script : Script) → script_of text ≡ Ok script → length (stream_of script script.steps) ≤ limit → IsShown limit script
+    (limit : ℕ) (text : List ℕ) (script : Script) (dump : Dump) → script_of text ≡ Ok script
+    → length (stream_of script (own_steps script)) ≤ limit
+    → shown (dump_of dump) limit (stream_of script (own_steps script)) ≡ record { text = wanted_text dump script; ending = Done }

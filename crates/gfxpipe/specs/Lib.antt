@@ -1,8 +1,10 @@
-pub mod Played
-pub mod Play
-pub mod Text
 pub mod Dump
-pub mod Encode
+pub mod Due
+pub mod Did
+pub mod Recording
+pub mod Fronts
+pub mod Stream
 pub mod Ending
+pub mod Flushed
 pub mod Run
 pub mod Laws

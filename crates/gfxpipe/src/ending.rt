@@ -4,8 +4,6 @@ ghost use Rattle.arrayvec.specs.ArrayVec.{array_vec_len};
 ghost use Rattle.gfx_base.specs.Stream.{Writes, change};
 ghost use Rattle.gfxpipe.specs.Ending.{status_of, line_of, message_line, script_line, at_step, Closes};
 
-use crate::encode::Verdict;
-use crate::player::Stop;
 use crate::status::Status;
 use crate::trouble::Trouble;
 use arrayvec::ArrayVec;
@@ -17,12 +15,16 @@ use itoa::Buffer;
 /// What a command comes to where no call failed.
 #[derive(Clone, Copy, Debug, PartialEq, Eq)]
 pub enum Ending {
+    /// It has done all that it was given.
+    Done,
     /// The words are no command.
     Usage,
-    /// A recording was played, and was read no further because of this.
-    Played(Stop),
-    /// A script was read, and this is what it was found to be.
-    Judged(Verdict),
+    /// The input is longer than its limit.
+    TooLong,
+    /// The message of this number, counted from 1, is refused.
+    Refused { number: u64, refusal: Refusal },
+    /// This is wrong with the step of this number, counted from 1; 0 stands for a fault outside the steps.
+    Faulty { step: u32, kind: ScriptKind },
 }
 
 /// The status of a run that ends so.
@@ -30,11 +32,9 @@ fn status_of(ended: &Result<Ending, Trouble>) -> Status
     ensures { result ≡ status_of ended.now }
 {
     match ended {
+        Ok(Ending::Done) => Status::Done,
         Ok(Ending::Usage) => Status::Usage,
-        Ok(Ending::Played(Stop::End)) => Status::Done,
-        Ok(Ending::Played(Stop::Refused { .. } | Stop::TooLong)) => Status::Refused,
-        Ok(Ending::Judged(Verdict::Accepted)) => Status::Done,
-        Ok(Ending::Judged(Verdict::Faulty { .. } | Verdict::TooLong)) => Status::Refused,
+        Ok(Ending::TooLong | Ending::Refused { .. } | Ending::Faulty { .. }) => Status::Refused,
         Err(Trouble::Read) => Status::ReadFault,
         Err(Trouble::Write) => Status::WriteFault,
         Err(Trouble::Memory) => Status::NoMemory,
@@ -64,17 +64,15 @@ fn write_line<E: Sink>(ended: &Result<Ending, Trouble>, err: &mut E) -> Result<(
         (change (E.faults err.old) (E.faults err.new) (E.held err.old) (E.held err.new)) (line_of ended.now) }
 {
     match ended {
+        Ok(Ending::Done) => Ok(()),
         Ok(Ending::Usage) => write_usage(err),
-        Ok(Ending::Played(Stop::End)) => Ok(()),
-        Ok(Ending::Played(Stop::Refused { number, refusal })) => {
+        Ok(Ending::TooLong) => write_all(err, b"input: TooLong\n"),
+        Ok(Ending::Refused { number, refusal }) => {
             write_all(err, message_line(*number, *refusal).as_slice())
         }
-        Ok(Ending::Played(Stop::TooLong)) => write_all(err, b"input: TooLong\n"),
-        Ok(Ending::Judged(Verdict::Accepted)) => Ok(()),
-        Ok(Ending::Judged(Verdict::Faulty { step, kind })) => {
+        Ok(Ending::Faulty { step, kind }) => {
             write_all(err, script_line(*step, *kind).as_slice())
         }
-        Ok(Ending::Judged(Verdict::TooLong)) => write_all(err, b"input: TooLong\n"),
         Err(Trouble::Read) => write_all(err, b"input: read failed\n"),
         Err(Trouble::Write) => write_all(err, b"output: write failed\n"),
         Err(Trouble::Memory) => write_all(err, b"memory: none left\n"),

@@ -7,19 +7,18 @@
 
 mod encode;
 mod ending;
+mod flushed;
 mod laws;
-mod player;
 mod program;
+mod recording;
 mod render;
 mod status;
 mod stream;
-mod text;
 mod trouble;
 
-pub use encode::Verdict;
 pub use ending::Ending;
+pub use flushed::say_flushed;
 pub use laws::render_shows_what_encode_wrote;
-pub use player::{PIECE, Stop, Turn};
 pub use program::{SCRIPT_LIMIT, STREAM_LIMIT, run};
 pub use render::Dump;
 pub use status::Status;

@@ -1,15 +1,15 @@
 //! The command `render`: a recording is played, and what the client then shows is printed.
 ghost use Rattle.std.specs.Prelude.{◌<◌, ◌^◌};
 ghost use Rattle.gfx_base.specs.Stream.{change};
+ghost use Rattle.gfxpipe.specs.Did.{Renders};
 ghost use Rattle.gfxpipe.specs.Dump.{dump_of, Prints};
-ghost use Rattle.gfxpipe.specs.Play.{Reads, input_of};
-ghost use Rattle.gfxpipe.specs.Run.{Renders};
 
 use crate::ending::Ending;
-use crate::player::play;
+use crate::recording::{Player, ending_of};
 use crate::trouble::Trouble;
 use gfx_base::{Sink, Source};
 use gfx_client::{Client, Offers};
+use gfx_input::read_input;
 use gfx_report::{ReportFault, dump_output};
 use gfx_surface_map::SurfaceMap;
 use std::alloc::Global;
@@ -32,15 +32,16 @@ pub fn render<I: Source, O: Sink>(
     out: &mut O,
 ) -> Result<Ending, Trouble>
     requires { limit < 2 ^ 63 }
-    ensures { (reads : Reads limit (change (I.faults input.old) (I.faults input.new) (I.left input.old) (I.left input.new)))
-        × Renders result (dump_of dump) limit (input_of reads)
+    ensures { Renders result dump limit
         (change (I.faults input.old) (I.faults input.new) (I.left input.old) (I.left input.new))
         (change (O.faults out.old) (O.faults out.new) (O.held out.old) (O.held out.new)) }
 {
-    let mut client = Client::new(alloc, Offers::new(alloc))?;
-    let stop = play(input, limit, &mut client)?;
-    print(alloc, dump, client.surfaces(), out)?;
-    Ok(Ending::Played(stop))
+    let client = Client::new(alloc, Offers::new(alloc))?;
+    let mut player = Player { client };
+    let read = read_input(input, limit, &mut player)?;
+    let ending = ending_of(read, &player.client);
+    print(alloc, dump, player.client.surfaces(), out)?;
+    Ok(ending)
 }
 
 /// Prints a dump.

@@ -1,10 +1,11 @@
 //! Writing the stream of a script, frame by frame.
-ghost use Rattle.std.specs.Prelude.{◌≡◌, ◌-◌, ◌≤◌, length, take};
+ghost use Rattle.std.specs.Prelude.{◌≡◌, ◌≤◌, length};
 ghost use Rattle.gfx_base.specs.Stream.{change};
 ghost use Rattle.gfx_planner.specs.Planned.{ready};
 ghost use Rattle.gfx_planner.specs.Stream.{end_after, stream_of};
 ghost use Rattle.gfx_script.specs.Script.{IsAccepted};
-ghost use Rattle.gfxpipe.specs.Encode.{WritesStream, PlansFrame};
+ghost use Rattle.gfxpipe.specs.Due.{own_steps};
+ghost use Rattle.gfxpipe.specs.Stream.{WritesStream, PlansFrame, steps_before};
 
 use crate::trouble::Trouble;
 use gfx_base::{Bytes, NoMemory, Sink, write_all};
@@ -12,11 +13,11 @@ use gfx_planner::{Planner, put_in_frame};
 use gfx_script::{Script, Step};
 use std::alloc::Global;
 
-/// Writes the stream of a script, each frame once it is planned.
+/// Writes the stream of a script, each frame once it is planned. Paints go as the kinds that they name.
 pub fn write_stream<O: Sink>(alloc: Global, script: &Script, out: &mut O) -> Result<(), Trouble>
     requires { IsAccepted script.now }
     ensures { WritesStream result (change (O.faults out.old) (O.faults out.new) (O.held out.old) (O.held out.new))
-        (stream_of script.now script.now.steps) }
+        (stream_of script.now (own_steps script.now)) }
 {
     let mut planner = Planner::new(alloc, script.small())?;
     let mut frame = Bytes::new(alloc);
@@ -41,12 +42,12 @@ fn plan_frame(
     requires accepted { IsAccepted script.now }
     requires from { 1 ≤ first }
     requires there { first ≤ length script.now.steps }
-    requires planned { planner.old ≡ ready (end_after script.now (take (first - 1) script.now.steps)) }
+    requires planned { planner.old ≡ ready (end_after script.now (steps_before script.now first)) }
     ensures { PlansFrame result script.now first planner.new out.old out.new }
 {
     let mut number = first;
     'steps: while let Some(step) = script.step(number) {
-        put_in_frame(planner, script, number, out)?;
+        put_in_frame(planner, script, number, step.kind(), out)?;
         number += 1;
         if matches!(step, Step::Frame) {
             break;

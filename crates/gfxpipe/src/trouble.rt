@@ -1,4 +1,8 @@
+ghost use Rattle.std.specs.Prelude.{◌≡◌};
+ghost use Rattle.gfxpipe.specs.Did.{trouble_of};
+
 use gfx_base::NoMemory;
+use gfx_input::InputFault;
 
 /// Why a command could not go on, apart from what it was given.
 #[derive(Clone, Copy, Debug, PartialEq, Eq)]
@@ -12,12 +16,22 @@ pub enum Trouble {
 }
 
 impl From<NoMemory> for Trouble {
-    ghost use Rattle.std.specs.Prelude.{◌≡◌};
     ghost use Rattle.gfxpipe.specs.declared.trouble.Trouble.TheVariants.{Memory};
 
     ghost from_gives = { λ _ e. e ≡ Memory };
 
     fn from(_e: NoMemory) -> Trouble {
         Trouble::Memory
+    }
+}
+
+impl From<InputFault> for Trouble {
+    ghost from_gives = { λ fault e. e ≡ trouble_of fault };
+
+    fn from(fault: InputFault) -> Trouble {
+        match fault {
+            InputFault::Failed => Trouble::Read,
+            InputFault::Memory => Trouble::Memory,
+        }
     }
 }

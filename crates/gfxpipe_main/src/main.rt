@@ -1,13 +1,11 @@
 //! The program `gfxpipe`: the real streams, one call of `gfxpipe::run`, and the exit number.
 #![tactic(auto)]
 
-mod streams;
-
-use crate::streams::{StdSink, StdSource};
-use gfx_base::{Failed, NoMemory, VecSink};
-use gfxpipe::{Status, run};
+use gfx_base::{NoMemory, VecSink};
+use gfx_streams::{StdSink, StdSource};
+use gfxpipe::{Status, run, say_flushed};
 use std::env;
-use std::io::{BufWriter, ErrorKind, Write};
+use std::io::{BufWriter, ErrorKind};
 use std::process::ExitCode;
 
 /// No line on the standard error is longer.
@@ -19,7 +17,10 @@ const NO_COMMAND: &str = "\u{fffd}";
 fn main(rt: HostRuntime) -> ExitCode {
     let status = match start(&rt) {
         Ok(status) => status,
-        Err(NoMemory) => say(&rt, Status::NoMemory, Ok(()), b"memory: none left\n"),
+        Err(NoMemory) => {
+            let mut err = StdSink::new(rt.stderr());
+            say_flushed(Status::NoMemory, Ok(()), b"memory: none left\n", &mut err)
+        }
     };
     ExitCode::from(status.number())
 }
@@ -51,22 +52,6 @@ fn run_on_streams(rt: &HostRuntime, words: &[&str]) -> Result<Status, NoMemory> 
     let mut output = StdSink::new(buffered);
     let mut line = VecSink::new(alloc, LINE_ROOM, &[])?;
     let status = run(alloc, words, &mut input, &mut output, &mut line);
-    Ok(say(rt, status, output.flush(), line.held()))
-}
-
-/// Writes the line of how the run ended. A write that fails, a last one of the output too, makes the
-/// status WriteFault.
-fn say(rt: &HostRuntime, status: Status, flushed: Result<(), Failed>, line: &[u8]) -> Status {
-    let lost = flushed.is_err() && status != Status::WriteFault;
-    let line = if lost {
-        b"output: write failed\n"
-    } else {
-        line
-    };
-    let written = rt.stderr().write_all(line);
-    if lost || written.is_err() {
-        Status::WriteFault
-    } else {
-        status
-    }
+    let mut err = StdSink::new(rt.stderr());
+    Ok(say_flushed(status, output.flush(), line.held(), &mut err))
 }

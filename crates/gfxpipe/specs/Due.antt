@@ -1,0 +1,63 @@
+-- What is due of the input of a command: the text that is written, and how the run ends. This project's
+-- own rule.
+use Rattle.std.specs.Prelude.{ℕ, List, [], length, take, Bool, nat_le, if◌then◌else◌, Option, Some, None, Result, Ok, Err, map}
+use Rattle.gfx_base.specs.Memory.{next_count}
+use Rattle.gfx_base.specs.declared.refusal.Refusal.{Refusal}
+use Rattle.gfx_planner.specs.Stream.{stream_of}
+use Rattle.gfx_script.specs.Kinds.{KindedStep, own}
+use Rattle.gfx_script.specs.Scripted.{Script}
+use Rattle.gfx_script_text.specs.Text.{Wrong, script_of}
+use Rattle.gfx_state.specs.Run.{Run, run_of, end}
+use Rattle.gfx_surface_map.specs.Shown.{Shown}
+use Rattle.gfx_words.specs.declared.table.Command.{Command}
+use Rattle.gfx_words.specs.declared.table.Command.TheVariants as command
+use Rattle.gfxpipe.specs.declared.ending.Ending.{Ending}
+use Rattle.gfxpipe.specs.declared.ending.Ending.TheVariants.{Done, TooLong, Refused, Faulty}
+use Rattle.gfxpipe.specs.declared.render.Dump.TheVariants.{Surfaces, Output}
+use Rattle.gfxpipe.specs.Dump.{dump_of}
+
+pub record Due : Type 0 where
+  pub text : List ℕ
+  pub ending : Ending
+
+-- these bytes are within a limit
+abbrev pub is_within : ℕ → List ℕ → Bool
+is_within limit bytes = nat_le (length bytes) limit
+
+-- the run of a recording: to its end, or of the bytes within the limit
+unfoldable pub played : ℕ → List ℕ → Run
+played limit bytes = if is_within limit bytes then end (run_of bytes) else run_of (take limit bytes)
+
+-- how a recording ends that isn't refused
+abbrev pub last_of : ℕ → List ℕ → Ending
+last_of limit bytes = if is_within limit bytes then Done else TooLong
+
+-- how a run ends: by its refusal, with the number of that message, or else so
+abbrev pub ending_of : Option Refusal → ℕ → Ending → Ending
+ending_of (Some r) applied last = Refused (next_count applied) r
+ending_of None applied last = last
+
+-- what is shown of a recording
+abbrev pub shown : (Shown → List ℕ) → ℕ → List ℕ → Due
+shown text limit bytes = record {
+  text = text (played limit bytes).state.shown;
+  ending = ending_of (played limit bytes).refusal (played limit bytes).applied (last_of limit bytes);
+}
+
+-- the steps of a script, each as the kind that it names
+abbrev pub own_steps : Script → List KindedStep
+own_steps script = map own script.steps
+
+-- the stream of a script; none of one that isn't accepted
+abbrev pub encoded_by : Result Script Wrong → Due
+encoded_by (Ok script) = record { text = stream_of script (own_steps script); ending = Done }
+encoded_by (Err wrong) = record { text = []; ending = Faulty wrong.step wrong.kind }
+
+unfoldable pub encoded : ℕ → List ℕ → Due
+encoded limit bytes = if is_within limit bytes then encoded_by (script_of bytes) else record { text = []; ending = TooLong }
+
+-- what is due of a command's input, of which so many bytes at most are taken
+abbrev pub due : Command → ℕ → List ℕ → Due
+due command.Render limit bytes = shown (dump_of Surfaces) limit bytes
+due command.RenderOutput limit bytes = shown (dump_of Output) limit bytes
+due command.Encode limit bytes = encoded limit bytes

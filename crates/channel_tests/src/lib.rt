@@ -1,0 +1,19 @@
+//! Tests of the channel's libraries through their public calls: worked examples and happy paths with
+//! ample memory, and what is left where a read or a write fails. The library crates have no tests of
+//! their own.
+#![tactic(auto)]
+
+#[cfg(test)]
+mod bitmaps;
+#[cfg(test)]
+mod framing;
+#[cfg(test)]
+mod messages;
+#[cfg(test)]
+mod player;
+#[cfg(test)]
+mod reports;
+#[cfg(test)]
+mod streams;
+#[cfg(test)]
+mod surfaces;

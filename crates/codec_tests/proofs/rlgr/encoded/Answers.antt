@@ -1,0 +1,7 @@
+use Rattle.std.proofs.Common.{sym, ◌∙◌}
+use Rattle.std.proofs.lemmas.List.Sums.{AllPass-from_list_all}
+use Rattle.gfx_rlgr.specs.Rlgr.{in_range}
+use Rattle.codec_tests.proofs.rlgr.encoded.Goals as goal
+
+pub encode-requires : goal.encode-requires
+encode-requires c = AllPass-from_list_all in_range c.args.values.now (sym c.all_in_range.ensures ∙ c.if-all_in_range.true)

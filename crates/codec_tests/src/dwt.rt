@@ -1,0 +1,154 @@
+//! Wavelet transforms: checksums of what an independent program makes of patterns.
+ghost use Rattle.gfx_dwt.specs.Ranges.{AllCoefficients, AllSamples, IsCoefficient, IsSample};
+ghost use Rattle.std.specs.Prelude.{◌<◌};
+
+use gfx_dwt::{Transform, forward, forward_with, inverse, inverse_with};
+use std::test::Fail;
+
+/// What a plane is filled with.
+#[derive(Clone, Copy, Debug)]
+enum Pattern {
+    /// The greatest value at one place, and noughts.
+    Impulse(usize),
+    /// From the least value up, in even steps.
+    Ramp,
+    /// Three times the least value, three times the greatest, and again.
+    Extremes,
+}
+
+fn coefficient(pattern: Pattern, k: usize) -> i32
+    requires { k < 4096 }
+    ensures { IsCoefficient result }
+{
+    match pattern {
+        Pattern::Impulse(at) if at == k => 32_767,
+        Pattern::Impulse(_) => 0,
+        Pattern::Ramp => 16 * (k as i32) - 32_768,
+        Pattern::Extremes if (k / 3) % 2 == 0 => -32_768,
+        Pattern::Extremes => 32_767,
+    }
+}
+
+fn sample(pattern: Pattern, k: usize) -> i32
+    requires { k < 4096 }
+    ensures { IsSample result }
+{
+    match pattern {
+        Pattern::Impulse(at) if at == k => 8_191,
+        Pattern::Impulse(_) => 0,
+        Pattern::Ramp => 4 * (k as i32) - 8_192,
+        Pattern::Extremes if (k / 3) % 2 == 0 => -8_192,
+        Pattern::Extremes => 8_191,
+    }
+}
+
+fn draw_coefficients(pattern: Pattern, plane: &mut [i32; 4096])
+    ensures { AllCoefficients plane.new }
+{
+    for k in 0..4096 {
+        plane[k] = coefficient(pattern, k);
+    }
+}
+
+fn draw_samples(pattern: Pattern, plane: &mut [i32; 4096])
+    ensures { AllSamples plane.new }
+{
+    for k in 0..4096 {
+        plane[k] = sample(pattern, k);
+    }
+}
+
+/// All places in one number, modulo 2^64.
+fn checksum(plane: &[i32; 4096]) -> i64 {
+    let mut sum = 0i64;
+    for value in plane {
+        sum = sum.wrapping_mul(31).wrapping_add(i64::from(*value));
+    }
+    sum
+}
+
+/// A pattern, and the checksums of what becomes of it with the plain transform and with reduce-extrapolate.
+#[derive(Clone, Copy)]
+struct Case(Pattern, i64, i64);
+
+#[test]
+fn inverse_of_patterns(rt: HostRuntime) -> Result<(), Fail> {
+    let mut tmp = [7; 4096];
+    for Case(pattern, plain, reduced) in [
+        Case(
+            Pattern::Impulse(0),
+            1438759454779682588,
+            -5068588433320194180,
+        ),
+        Case(Pattern::Impulse(1022), -2287150865911628485, -4002478017),
+        Case(
+            Pattern::Impulse(2077),
+            155197853332076544,
+            6345366397761622214,
+        ),
+        Case(
+            Pattern::Impulse(4031),
+            4092128877111639605,
+            -7905565764524025583,
+        ),
+        Case(
+            Pattern::Impulse(4095),
+            -627824836160079599,
+            -4650972541419417959,
+        ),
+        Case(Pattern::Ramp, 7274807197934568116, 1260126910184160968),
+        Case(Pattern::Extremes, -3876889710620914789, 7664680262893782694),
+    ] {
+        let mut plane = [0; 4096];
+        draw_coefficients(pattern, &mut plane);
+        inverse(&mut plane, Transform::Plain);
+        assert_eq!(rt; checksum(&plane), plain, "{pattern:?}");
+        draw_coefficients(pattern, &mut plane);
+        inverse_with(&mut plane, Transform::Reduced, &mut tmp);
+        assert_eq!(rt; checksum(&plane), reduced, "{pattern:?}");
+    }
+    Ok(())
+}
+
+#[test]
+fn forward_of_patterns(rt: HostRuntime) -> Result<(), Fail> {
+    let mut tmp = [7; 4096];
+    for Case(pattern, plain, reduced) in [
+        Case(
+            Pattern::Impulse(0),
+            -8754295438958458391,
+            -4047519638771561019,
+        ),
+        Case(
+            Pattern::Impulse(1022),
+            1081308364124418752,
+            -4861167661219122936,
+        ),
+        Case(
+            Pattern::Impulse(2077),
+            -4786840899106832287,
+            -158410603323093414,
+        ),
+        Case(
+            Pattern::Impulse(4031),
+            -3013142100802104604,
+            4549668143124396366,
+        ),
+        Case(
+            Pattern::Impulse(4095),
+            -7688749572146745071,
+            3423333788665564318,
+        ),
+        Case(Pattern::Ramp, 334019581717353200, 7100820779918872704),
+        Case(Pattern::Extremes, -3826979134262782427, 5739614390206443877),
+    ] {
+        let mut plane = [0; 4096];
+        draw_samples(pattern, &mut plane);
+        forward(&mut plane, Transform::Plain);
+        assert_eq!(rt; checksum(&plane), plain, "{pattern:?}");
+        draw_samples(pattern, &mut plane);
+        forward_with(&mut plane, Transform::Reduced, &mut tmp);
+        assert_eq!(rt; checksum(&plane), reduced, "{pattern:?}");
+    }
+    Ok(())
+}

@@ -1,0 +1,59 @@
+//! Streams and scripts that several tests use, and how they are run.
+use gfx_base::{NoMemory, SliceSource, VecSink};
+use gfxpipe::{Status, run};
+use std::alloc::Global;
+
+/// One red surface in one frame.
+pub const FILL: [u8; 91] = [
+    // StartFrame 1.
+    0x12, 0, 0, 0, 0xe0, 4, 0xb, 0, 0, 0, 0x10, 0, 0, 0, 0, 0, 0, 0, 1, 0, 0, 0,
+    // CreateSurface 1 of 2 by 1, XRGB.
+    0x11, 0, 0, 0, 0xe0, 4, 9, 0, 0, 0, 0xf, 0, 0, 0, 1, 0, 2, 0, 1, 0, 0x20,
+    // SolidFill of all of it in red.
+    0x1a, 0, 0, 0, 0xe0, 4, 4, 0, 0, 0, 0x18, 0, 0, 0, 1, 0, 0, 0, 0xff, 0, 1, 0, 0, 0, 0, 0, 2, 0,
+    1, 0,
+    // EndFrame 1.
+    0xe, 0, 0, 0, 0xe0, 4, 0xc, 0, 0, 0, 0xc, 0, 0, 0, 1, 0, 0, 0,
+];
+
+/// The script of that stream.
+pub const FILL_SCRIPT: &str = r#"step = [
+    { do = "surface", id = 1, width = 2, height = 1 },
+    { do = "fill", id = 1, colour = "0000ff00", rects = [[0, 0, 2, 1]] },
+    { do = "frame" },
+]"#;
+
+/// Two black pixels.
+pub const BLACK: &str = "surface 1 2x1 xrgb\n000000ff000000ff\n";
+
+/// Two red pixels.
+pub const RED: &str = "surface 1 2x1 xrgb\n0000ffff0000ffff\n";
+
+/// What a run has come to.
+#[derive(Drop)]
+pub struct Ran<'a> {
+    pub status: Status,
+    pub input: SliceSource<'a>,
+    pub out: VecSink<'a>,
+    pub err: VecSink<'a>,
+}
+
+/// Runs a command on these bytes. The reads and the writes to `out` of these numbers fail.
+pub fn run_on<'a>(
+    alloc: Global,
+    words: &[&str],
+    bytes: &'a [u8],
+    reads: &'a [u64],
+    writes: &'a [u64],
+) -> Result<Ran<'a>, NoMemory> {
+    let mut input = SliceSource::new(bytes, reads);
+    let mut out = VecSink::new(alloc, 8192, writes)?;
+    let mut err = VecSink::new(alloc, 96, &[])?;
+    let status = run(alloc, words, &mut input, &mut out, &mut err);
+    Ok(Ran {
+        status,
+        input,
+        out,
+        err,
+    })
+}

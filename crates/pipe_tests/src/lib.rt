@@ -1,0 +1,15 @@
+//! Tests of the program through its one public call, `run`: worked examples, and streams, reads and
+//! writes that end too early. The answers are those of the definitions by hand, and of a reference
+//! implementation. The library crates have no tests of their own.
+#![tactic(auto)]
+
+#[cfg(test)]
+mod both;
+#[cfg(test)]
+mod encode;
+#[cfg(test)]
+mod examples;
+#[cfg(test)]
+mod render;
+#[cfg(test)]
+mod scripts;

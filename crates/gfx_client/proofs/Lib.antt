@@ -1,3 +1,4 @@
 pub mod ClientLemmas
 pub mod Playing
 pub mod Bringing
+pub mod Numbers

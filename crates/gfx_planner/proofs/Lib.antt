@@ -16,3 +16,4 @@ pub mod Calls
 pub mod Frames
 pub mod Within
 pub mod Fronts
+pub mod Numbers

@@ -3,3 +3,4 @@ pub mod Commands
 pub mod Encoding
 pub mod Planning
 pub mod Shown
+pub mod Numbers

@@ -1,16 +1,14 @@
 //! What a command comes to, and the line that says so.
-ghost use Rattle.std.specs.Prelude.{◌≡◌, ◌+◌, ◌≤◌, ◌++◌, length, decimal, codes};
-ghost use Rattle.arrayvec.specs.ArrayVec.{array_vec_len};
+ghost use Rattle.std.specs.Prelude.{◌≡◌, ◌+◌, ◌≤◌, ◌++◌, length, codes};
 ghost use Rattle.gfx_base.specs.Stream.{Writes, change};
 ghost use Rattle.gfxpipe.specs.Ending.{status_of, line_of, message_line, script_line, at_step, Closes};
 
 use crate::status::Status;
 use crate::trouble::Trouble;
-use arrayvec::ArrayVec;
 use gfx_base::{Failed, Refusal, Sink, write_all};
+use gfx_line::{LINE_ROOM, Line};
 use gfx_script::ScriptKind;
 use gfx_words::USAGE;
-use itoa::Buffer;
 
 /// What a command comes to where no call failed.
 #[derive(Clone, Copy, Debug, PartialEq, Eq)]
@@ -40,11 +38,6 @@ fn status_of(ended: &Result<Ending, Trouble>) -> Status
         Err(Trouble::Memory) => Status::NoMemory,
     }
 }
-
-/// No line of a refused message is longer.
-const ROOM: usize = 96;
-
-type Line = ArrayVec<u8, ROOM>;
 
 /// Says on `err` how the run ended, in a line of its own or, where all is done, in none. A line that
 /// can't be written makes the status WriteFault.
@@ -91,61 +84,42 @@ fn write_usage<E: Sink>(err: &mut E) -> Result<(), Failed>
 /// The line of a refused message.
 #[tactic(auto, unfolding(crate::specs::Ending::message_line))]
 fn message_line(number: u64, refusal: Refusal) -> Line
-    ensures { result.items ≡ message_line number refusal }
+    ensures { result ≡ message_line number refusal }
 {
     let mut line = Line::new();
-    put(&mut line, b"message ");
-    put_number(&mut line, number);
-    put(&mut line, b": ");
-    put_number(&mut line, u64::from(refusal.number()));
-    put(&mut line, b" ");
-    put(&mut line, refusal.name().as_bytes());
-    put(&mut line, b"\n");
+    line.put(b"message ");
+    line.put_u64(number);
+    line.put(b": ");
+    line.put_u64(u64::from(refusal.number()));
+    line.put(b" ");
+    line.put(refusal.name().as_bytes());
+    line.put(b"\n");
     line
 }
 
 /// The line of a script that isn't accepted.
 #[tactic(auto, unfolding(crate::specs::Ending::script_line))]
 fn script_line(step: u32, kind: ScriptKind) -> Line
-    ensures { result.items ≡ script_line step kind }
+    ensures { result ≡ script_line step kind }
 {
     let mut line = Line::new();
-    put(&mut line, b"script: ");
+    line.put(b"script: ");
     put_step(&mut line, step);
-    put(&mut line, kind.name().as_bytes());
-    put(&mut line, b"\n");
+    line.put(kind.name().as_bytes());
+    line.put(b"\n");
     line
 }
 
 /// Appends the number of a step, where there is one.
 fn put_step(line: &mut Line, step: u32)
-    requires { array_vec_len line.old + 32 ≤ ROOM }
-    ensures items { line.new.items ≡ line.old.items ++ at_step step }
-    ensures len { array_vec_len line.new ≤ array_vec_len line.old + 32 }
+    requires { length line.old + 32 ≤ LINE_ROOM }
+    ensures bytes { line.new ≡ line.old ++ at_step step }
+    ensures len { length line.new ≤ length line.old + 32 }
 {
     if step == 0 {
         return;
     }
-    put(line, b"step ");
-    put_number(line, u64::from(step));
-    put(line, b": ");
-}
-
-/// Appends a number in decimal.
-fn put_number(line: &mut Line, number: u64)
-    requires { array_vec_len line.old + 20 ≤ ROOM }
-    ensures items { line.new.items ≡ line.old.items ++ decimal number }
-    ensures len { array_vec_len line.new ≤ array_vec_len line.old + 20 }
-{
-    let mut buffer = Buffer::new();
-    put(line, buffer.format(number).as_bytes());
-}
-
-/// Appends bytes, for which there is room.
-fn put(line: &mut Line, piece: &[u8])
-    requires { array_vec_len line.old + length piece.now ≤ ROOM }
-    ensures items { line.new.items ≡ line.old.items ++ piece.now }
-    ensures len { array_vec_len line.new ≡ array_vec_len line.old + length piece.now }
-{
-    line.try_extend_from_slice(piece).unwrap();
+    line.put(b"step ");
+    line.put_u32(step);
+    line.put(b": ");
 }

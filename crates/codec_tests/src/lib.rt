@@ -5,8 +5,20 @@
 #[cfg(test)]
 mod bits;
 #[cfg(test)]
+mod clear_bands;
+#[cfg(test)]
+mod clear_runs;
+#[cfg(test)]
+mod clear_store;
+#[cfg(test)]
 mod dwt;
+#[cfg(test)]
+mod glyph;
 #[cfg(test)]
 mod quant;
 #[cfg(test)]
 mod rlgr;
+#[cfg(test)]
+mod srl;
+#[cfg(test)]
+mod tiles;

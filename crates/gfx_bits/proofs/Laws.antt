@@ -7,11 +7,11 @@ use Rattle.std.proofs.lemmas.Nat.{pow_pos, mod_below, pow-add, mod_low, shr_high
 use Rattle.std.proofs.lemmas.Bool.{le-leb, lt-leb}
 use Rattle.std.proofs.lemmas.Bool.Decides.{leb_tells}
 use Rattle.std.specs.Int
-use Rattle.std.specs.Prelude.{bit_and}
+use Rattle.std.specs.Prelude.{bit_and, nat_lt}
 use Rattle.std.specs.Int.{w64, from_be_bytes}
 use Rattle.std.specs.Int.Count.{count_leading_zeros}
 use Rattle.std.proofs.Math.Pow.{pow_mono}
-use Rattle.gfx_bits.specs.Bits.{first, number, digits, bits_of, ones, Spelled, IsPadded}
+use Rattle.gfx_bits.specs.Bits.{first, number, digits, bits_of, ones, Spelled, IsPadded, zeros_code}
 
 pub doubled : (n : ℕ) → 2 ^ suc n ≡ 2 ^ n + 2 ^ n
 doubled n = pow-suc 2 n ∙ omega arith

@@ -1,5 +1,5 @@
-ghost use Rattle.std.specs.Prelude.{◌≡◌, ◌+◌, ◌-◌, ◌*◌, ◌/◌, ◌%◌, ◌^◌, ◌<◌, ◌≤◌, List, Bool, length, drop, suc, min, slice_index};
-ghost use Rattle.gfx_bits.specs.Bits.{number, ones, bits_of};
+ghost use Rattle.std.specs.Prelude.{◌≡◌, ◌+◌, ◌-◌, ◌*◌, ◌/◌, ◌%◌, ◌^◌, ◌<◌, ◌≤◌, ℕ, List, Bool, true, false, length, drop, suc, min, replicate, slice_index};
+ghost use Rattle.gfx_bits.specs.Bits.{number, ones, bits_of, first, Spelled, zeros_code};
 
 use std::marker::Model;
 
@@ -90,6 +90,27 @@ impl<'a> BitReader<'a> {
         (count, self.read(n))
     }
 
+    /// Counts the zeros before the next one, at most that many, and goes past them, and past the
+    /// one where there are fewer.
+    #[inline(always)]
+    pub fn read_zeros(&mut self, most: u32) -> u32
+        ensures most { result ≤ most }
+        ensures spelled { Spelled self.old (zeros_code most result) self.new }
+    {
+        let mut count = 0u32;
+        'windows: while count < most {
+            let room = WINDOW.min(most - count);
+            let ahead = zeros_of(self.window());
+            if ahead < room {
+                self.skip(ahead + 1);
+                return count + ahead;
+            }
+            self.skip(room);
+            count += room;
+        }
+        count
+    }
+
     // The next 57 bits.
     #[inline(always)]
     fn window(&self) -> u64
@@ -118,6 +139,17 @@ fn ones_of(window: u64) -> u32
     ensures { (bits : List Bool) → window ≡ number 57 bits → result ≡ min 57 (ones bits) }
 {
     (window << 7).leading_ones()
+}
+
+// How many zeros a window begins with.
+#[inline(always)]
+fn zeros_of(window: u64) -> u32
+    requires { window < 2 ^ 57 }
+    ensures within { result ≤ 57 }
+    ensures zeros { (bits : List Bool) → window ≡ number 57 bits → (n : ℕ) → n ≤ result → Spelled bits (replicate n false) (drop n bits) }
+    ensures ends { (bits : List Bool) → window ≡ number 57 bits → result < 57 → first (drop result bits) ≡ true }
+{
+    (window << 7).leading_zeros().min(WINDOW)
 }
 
 // The bytes behind the first n.

@@ -1,4 +1,4 @@
-ghost use Rattle.std.specs.Prelude.{◌≡◌, ◌+◌, ◌*◌, ◌^◌, ◌<◌, ◌≤◌, ◌++◌, [], replicate, true, IfOk, OnOk, OnErr};
+ghost use Rattle.std.specs.Prelude.{◌≡◌, ◌+◌, ◌*◌, ◌^◌, ◌<◌, ◌≤◌, ◌++◌, [], replicate, true, false, IfOk, OnOk, OnErr};
 ghost use Rattle.gfx_bits.specs.Bits.{digits, IsPadded, GainsOnes};
 
 use std::alloc::{AllocError, Global};
@@ -84,6 +84,18 @@ impl BitWriter {
             left -= WORD;
         }
         self.push((1 << left) - 1, left as u8)
+    }
+
+    /// Writes that many zeros. An `Err` leaves some of them written.
+    pub fn push_zeros(&mut self, count: u32) -> Result<(), NoBits>
+        ensures { OnOk result (self.new ≡ self.old ++ replicate count false) }
+    {
+        let mut left = count;
+        'words: while left >= WORD {
+            self.push(0, 32)?;
+            left -= WORD;
+        }
+        self.push(0, left as u8)
     }
 
     /// The bits as bytes. The last byte is filled up with zeros.

@@ -3,8 +3,8 @@ use Rattle.std.proofs.Common.{◌≡◌, ℕ, ◌+◌, ◌*◌, ◌<◌, ◌≤�
 use Rattle.std.proofs.lemmas.List.{get_or-drop}
 use Rattle.gfx_dwt.specs.declared.layout.Transform.{Transform}
 use Rattle.gfx_dwt.specs.declared.layout.Transform.TheVariants.{Plain, Reduced}
-use Rattle.gfx_dwt.specs.declared.layout.Level.{Level}
-use Rattle.gfx_dwt.specs.declared.layout.Level.TheVariants.{First, Second, Third}
+use Rattle.gfx_dwt.specs.declared.layout.Scale.{Scale}
+use Rattle.gfx_dwt.specs.declared.layout.Scale.TheVariants.{First, Second, Third}
 use Rattle.gfx_dwt.specs.declared.layout.Band.{Band}
 use Rattle.gfx_dwt.specs.declared.layout.Band.TheVariants.{Hl1, Lh1, Hh1, Hl2, Lh2, Hh2, Hl3, Lh3, Hh3, Ll3}
 use Rattle.gfx_dwt.specs.Place.{low_size, high_size, line_size, part_start, low_start, start, columns, coefficient}
@@ -13,7 +13,7 @@ use Rattle.gfx_dwt.specs.Samples.{level_joined, part_joined, third_level, second
 use Rattle.gfx_dwt.proofs.Planes.{level_joined_same, level_joined_within, place_in, all_at}
 
 -- the places of a level's three bands
-pub record AreBandsOf (t : Transform) (l : Level) (hl lh hh : Band) : Type 0 where
+pub record AreBandsOf (t : Transform) (l : Scale) (hl lh hh : Band) : Type 0 where
   pub hl_start : start t hl ≡ part_start t l
   pub lh_start : start t lh ≡ part_start t l + low_size t l * high_size t l
   pub hh_start : start t hh ≡ part_start t l + (low_size t l * high_size t l + high_size t l * low_size t l)
@@ -33,7 +33,7 @@ pub third_bands : (t : Transform) → AreBandsOf t Third Hl3 Lh3 Hh3
 third_bands Plain = record { hl_start = refl; lh_start = refl; hh_start = refl; hl_columns = refl; lh_columns = refl; hh_columns = refl }
 third_bands Reduced = record { hl_start = refl; lh_start = refl; hh_start = refl; hl_columns = refl; lh_columns = refl; hh_columns = refl }
 
-pub square_fits : (t : Transform) (l : Level) → line_size t l * line_size t l ≤ 4096
+pub square_fits : (t : Transform) (l : Scale) → line_size t l * line_size t l ≤ 4096
 square_fits Plain First = lit≤ tt
 square_fits Plain Second = lit≤ tt
 square_fits Plain Third = lit≤ tt
@@ -56,7 +56,7 @@ nested Plain = record { whole = refl; second_size = refl; third_size = refl; sec
 nested Reduced = record { whole = refl; second_size = refl; third_size = refl; second_start = refl; third_start = refl; last_start = refl; last_columns = refl }
 
 -- a level of a plane whose low quarter is known, and which else is as it was
-pub level_from : (t : Transform) (l : Level) (hl lh hh : Band) → AreBandsOf t l hl lh hh → (now was : List ℤ) (deeper : ℕ → ℕ → ℤ) → ((k : ℕ) → k < part_start t l + low_start t l → at now k ≡ at was k) → ((r c : ℕ) → r < low_size t l → c < low_size t l → at now (part_start t l + low_start t l + (r * low_size t l + c)) ≡ deeper r c) → (y x : ℕ) → y < line_size t l → x < line_size t l → part_joined t l (drop (part_start t l) now) y x ≡ level_joined t l deeper (coefficient t was hl) (coefficient t was lh) (coefficient t was hh) y x
+pub level_from : (t : Transform) (l : Scale) (hl lh hh : Band) → AreBandsOf t l hl lh hh → (now was : List ℤ) (deeper : ℕ → ℕ → ℤ) → ((k : ℕ) → k < part_start t l + low_start t l → at now k ≡ at was k) → ((r c : ℕ) → r < low_size t l → c < low_size t l → at now (part_start t l + low_start t l + (r * low_size t l + c)) ≡ deeper r c) → (y x : ℕ) → y < line_size t l → x < line_size t l → part_joined t l (drop (part_start t l) now) y x ≡ level_joined t l deeper (coefficient t was hl) (coefficient t was lh) (coefficient t was hh) y x
 unfolding part_joined
 level_from t l hl lh hh b now was deeper kept low y x p q =
     let n = low_size t l in
@@ -77,11 +77,11 @@ level_from t l hl lh hh b now was deeper kept low y x p q =
     y x p q
 
 -- what stands in the plane where a level has been joined
-abbrev pub IsLevelOf : Transform → Level → List ℤ → List ℤ → Type 0
+abbrev pub IsLevelOf : Transform → Scale → List ℤ → List ℤ → Type 0
 IsLevelOf t l was now = (y x : ℕ) → y < line_size t l → x < line_size t l → at now (part_start t l + (y * line_size t l + x)) ≡ part_joined t l (drop (part_start t l) was) y x
 
 -- the places before a level's part are as they were
-abbrev pub KeepsBefore : Transform → Level → List ℤ → List ℤ → Type 0
+abbrev pub KeepsBefore : Transform → Scale → List ℤ → List ℤ → Type 0
 KeepsBefore t l was now = (k : ℕ) → k < part_start t l → at now k ≡ at was k
 
 pub third_is : (t : Transform) (p0 p1 : List ℤ) → IsLevelOf t Third p0 p1 → (y x : ℕ) → y < line_size t Third → x < line_size t Third → at p1 (part_start t Third + (y * line_size t Third + x)) ≡ third_level t p0 y x

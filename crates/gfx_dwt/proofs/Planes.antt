@@ -4,7 +4,7 @@ use Rattle.std.proofs.lemmas.Nat.{rows, div_below, «div-add-mod'»}
 use Rattle.std.proofs.lemmas.Grind.{common_steps}
 use Rattle.std.proofs.lemmas.List.{get_or-take, get_or-drop, get_or_append_left, get_or-append_right}
 use Rattle.gfx_dwt.specs.declared.layout.Transform.{Transform}
-use Rattle.gfx_dwt.specs.declared.layout.Level.{Level}
+use Rattle.gfx_dwt.specs.declared.layout.Scale.{Scale}
 use Rattle.gfx_dwt.specs.Place.{low_size, high_size}
 use Rattle.gfx_dwt.specs.Ranges.{Within, AllWithin, at}
 use Rattle.std.proofs.lemmas.Int.{ints}
@@ -32,7 +32,7 @@ cells_within (suc w) h bound xs e each k p =
     rw i at (each (k / suc w) (k % suc w) row col)
 
 -- a level depends on the places of its quarters alone
-pub level_joined_same : (t : Transform) (l : Level) (ll ll' hl hl' lh lh' hh hh' : ℕ → ℕ → ℤ) → ((r c : ℕ) → r < low_size t l → c < low_size t l → ll r c ≡ ll' r c) → ((r c : ℕ) → r < low_size t l → c < high_size t l → hl r c ≡ hl' r c) → ((r c : ℕ) → r < high_size t l → c < low_size t l → lh r c ≡ lh' r c) → ((r c : ℕ) → r < high_size t l → c < high_size t l → hh r c ≡ hh' r c) → (y x : ℕ) → y < low_size t l + high_size t l → x < low_size t l + high_size t l → level_joined t l ll hl lh hh y x ≡ level_joined t l ll' hl' lh' hh' y x
+pub level_joined_same : (t : Transform) (l : Scale) (ll ll' hl hl' lh lh' hh hh' : ℕ → ℕ → ℤ) → ((r c : ℕ) → r < low_size t l → c < low_size t l → ll r c ≡ ll' r c) → ((r c : ℕ) → r < low_size t l → c < high_size t l → hl r c ≡ hl' r c) → ((r c : ℕ) → r < high_size t l → c < low_size t l → lh r c ≡ lh' r c) → ((r c : ℕ) → r < high_size t l → c < high_size t l → hh r c ≡ hh' r c) → (y x : ℕ) → y < low_size t l + high_size t l → x < low_size t l + high_size t l → level_joined t l ll hl lh hh y x ≡ level_joined t l ll' hl' lh' hh' y x
 unfolding level_joined
 level_joined_same t l ll ll' hl hl' lh lh' hh hh' p q r s y x h k =
     joined_same t l _ _ _ _
@@ -41,7 +41,7 @@ level_joined_same t l ll ll' hl hl' lh lh' hh hh' p q r s y x h k =
     y h
 
 -- a level is within its low quarter's bound and fifteen times that of the others
-pub level_joined_within : (t : Transform) (l : Level) (a m : ℕ) (ll hl lh hh : ℕ → ℕ → ℤ) → ((r c : ℕ) → r < low_size t l → c < low_size t l → Within a (ll r c)) → ((r c : ℕ) → r < low_size t l → c < high_size t l → Within m (hl r c)) → ((r c : ℕ) → r < high_size t l → c < low_size t l → Within m (lh r c)) → ((r c : ℕ) → r < high_size t l → c < high_size t l → Within m (hh r c)) → (y x : ℕ) → y < low_size t l + high_size t l → x < low_size t l + high_size t l → Within (a + 15 * m) (level_joined t l ll hl lh hh y x)
+pub level_joined_within : (t : Transform) (l : Scale) (a m : ℕ) (ll hl lh hh : ℕ → ℕ → ℤ) → ((r c : ℕ) → r < low_size t l → c < low_size t l → Within a (ll r c)) → ((r c : ℕ) → r < low_size t l → c < high_size t l → Within m (hl r c)) → ((r c : ℕ) → r < high_size t l → c < low_size t l → Within m (lh r c)) → ((r c : ℕ) → r < high_size t l → c < high_size t l → Within m (hh r c)) → (y x : ℕ) → y < low_size t l + high_size t l → x < low_size t l + high_size t l → Within (a + 15 * m) (level_joined t l ll hl lh hh y x)
 unfolding level_joined
 level_joined_within t l a m ll hl lh hh p q r s y x h k =
     within_more (a + 3 * m + 3 * (m + 3 * m)) (a + 15 * m) _ (omega arith)
@@ -83,7 +83,7 @@ put_within a k bound most xs ys l e f h p q i b =
     (inside_or_not (i - a) (length ys)))
     (inside_or_not i a)
 
-pub part_joined_within : (t : Transform) (l : Level) (bound : ℕ) (part : List ℤ) → AllWithin bound part → (y x : ℕ) → y < low_size t l + high_size t l → x < low_size t l + high_size t l → Within (16 * bound) (part_joined t l part y x)
+pub part_joined_within : (t : Transform) (l : Scale) (bound : ℕ) (part : List ℤ) → AllWithin bound part → (y x : ℕ) → y < low_size t l + high_size t l → x < low_size t l + high_size t l → Within (16 * bound) (part_joined t l part y x)
 unfolding part_joined
 part_joined_within t l bound part all y x h k =
     let p = all_at bound part all in

@@ -3,8 +3,8 @@ use Rattle.std.proofs.Common.{◌≡◌, ℕ, ◌*◌, ◌^◌, ◌<◌, ℤ, Li
 use Rattle.std.proofs.lemmas.Int.{ints}
 use Rattle.gfx_dwt.specs.declared.layout.Transform.{Transform}
 use Rattle.gfx_dwt.specs.declared.layout.Transform.TheVariants.{Plain, Reduced}
-use Rattle.gfx_dwt.specs.declared.layout.Level.{Level}
-use Rattle.gfx_dwt.specs.declared.layout.Level.TheVariants.{First, Second, Third}
+use Rattle.gfx_dwt.specs.declared.layout.Scale.{Scale}
+use Rattle.gfx_dwt.specs.declared.layout.Scale.TheVariants.{First, Second, Third}
 use Rattle.gfx_dwt.specs.Place.{high_size, line_size}
 use Rattle.gfx_dwt.specs.Ranges.{AllSamples, AllWithin, IsSample, at}
 use Rattle.gfx_dwt.specs.Samples.{cell, column}
@@ -30,7 +30,7 @@ bound_all Plain xs all = all_more (2 * (2 * (2 * (2 * (2 * (2 * 8192)))))) 11796
 bound_all Reduced xs all = all_more (2 * (2 * (2 * (2 * (3 * (3 * 8192)))))) 1179648 xs (lit≤ tt) all
 
 -- the high half of a plane's columns is within the plane's bound
-pub high_plane_within : (t : Transform) (l : Level) (w bound : ℕ) (source high : List ℤ) → w ≡ line_size t l → length source ≡ w * w → length high ≡ high_size t l * w → ((r x : ℕ) → r < high_size t l → x < w → cell w high r x ≡ high_half t l (column w source x) r) → AllWithin bound source → AllWithin bound high
+pub high_plane_within : (t : Transform) (l : Scale) (w bound : ℕ) (source high : List ℤ) → w ≡ line_size t l → length source ≡ w * w → length high ≡ high_size t l * w → ((r x : ℕ) → r < high_size t l → x < w → cell w high r x ≡ high_half t l (column w source x) r) → AllWithin bound source → AllWithin bound high
 high_plane_within t l w bound source high e f g highs all =
     cells_within w (high_size t l) bound high g
     (λ r x p q. rw (highs r x p q) (high_half_within t l bound (column w source x) (λ k h. column_within w w bound source f all x q k (omega (arith, e))) r p))

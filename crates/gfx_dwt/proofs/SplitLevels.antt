@@ -4,8 +4,8 @@ use Rattle.std.proofs.lemmas.List.{get_or-drop}
 use borrow.Rule.Slice.PartMut.{put_mid}
 use Rattle.gfx_dwt.specs.declared.layout.Transform.{Transform}
 use Rattle.gfx_dwt.specs.declared.layout.Transform.TheVariants.{Plain, Reduced}
-use Rattle.gfx_dwt.specs.declared.layout.Level.{Level}
-use Rattle.gfx_dwt.specs.declared.layout.Level.TheVariants.{First, Second, Third}
+use Rattle.gfx_dwt.specs.declared.layout.Scale.{Scale}
+use Rattle.gfx_dwt.specs.declared.layout.Scale.TheVariants.{First, Second, Third}
 use Rattle.gfx_dwt.specs.declared.layout.Band.{Band}
 use Rattle.gfx_dwt.specs.declared.layout.Band.TheVariants.{Hl1, Lh1, Hh1, Hl2, Lh2, Hh2, Hl3, Lh3, Hh3, Ll3}
 use Rattle.gfx_dwt.specs.Coefficients.{Half, Low, High, half, split, IsSplitAt, second_source, third_source, transformed}
@@ -18,22 +18,22 @@ use Rattle.gfx_dwt.proofs.SplitSame.{high_half_same, low_half_same}
 use Rattle.gfx_dwt.proofs.Strips.{mid_within}
 
 -- how many places a half has
-abbrev pub half_size : Half → Transform → Level → ℕ
+abbrev pub half_size : Half → Transform → Scale → ℕ
 half_size Low = low_size
 half_size High = high_size
 
-half_same : (h : Half) (t : Transform) (l : Level) (line other : ℕ → ℤ) → ((k : ℕ) → k < line_size t l → line k ≡ other k) → (n : ℕ) → n < half_size h t l → half h t l line n ≡ half h t l other n
+half_same : (h : Half) (t : Transform) (l : Scale) (line other : ℕ → ℤ) → ((k : ℕ) → k < line_size t l → line k ≡ other k) → (n : ℕ) → n < half_size h t l → half h t l line n ≡ half h t l other n
 unfolding half
 half_same Low t l line other same n h = low_half_same t l line other same n h
 half_same High t l line other same n h = high_half_same t l line other same n h
 
 -- a quarter depends on the plane's places alone
-pub split_same : (t : Transform) (l : Level) (across down : Half) (source other : ℕ → ℕ → ℤ) → ((y x : ℕ) → y < line_size t l → x < line_size t l → source y x ≡ other y x) → (r c : ℕ) → r < half_size down t l → c < half_size across t l → split t l across down source r c ≡ split t l across down other r c
+pub split_same : (t : Transform) (l : Scale) (across down : Half) (source other : ℕ → ℕ → ℤ) → ((y x : ℕ) → y < line_size t l → x < line_size t l → source y x ≡ other y x) → (r c : ℕ) → r < half_size down t l → c < half_size across t l → split t l across down source r c ≡ split t l across down other r c
 unfolding split
 split_same t l across down source other same r c h k =
     half_same across t l _ _ (λ x p. half_same down t l _ _ (λ y q. same y x q p) r h) c k
 
-pub split_at_same : (t : Transform) (l : Level) (s : ℕ) (source other : ℕ → ℕ → ℤ) (now : List ℤ) → ((y x : ℕ) → y < line_size t l → x < line_size t l → source y x ≡ other y x) → IsSplitAt t l s source now → IsSplitAt t l s other now
+pub split_at_same : (t : Transform) (l : Scale) (s : ℕ) (source other : ℕ → ℕ → ℤ) (now : List ℤ) → ((y x : ℕ) → y < line_size t l → x < line_size t l → source y x ≡ other y x) → IsSplitAt t l s source now → IsSplitAt t l s other now
 split_at_same t l s source other now same q = record {
   low_low = λ r c h k. q.low_low r c h k ∙ split_same t l Low Low source other same r c h k;
   high_low = λ r c h k. q.high_low r c h k ∙ split_same t l High Low source other same r c h k;
@@ -48,7 +48,7 @@ moved_place s k i z plane part h p =
     let f : 0 + i + z ≡ i + z = omega arith in
     rw (e, f) (mid_within s k plane part (i + z) p h)
 
-pub moved : (t : Transform) (l : Level) (s k : ℕ) (source : ℕ → ℕ → ℤ) (plane part : List ℤ) → IsSplitAt t l 0 source part → length part ≡ line_size t l * line_size t l → s ≤ length plane → IsSplitAt t l s source (put_mid s k plane part)
+pub moved : (t : Transform) (l : Scale) (s k : ℕ) (source : ℕ → ℕ → ℤ) (plane part : List ℤ) → IsSplitAt t l 0 source part → length part ≡ line_size t l * line_size t l → s ≤ length plane → IsSplitAt t l s source (put_mid s k plane part)
 moved t l s k source plane part q len h =
     let n = low_size t l in
     let m = high_size t l in
@@ -68,13 +68,13 @@ moved t l s k source plane part q len h =
     }
 
 -- the bands of a level, where it has been split
-pub record AreSplitBands (t : Transform) (l : Level) (hl lh hh : Band) (source : ℕ → ℕ → ℤ) (now : List ℤ) : Type 0 where
+pub record AreSplitBands (t : Transform) (l : Scale) (hl lh hh : Band) (source : ℕ → ℕ → ℤ) (now : List ℤ) : Type 0 where
   pub hl_is : (r c : ℕ) → r < low_size t l → c < high_size t l → coefficient t now hl r c ≡ split t l High Low source r c
   pub lh_is : (r c : ℕ) → r < high_size t l → c < low_size t l → coefficient t now lh r c ≡ split t l Low High source r c
   pub hh_is : (r c : ℕ) → r < high_size t l → c < high_size t l → coefficient t now hh r c ≡ split t l High High source r c
 
 -- the plane afterwards, of which the places before the low quarter have stayed
-pub split_bands : (t : Transform) (l : Level) (hl lh hh : Band) → AreBandsOf t l hl lh hh → (source : ℕ → ℕ → ℤ) (now after : List ℤ) → IsSplitAt t l (part_start t l) source now → ((k : ℕ) → k < part_start t l + low_start t l → at after k ≡ at now k) → AreSplitBands t l hl lh hh source after
+pub split_bands : (t : Transform) (l : Scale) (hl lh hh : Band) → AreBandsOf t l hl lh hh → (source : ℕ → ℕ → ℤ) (now after : List ℤ) → IsSplitAt t l (part_start t l) source now → ((k : ℕ) → k < part_start t l + low_start t l → at after k ≡ at now k) → AreSplitBands t l hl lh hh source after
 split_bands t l hl lh hh b source now after q kept =
     let n = low_size t l in
     let m = high_size t l in

@@ -3,8 +3,8 @@ use Rattle.std.proofs.Common.{◌≡◌, ℕ, ◌+◌, ◌-◌, ◌*◌, ◌<◌
 use Rattle.std.proofs.lemmas.Grind.{common_steps}
 use Rattle.gfx_dwt.specs.declared.layout.Transform.{Transform}
 use Rattle.gfx_dwt.specs.declared.layout.Transform.TheVariants.{Plain, Reduced}
-use Rattle.gfx_dwt.specs.declared.layout.Level.{Level}
-use Rattle.gfx_dwt.specs.declared.layout.Level.TheVariants.{First}
+use Rattle.gfx_dwt.specs.declared.layout.Scale.{Scale}
+use Rattle.gfx_dwt.specs.declared.layout.Scale.TheVariants.{First}
 use Rattle.gfx_dwt.specs.Place.{high_size}
 use Rattle.gfx_dwt.specs.Lifting.{even_of, odd_of}
 use Rattle.gfx_dwt.specs.Joining.{lowered, even, odd, joined}
@@ -13,20 +13,20 @@ use Rattle.gfx_dwt.proofs.Edges.{high_some, even_inside, odd_inside, odd_last_pl
 use Rattle.gfx_dwt.proofs.Pairs.{PairsAre, pair_put}
 
 -- all pairs before the last place of the high half
-pub inner_pairs : (t : Transform) (l : Level) (low high : ℕ → ℤ) (xs : List ℤ) → ((k : ℕ) → k + 1 < high_size t l → at xs (2 * k) ≡ lowered t low high k) → ((k : ℕ) → k + 1 < high_size t l → at xs (2 * k + 1) ≡ odd_of t (high k) (lowered t low high k) (lowered t low high (k + 1))) → PairsAre xs (even t l low high) (odd t l low high) (high_size t l - 1)
+pub inner_pairs : (t : Transform) (l : Scale) (low high : ℕ → ℤ) (xs : List ℤ) → ((k : ℕ) → k + 1 < high_size t l → at xs (2 * k) ≡ lowered t low high k) → ((k : ℕ) → k + 1 < high_size t l → at xs (2 * k + 1) ≡ odd_of t (high k) (lowered t low high k) (lowered t low high (k + 1))) → PairsAre xs (even t l low high) (odd t l low high) (high_size t l - 1)
 inner_pairs t l low high xs evens odds = record {
   evens_are = λ j h. evens j (omega arith) ∙ sym (even_inside t l low high j (omega arith));
   odds_are = λ j h. odds j (omega arith) ∙ sym (odd_inside t l low high j (omega arith));
 }
 
 -- a list of pairs is a line
-pub line_of_pairs : (t : Transform) (l : Level) (low high : ℕ → ℤ) (xs : List ℤ) (m : ℕ) → PairsAre xs (even t l low high) (odd t l low high) m → (k : ℕ) → k < 2 * m → at xs k ≡ joined t l low high k
+pub line_of_pairs : (t : Transform) (l : Scale) (low high : ℕ → ℤ) (xs : List ℤ) (m : ℕ) → PairsAre xs (even t l low high) (odd t l low high) m → (k : ℕ) → k < 2 * m → at xs k ≡ joined t l low high k
 line_of_pairs t l low high xs m p =
     by_parity (λ k. at xs k ≡ joined t l low high k) (2 * m)
     (λ n h. p.evens_are n (omega arith) ∙ sym (joined_even t l low high n))
     (λ n h. p.odds_are n (omega arith) ∙ sym (joined_odd t l low high n))
 
-pub plain_line : (l : Level) (low high : ℕ → ℤ) (xs : List ℤ) (m : ℕ) (sample last : ℤ) → m ≡ high_size Plain l → length xs ≡ 2 * m → ((k : ℕ) → k + 1 < m → at xs (2 * k) ≡ lowered Plain low high k) → ((k : ℕ) → k + 1 < m → at xs (2 * k + 1) ≡ odd_of Plain (high k) (lowered Plain low high k) (lowered Plain low high (k + 1))) → sample ≡ lowered Plain low high (m - 1) → last ≡ odd_of Plain (high (m - 1)) sample sample → (k : ℕ) → k < 2 * m → at (set (set xs (2 * (m - 1)) sample) (2 * (m - 1) + 1) last) k ≡ joined Plain l low high k
+pub plain_line : (l : Scale) (low high : ℕ → ℤ) (xs : List ℤ) (m : ℕ) (sample last : ℤ) → m ≡ high_size Plain l → length xs ≡ 2 * m → ((k : ℕ) → k + 1 < m → at xs (2 * k) ≡ lowered Plain low high k) → ((k : ℕ) → k + 1 < m → at xs (2 * k + 1) ≡ odd_of Plain (high k) (lowered Plain low high k) (lowered Plain low high (k + 1))) → sample ≡ lowered Plain low high (m - 1) → last ≡ odd_of Plain (high (m - 1)) sample sample → (k : ℕ) → k < 2 * m → at (set (set xs (2 * (m - 1)) sample) (2 * (m - 1) + 1) last) k ≡ joined Plain l low high k
 plain_line l low high xs m sample last e n evens odds s o k h =
     let some = high_some Plain l in
     let inner = inner_pairs Plain l low high xs (λ j p. evens j (omega arith)) (λ j p. odds j (omega arith)) in
@@ -36,7 +36,7 @@ plain_line l low high xs m sample last e n evens odds s o k h =
     rw e (line_of_pairs Plain l low high _ (high_size Plain l - 1 + 1) all k (omega arith))
 
 -- the first pairs of a line of reduce-extrapolate, up to the last place of the high half
-pub reduced_pairs_all : (l : Level) (low high : ℕ → ℤ) (xs : List ℤ) (m : ℕ) (sample next last : ℤ) → m ≡ high_size Reduced l → 2 * m ≤ length xs → ((k : ℕ) → k + 1 < m → at xs (2 * k) ≡ lowered Reduced low high k) → ((k : ℕ) → k + 1 < m → at xs (2 * k + 1) ≡ odd_of Reduced (high k) (lowered Reduced low high k) (lowered Reduced low high (k + 1))) → sample ≡ lowered Reduced low high (m - 1) → next ≡ even Reduced l low high m → last ≡ odd_of Reduced (high (m - 1)) sample next → PairsAre (set (set xs (2 * (m - 1)) sample) (2 * (m - 1) + 1) last) (even Reduced l low high) (odd Reduced l low high) m
+pub reduced_pairs_all : (l : Scale) (low high : ℕ → ℤ) (xs : List ℤ) (m : ℕ) (sample next last : ℤ) → m ≡ high_size Reduced l → 2 * m ≤ length xs → ((k : ℕ) → k + 1 < m → at xs (2 * k) ≡ lowered Reduced low high k) → ((k : ℕ) → k + 1 < m → at xs (2 * k + 1) ≡ odd_of Reduced (high k) (lowered Reduced low high k) (lowered Reduced low high (k + 1))) → sample ≡ lowered Reduced low high (m - 1) → next ≡ even Reduced l low high m → last ≡ odd_of Reduced (high (m - 1)) sample next → PairsAre (set (set xs (2 * (m - 1)) sample) (2 * (m - 1) + 1) last) (even Reduced l low high) (odd Reduced l low high) m
 reduced_pairs_all l low high xs m sample next last e n evens odds s x o =
     let some = high_some Reduced l in
     let inner = inner_pairs Reduced l low high xs (λ j p. evens j (omega arith)) (λ j p. odds j (omega arith)) in
@@ -48,7 +48,7 @@ reduced_pairs_all l low high xs m sample next last e n evens odds s x o =
     rw e (rw more at all)
 
 -- one even sample more behind the pairs
-pub later_line : (l : Level) (low high : ℕ → ℤ) (xs : List ℤ) (m : ℕ) (next : ℤ) → 2 * m < length xs → PairsAre xs (even Reduced l low high) (odd Reduced l low high) m → next ≡ even Reduced l low high m → (k : ℕ) → k < 2 * m + 1 → at (set xs (2 * m) next) k ≡ joined Reduced l low high k
+pub later_line : (l : Scale) (low high : ℕ → ℤ) (xs : List ℤ) (m : ℕ) (next : ℤ) → 2 * m < length xs → PairsAre xs (even Reduced l low high) (odd Reduced l low high) m → next ≡ even Reduced l low high m → (k : ℕ) → k < 2 * m + 1 → at (set xs (2 * m) next) k ≡ joined Reduced l low high k
 later_line l low high xs m next n p x =
     by_parity (λ k. at (set xs (2 * m) next) k ≡ joined Reduced l low high k) (2 * m + 1)
     (λ j h. below_more (λ i. at (set xs (2 * m) next) (2 * i) ≡ joined Reduced l low high (2 * i)) m

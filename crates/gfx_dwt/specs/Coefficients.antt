@@ -1,8 +1,8 @@
 -- The coefficients of a component's samples ([MS-RDPRFX] 3.1.8.2.4, [MS-RDPEGFX] for reduce-extrapolate).
 use Rattle.std.specs.Prelude.{◌≡◌, ℕ, ◌+◌, ◌*◌, ◌<◌, ℤ, List}
 use Rattle.gfx_dwt.specs.declared.layout.Transform.{Transform}
-use Rattle.gfx_dwt.specs.declared.layout.Level.{Level}
-use Rattle.gfx_dwt.specs.declared.layout.Level.TheVariants.{First, Second, Third}
+use Rattle.gfx_dwt.specs.declared.layout.Scale.{Scale}
+use Rattle.gfx_dwt.specs.declared.layout.Scale.TheVariants.{First, Second, Third}
 use Rattle.gfx_dwt.specs.declared.layout.Band.{Band}
 use Rattle.gfx_dwt.specs.declared.layout.Band.TheVariants.{Hl1, Lh1, Hh1, Hl2, Lh2, Hh2, Hl3, Lh3, Hh3, Ll3}
 use Rattle.gfx_dwt.specs.Splitting.{high_half, low_half}
@@ -15,16 +15,16 @@ pub data Half : Type 0 where
   High : Half
 
 -- a half of a line
-unfoldable pub half : Half → Transform → Level → (ℕ → ℤ) → ℕ → ℤ
+unfoldable pub half : Half → Transform → Scale → (ℕ → ℤ) → ℕ → ℤ
 half Low = low_half
 half High = high_half
 
 -- A quarter of a level, by which half it is across and down: the columns first, then the rows of what they give.
-unfoldable pub split : Transform → Level → Half → Half → (ℕ → ℕ → ℤ) → ℕ → ℕ → ℤ
+unfoldable pub split : Transform → Scale → Half → Half → (ℕ → ℕ → ℤ) → ℕ → ℕ → ℤ
 split t l across down source row column = half across t l (λ x. half down t l (λ y. source y x) row) column
 
 -- the four quarters of a level stand behind a place of a plane, in the order HL, LH, HH, LL
-pub record IsSplitAt (t : Transform) (l : Level) (place : ℕ) (source : ℕ → ℕ → ℤ) (now : List ℤ) : Type 0 where
+pub record IsSplitAt (t : Transform) (l : Scale) (place : ℕ) (source : ℕ → ℕ → ℤ) (now : List ℤ) : Type 0 where
   pub low_low : (r c : ℕ) → r < low_size t l → c < low_size t l → quarter (place + low_start t l) (low_size t l) now r c ≡ split t l Low Low source r c
   pub high_low : (r c : ℕ) → r < low_size t l → c < high_size t l → quarter place (high_size t l) now r c ≡ split t l High Low source r c
   pub low_high : (r c : ℕ) → r < high_size t l → c < low_size t l → quarter (place + low_size t l * high_size t l) (low_size t l) now r c ≡ split t l Low High source r c

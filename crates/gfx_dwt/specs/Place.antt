@@ -2,13 +2,13 @@
 use Rattle.std.specs.Prelude.{ℕ, ◌+◌, ◌-◌, ◌*◌, ◌<◌, ◌≤◌, ℤ, pos, List, [], ◌∷◌, slice_index_or, sum, map, take}
 use Rattle.gfx_dwt.specs.declared.layout.Transform.{Transform}
 use Rattle.gfx_dwt.specs.declared.layout.Transform.TheVariants.{Plain, Reduced}
-use Rattle.gfx_dwt.specs.declared.layout.Level.{Level}
-use Rattle.gfx_dwt.specs.declared.layout.Level.TheVariants.{First, Second, Third}
+use Rattle.gfx_dwt.specs.declared.layout.Scale.{Scale}
+use Rattle.gfx_dwt.specs.declared.layout.Scale.TheVariants.{First, Second, Third}
 use Rattle.gfx_dwt.specs.declared.layout.Band.{Band}
 use Rattle.gfx_dwt.specs.declared.layout.Band.TheVariants.{Hl1, Lh1, Hh1, Hl2, Lh2, Hh2, Hl3, Lh3, Hh3, Ll3}
 
 -- how many places the low half of a level's line has
-abbrev pub low_size : Transform → Level → ℕ
+abbrev pub low_size : Transform → Scale → ℕ
 low_size Plain First = 32
 low_size Plain Second = 16
 low_size Plain Third = 8
@@ -17,7 +17,7 @@ low_size Reduced Second = 17
 low_size Reduced Third = 9
 
 -- how many places the high half of a level's line has
-abbrev pub high_size : Transform → Level → ℕ
+abbrev pub high_size : Transform → Scale → ℕ
 high_size Plain First = 32
 high_size Plain Second = 16
 high_size Plain Third = 8
@@ -26,15 +26,15 @@ high_size Reduced Second = 16
 high_size Reduced Third = 8
 
 -- how many places a level's line has
-abbrev pub line_size : Transform → Level → ℕ
+abbrev pub line_size : Transform → Scale → ℕ
 line_size t l = low_size t l + high_size t l
 
 -- where the part of the plane begins that a level fills, up to the plane's end
-abbrev pub part_start : Transform → Level → ℕ
+abbrev pub part_start : Transform → Scale → ℕ
 part_start t l = 4096 - line_size t l * line_size t l
 
 -- where the low quarter of a level's part begins in it, behind HL, LH and HH
-abbrev pub low_start : Transform → Level → ℕ
+abbrev pub low_start : Transform → Scale → ℕ
 low_start t l = low_size t l * high_size t l + high_size t l * low_size t l + high_size t l * high_size t l
 
 -- how many columns a band has: the first letter says which half of a row it is

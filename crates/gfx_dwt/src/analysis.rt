@@ -6,13 +6,13 @@ ghost use Rattle.gfx_dwt.specs.Ranges.{AllSamples, AllWithin, at};
 ghost use Rattle.gfx_dwt.specs.Samples.{cell, quarter};
 ghost use Rattle.gfx_dwt.specs.Splitting.{grows, high_half, low_half};
 
-use crate::layout::{Level, Transform};
+use crate::layout::{Scale, Transform};
 use crate::splitting::{split_columns, split_rows};
 
 /// Splits all rows of a plane's two halves: the upper one into LL and HL, the lower one into LH and HH.
 fn split_quarters(
     transform: Transform,
-    level: Level,
+    level: Scale,
     above: &[i32],
     below: &[i32],
     part: &mut [i32],
@@ -38,7 +38,7 @@ fn split_quarters(
 }
 
 /// Splits a level in the part of the plane that it fills.
-fn split_level(transform: Transform, level: Level, part: &mut [i32], tmp: &mut [i32])
+fn split_level(transform: Transform, level: Scale, part: &mut [i32], tmp: &mut [i32])
     requires part_len { length part.old ≡ line_size transform level * line_size transform level }
     requires tmp_len { length tmp.old ≡ length part.old }
     requires part { AllWithin (2 ^ 26) part.old }
@@ -54,7 +54,7 @@ fn split_level(transform: Transform, level: Level, part: &mut [i32], tmp: &mut [
 /// Splits a level in the plane; the bands before its part stay.
 fn split_in_plane(
     transform: Transform,
-    level: Level,
+    level: Scale,
     plane: &mut [i32; 4096],
     tmp: &mut [i32; 4096],
 )
@@ -80,9 +80,9 @@ pub fn forward_with(plane: &mut [i32; 4096], transform: Transform, tmp: &mut [i3
     ensures coefficients { (band : Band) (row column : ℕ) → row < rows transform band → column < columns transform band → coefficient transform plane.new band row column ≡ transformed transform plane.old band row column }
     ensures within { AllWithin 1179648 plane.new }
 {
-    split_in_plane(transform, Level::First, plane, tmp);
-    split_in_plane(transform, Level::Second, plane, tmp);
-    split_in_plane(transform, Level::Third, plane, tmp);
+    split_in_plane(transform, Scale::First, plane, tmp);
+    split_in_plane(transform, Scale::Second, plane, tmp);
+    split_in_plane(transform, Scale::Third, plane, tmp);
 }
 
 /// Turns samples row by row into coefficients in band order ([MS-RDPRFX] 3.1.8.2.4, and [MS-RDPEGFX] for

@@ -4,7 +4,7 @@ ghost use Rattle.gfx_dwt.specs.Place.{high_size};
 ghost use Rattle.gfx_dwt.specs.Ranges.{AllWithin, at};
 ghost use Rattle.gfx_dwt.specs.Samples.{cell, column};
 
-use crate::layout::{Level, Transform};
+use crate::layout::{Scale, Transform};
 
 /// What stands behind the high half at the first level of reduce-extrapolate.
 static NOUGHTS: [i32; 64] = [0; 64];
@@ -34,7 +34,7 @@ fn noughts(width: usize) -> &'static [i32]
 /// The row that stands behind the end of a high half with this last row.
 #[inline(always)]
 #[tactic(auto, unfolding(crate::specs::Joining::behind))]
-fn row_behind<'a>(transform: Transform, level: Level, last: &'a [i32]) -> &'a [i32]
+fn row_behind<'a>(transform: Transform, level: Scale, last: &'a [i32]) -> &'a [i32]
     requires { length last.now ≤ 64 }
     ensures len { length result.now ≡ length last.now }
     ensures each { (k : ℕ) → at result.now k ≡ behind transform level (at last.now k) }
@@ -43,9 +43,9 @@ fn row_behind<'a>(transform: Transform, level: Level, last: &'a [i32]) -> &'a [i
     match transform {
         Transform::Plain => last,
         Transform::Reduced => match level {
-            Level::First => noughts(last.len()),
-            Level::Second => last,
-            Level::Third => last,
+            Scale::First => noughts(last.len()),
+            Scale::Second => last,
+            Scale::Third => last,
         },
     }
 }
@@ -54,7 +54,7 @@ fn row_behind<'a>(transform: Transform, level: Level, last: &'a [i32]) -> &'a [i
 #[inline]
 pub fn edge_row<'a>(
     transform: Transform,
-    level: Level,
+    level: Scale,
     high: &'a [i32],
     width: usize,
     index: usize,

@@ -1,6 +1,6 @@
 ghost use Rattle.std.specs.Prelude.{◌≡◌, ℕ, ◌+◌, ◌-◌, ◌*◌, ◌<◌, ◌≤◌, ◌^◌, length};
-ghost use Rattle.gfx_dwt.specs.declared.layout.Level.TheVariants.{First};
-ghost use Rattle.gfx_dwt.specs.declared.layout.Level.{Level};
+ghost use Rattle.gfx_dwt.specs.declared.layout.Scale.TheVariants.{First};
+ghost use Rattle.gfx_dwt.specs.declared.layout.Scale.{Scale};
 ghost use Rattle.gfx_dwt.specs.declared.layout.Transform.TheVariants.{Plain, Reduced};
 ghost use Rattle.gfx_dwt.specs.Lifting.{low_of};
 ghost use Rattle.gfx_dwt.specs.Place.{high_size, line_size, low_size};
@@ -8,7 +8,7 @@ ghost use Rattle.gfx_dwt.specs.Ranges.{AllWithin, Within, at};
 ghost use Rattle.gfx_dwt.specs.Splitting.{differed, high_half, low_half};
 
 use crate::formula::{Lifting, PlainLifting, ReducedLifting, beyond, high_place, low_place};
-use crate::layout::{Level, Transform};
+use crate::layout::{Scale, Transform};
 
 /// The first places of both halves, as far as their even samples have one behind them; gives the last of the high half.
 fn first_places<L: Lifting>(line: &[i32], low: &mut [i32], high: &mut [i32], count: usize) -> i32
@@ -43,8 +43,8 @@ fn split_plain(line: &[i32], low: &mut [i32], high: &mut [i32], end: usize)
     requires low_len { length low.old ≡ length high.old }
     requires line_len { length line.now ≡ 2 * length high.old }
     requires line { AllWithin (2 ^ 28) line.now }
-    ensures lows { (l : Level) → length high.old ≡ high_size Plain l → (k : ℕ) → k < length high.old → at low.new k ≡ low_half Plain l (at line.now) k }
-    ensures highs { (l : Level) → length high.old ≡ high_size Plain l → (k : ℕ) → k < length high.old → at high.new k ≡ high_half Plain l (at line.now) k }
+    ensures lows { (l : Scale) → length high.old ≡ high_size Plain l → (k : ℕ) → k < length high.old → at low.new k ≡ low_half Plain l (at line.now) k }
+    ensures highs { (l : Scale) → length high.old ≡ high_size Plain l → (k : ℕ) → k < length high.old → at high.new k ≡ high_half Plain l (at line.now) k }
 {
     let before = first_places::<PlainLifting>(line, low, high, end);
     let here = high_place::<PlainLifting>(line[2 * end + 1], line[2 * end], line[2 * end]);
@@ -60,8 +60,8 @@ fn split_later(line: &[i32], low: &mut [i32], high: &mut [i32], count: usize)
     requires low_len { length low.old ≡ length high.old + 1 }
     requires line_len { length line.now ≡ 2 * length high.old + 1 }
     requires line { AllWithin (2 ^ 28) line.now }
-    ensures lows { (l : Level) → length high.old ≡ high_size Reduced l → length low.old ≡ low_size Reduced l → (k : ℕ) → k < length low.old → at low.new k ≡ low_half Reduced l (at line.now) k }
-    ensures highs { (l : Level) → length high.old ≡ high_size Reduced l → length low.old ≡ low_size Reduced l → (k : ℕ) → k < length high.old → at high.new k ≡ high_half Reduced l (at line.now) k }
+    ensures lows { (l : Scale) → length high.old ≡ high_size Reduced l → length low.old ≡ low_size Reduced l → (k : ℕ) → k < length low.old → at low.new k ≡ low_half Reduced l (at line.now) k }
+    ensures highs { (l : Scale) → length high.old ≡ high_size Reduced l → length low.old ≡ low_size Reduced l → (k : ℕ) → k < length high.old → at high.new k ≡ high_half Reduced l (at line.now) k }
 {
     let before = first_places::<ReducedLifting>(line, low, high, count);
     low[count] = low_place::<ReducedLifting>(line[2 * count], before, before);
@@ -85,7 +85,7 @@ fn split_first(line: &[i32], low: &mut [i32], high: &mut [i32])
 /// Splits a line into its halves. Sizes stand here as numbers, so that each loop has a copy of its own for its size.
 pub fn split_line(
     transform: Transform,
-    level: Level,
+    level: Scale,
     line: &[i32],
     low: &mut [i32],
     high: &mut [i32],
@@ -98,11 +98,11 @@ pub fn split_line(
     ensures highs { (k : ℕ) → k < high_size transform level → at high.new k ≡ high_half transform level (at line.now) k }
 {
     match (transform, level) {
-        (Transform::Plain, Level::First) => split_plain(line, low, high, 31),
-        (Transform::Plain, Level::Second) => split_plain(line, low, high, 15),
-        (Transform::Plain, Level::Third) => split_plain(line, low, high, 7),
-        (Transform::Reduced, Level::First) => split_first(line, low, high),
-        (Transform::Reduced, Level::Second) => split_later(line, low, high, 16),
-        (Transform::Reduced, Level::Third) => split_later(line, low, high, 8),
+        (Transform::Plain, Scale::First) => split_plain(line, low, high, 31),
+        (Transform::Plain, Scale::Second) => split_plain(line, low, high, 15),
+        (Transform::Plain, Scale::Third) => split_plain(line, low, high, 7),
+        (Transform::Reduced, Scale::First) => split_first(line, low, high),
+        (Transform::Reduced, Scale::Second) => split_later(line, low, high, 16),
+        (Transform::Reduced, Scale::Third) => split_later(line, low, high, 8),
     }
 }

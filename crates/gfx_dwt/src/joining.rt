@@ -6,13 +6,13 @@ ghost use Rattle.gfx_dwt.specs.Samples.{cell, column};
 
 use crate::grid::{edge_row, row};
 use crate::kernels::{lower, pair, raise};
-use crate::layout::{Level, Transform};
+use crate::layout::{Scale, Transform};
 use crate::lines::join_line;
 
 /// Joins each row of a low and of a high quarter.
 pub fn join_rows(
     transform: Transform,
-    level: Level,
+    level: Scale,
     low: &[i32],
     high: &[i32],
     out: &mut [i32],
@@ -41,7 +41,7 @@ pub fn join_rows(
 /// Writes two rows behind a known even one: the odd row behind it, and the next even row.
 fn join_pair(
     transform: Transform,
-    level: Level,
+    level: Scale,
     low: &[i32],
     high: &[i32],
     place: usize,
@@ -78,7 +78,7 @@ fn join_pair(
 /// Writes the last row of a plane of even width, behind its last even row.
 fn join_last(
     transform: Transform,
-    level: Level,
+    level: Scale,
     low: &[i32],
     high: &[i32],
     place: usize,
@@ -107,7 +107,7 @@ fn join_last(
 /// Joins each column of the two halves of a plane, row by row over whole rows.
 pub fn join_columns(
     transform: Transform,
-    level: Level,
+    level: Scale,
     low: &[i32],
     high: &[i32],
     out: &mut [i32],

@@ -11,7 +11,7 @@ pub enum Transform {
 
 /// A step of the decomposition; `First` is the one that gives or takes the 64 by 64 samples.
 #[derive(Clone, Copy, Debug, PartialEq, Eq)]
-pub enum Level {
+pub enum Scale {
     First,
     Second,
     Third,
@@ -33,7 +33,7 @@ pub enum Band {
     Ll3,
 }
 
-impl Level {
+impl Scale {
     ghost use Rattle.gfx_dwt.specs.Place.{high_size, low_size};
 
     /// How many places the low half of this level's lines has.
@@ -42,12 +42,12 @@ impl Level {
         ensures { result ≡ low_size transform self }
     {
         match (transform, self) {
-            (Transform::Plain, Level::First) => 32,
-            (Transform::Plain, Level::Second) => 16,
-            (Transform::Plain, Level::Third) => 8,
-            (Transform::Reduced, Level::First) => 33,
-            (Transform::Reduced, Level::Second) => 17,
-            (Transform::Reduced, Level::Third) => 9,
+            (Transform::Plain, Scale::First) => 32,
+            (Transform::Plain, Scale::Second) => 16,
+            (Transform::Plain, Scale::Third) => 8,
+            (Transform::Reduced, Scale::First) => 33,
+            (Transform::Reduced, Scale::Second) => 17,
+            (Transform::Reduced, Scale::Third) => 9,
         }
     }
 
@@ -57,10 +57,10 @@ impl Level {
         ensures { result ≡ high_size transform self }
     {
         match (transform, self) {
-            (Transform::Plain, Level::First) => 32,
-            (Transform::Reduced, Level::First) => 31,
-            (_, Level::Second) => 16,
-            (_, Level::Third) => 8,
+            (Transform::Plain, Scale::First) => 32,
+            (Transform::Reduced, Scale::First) => 31,
+            (_, Scale::Second) => 16,
+            (_, Scale::Third) => 8,
         }
     }
 }

@@ -14,5 +14,5 @@ mod splitting;
 mod synthesis;
 
 pub use analysis::{forward, forward_with};
-pub use layout::{Band, Level, Transform};
+pub use layout::{Band, Scale, Transform};
 pub use synthesis::{inverse, inverse_with};

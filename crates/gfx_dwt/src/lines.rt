@@ -1,14 +1,14 @@
 ghost use Rattle.std.specs.Prelude.{◌≡◌, ℕ, ◌+◌, ◌-◌, ◌*◌, ◌<◌, ◌≤◌, ◌^◌, length, slice_set};
 ghost use Rattle.gfx_dwt.specs.Place.{high_size, line_size, low_size};
-ghost use Rattle.gfx_dwt.specs.declared.layout.Level.TheVariants.{First};
-ghost use Rattle.gfx_dwt.specs.declared.layout.Level.{Level};
+ghost use Rattle.gfx_dwt.specs.declared.layout.Scale.TheVariants.{First};
+ghost use Rattle.gfx_dwt.specs.declared.layout.Scale.{Scale};
 ghost use Rattle.gfx_dwt.specs.declared.layout.Transform.TheVariants.{Plain, Reduced};
 ghost use Rattle.gfx_dwt.specs.Joining.{joined, lowered};
 ghost use Rattle.gfx_dwt.specs.Lifting.{odd_of};
 ghost use Rattle.gfx_dwt.specs.Ranges.{AllWithin, Within, at};
 
 use crate::formula::{Lifting, PlainLifting, ReducedLifting, even_sample, odd_sample};
-use crate::layout::{Level, Transform};
+use crate::layout::{Scale, Transform};
 
 /// The samples that lie between two places of the high half, and the even sample behind them.
 #[tactic(auto, unfolding(crate::specs::Joining::lowered))]
@@ -50,7 +50,7 @@ fn join_plain(low: &[i32], high: &[i32], out: &mut [i32])
     requires out_len { length out.old ≡ 2 * length high.now }
     requires low { AllWithin (2 ^ 28) low.now }
     requires high { AllWithin (2 ^ 28) high.now }
-    ensures { (l : Level) → length high.now ≡ high_size Plain l → (k : ℕ) → k < length out.old → at out.new k ≡ joined Plain l (at low.now) (at high.now) k }
+    ensures { (l : Scale) → length high.now ≡ high_size Plain l → (k : ℕ) → k < length out.old → at out.new k ≡ joined Plain l (at low.now) (at high.now) k }
 {
     let sample = pairs::<PlainLifting>(low, high, out);
     let end = high.len() - 1;
@@ -65,7 +65,7 @@ fn join_later(low: &[i32], high: &[i32], out: &mut [i32])
     requires out_len { length out.old ≡ 2 * length high.now + 1 }
     requires low { AllWithin (2 ^ 28) low.now }
     requires high { AllWithin (2 ^ 28) high.now }
-    ensures { (l : Level) → length high.now ≡ high_size Reduced l → length low.now ≡ low_size Reduced l → (k : ℕ) → k < length out.old → at out.new k ≡ joined Reduced l (at low.now) (at high.now) k }
+    ensures { (l : Scale) → length high.now ≡ high_size Reduced l → length low.now ≡ low_size Reduced l → (k : ℕ) → k < length out.old → at out.new k ≡ joined Reduced l (at low.now) (at high.now) k }
 {
     let sample = pairs::<ReducedLifting>(low, high, out);
     let end = high.len() - 1;
@@ -94,7 +94,7 @@ fn join_first(low: &[i32], high: &[i32], out: &mut [i32])
 }
 
 /// Joins a line of its halves.
-pub fn join_line(transform: Transform, level: Level, low: &[i32], high: &[i32], out: &mut [i32])
+pub fn join_line(transform: Transform, level: Scale, low: &[i32], high: &[i32], out: &mut [i32])
     requires low_len { length low.now ≡ low_size transform level }
     requires high_len { length high.now ≡ high_size transform level }
     requires out_len { length out.old ≡ line_size transform level }
@@ -104,7 +104,7 @@ pub fn join_line(transform: Transform, level: Level, low: &[i32], high: &[i32], 
 {
     match (transform, level) {
         (Transform::Plain, _) => join_plain(low, high, out),
-        (Transform::Reduced, Level::First) => join_first(low, high, out),
+        (Transform::Reduced, Scale::First) => join_first(low, high, out),
         (Transform::Reduced, _) => join_later(low, high, out),
     }
 }

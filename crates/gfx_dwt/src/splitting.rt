@@ -9,12 +9,12 @@ ghost use Rattle.gfx_dwt.specs.Splitting.{evens, grows, high_half, low_half};
 use crate::grid::{edge_row, row};
 use crate::halves::split_line;
 use crate::kernels::{differ, divide, extend, smooth};
-use crate::layout::{Level, Transform};
+use crate::layout::{Scale, Transform};
 
 /// Splits each row of a half plane into its quarters.
 pub fn split_rows(
     transform: Transform,
-    level: Level,
+    level: Scale,
     source: &[i32],
     low: &mut [i32],
     high: &mut [i32],
@@ -45,7 +45,7 @@ pub fn split_rows(
 /// Writes a row of the high half of a plane.
 fn high_row(
     transform: Transform,
-    level: Level,
+    level: Scale,
     source: &[i32],
     index: usize,
     out: &mut [i32],
@@ -68,7 +68,7 @@ fn high_row(
 /// Writes a row of the low half of a plane, whose high half is known.
 fn low_row(
     transform: Transform,
-    level: Level,
+    level: Scale,
     source: &[i32],
     high: &[i32],
     index: usize,
@@ -101,7 +101,7 @@ fn low_row(
 #[inline(always)]
 fn split_pair(
     transform: Transform,
-    level: Level,
+    level: Scale,
     source: &[i32],
     index: usize,
     next: usize,
@@ -137,7 +137,7 @@ fn split_pair(
 /// Writes all rows of the high half of a plane, and the rows of the low half beside them.
 fn split_pairs(
     transform: Transform,
-    level: Level,
+    level: Scale,
     source: &[i32],
     low: &mut [i32],
     high: &mut [i32],
@@ -188,7 +188,7 @@ fn split_pairs(
 /// Splits each column of a plane into its halves, row by row over whole rows.
 pub fn split_columns(
     transform: Transform,
-    level: Level,
+    level: Scale,
     source: &[i32],
     low: &mut [i32],
     high: &mut [i32],

@@ -5,12 +5,12 @@ ghost use Rattle.gfx_dwt.specs.Ranges.{AllCoefficients, AllWithin, at};
 ghost use Rattle.gfx_dwt.specs.Samples.{cell, part_joined, quarter, sample};
 
 use crate::joining::{join_columns, join_rows};
-use crate::layout::{Level, Transform};
+use crate::layout::{Scale, Transform};
 
 /// Joins all rows of a level's part: LL with HL above, LH with HH below.
 fn join_quarters(
     transform: Transform,
-    level: Level,
+    level: Scale,
     part: &[i32],
     above: &mut [i32],
     below: &mut [i32],
@@ -34,7 +34,7 @@ fn join_quarters(
 }
 
 /// Joins a level in the part of the plane that it fills.
-fn join_level(transform: Transform, level: Level, part: &mut [i32], tmp: &mut [i32])
+fn join_level(transform: Transform, level: Scale, part: &mut [i32], tmp: &mut [i32])
     requires part_len { length part.old ≡ line_size transform level * line_size transform level }
     requires tmp_len { length tmp.old ≡ length part.old }
     requires part { AllWithin (2 ^ 26) part.old }
@@ -48,7 +48,7 @@ fn join_level(transform: Transform, level: Level, part: &mut [i32], tmp: &mut [i
 }
 
 /// Joins a level in the plane; the bands before its part stay.
-fn join_in_plane(transform: Transform, level: Level, plane: &mut [i32; 4096], tmp: &mut [i32; 4096])
+fn join_in_plane(transform: Transform, level: Scale, plane: &mut [i32; 4096], tmp: &mut [i32; 4096])
     requires { AllWithin (2 ^ 26) plane.old }
     ensures each { (y x : ℕ) → y < line_size transform level → x < line_size transform level → at plane.new (part_start transform level + (y * line_size transform level + x)) ≡ part_joined transform level (drop (part_start transform level) plane.old) y x }
     ensures kept { (k : ℕ) → k < part_start transform level → at plane.new k ≡ at plane.old k }
@@ -71,9 +71,9 @@ pub fn inverse_with(plane: &mut [i32; 4096], transform: Transform, tmp: &mut [i3
     ensures samples { (y x : ℕ) → y < 64 → x < 64 → cell 64 plane.new y x ≡ sample transform plane.old y x }
     ensures within { AllWithin 1507328 plane.new }
 {
-    join_in_plane(transform, Level::Third, plane, tmp);
-    join_in_plane(transform, Level::Second, plane, tmp);
-    join_in_plane(transform, Level::First, plane, tmp);
+    join_in_plane(transform, Scale::Third, plane, tmp);
+    join_in_plane(transform, Scale::Second, plane, tmp);
+    join_in_plane(transform, Scale::First, plane, tmp);
 }
 
 /// Turns coefficients in band order into samples row by row ([MS-RDPRFX] 3.1.8.1.4, and [MS-RDPEGFX] for

@@ -8,3 +8,4 @@ pub mod Everywhere
 pub mod Smaller
 pub mod Nibbles
 pub mod Numbers
+pub mod Accepted

@@ -4,6 +4,7 @@
 //! It stands on the wavelet transforms. The tile crates, the block grammar and the scripts stand on it.
 #![tactic(auto)]
 
+mod accepting;
 mod bands;
 mod coefficients;
 mod colour;
@@ -19,6 +20,6 @@ pub use colour::{from_colour, to_colour};
 pub use colours::{from_colours, to_colours};
 pub use dequantising::{dequantise_band, dequantise_plane};
 pub use gfx_dwt::Band;
-pub use quant::{Component, LEAST_BASE, Quant, check_base, quant_from, quant_to};
+pub use quant::{Component, LEAST_BASE, MOST_BITS, Quant, check_base, quant_from, quant_to};
 pub use quantising::{cut_plane, quantise_plane, truncate_plane};
-pub use setting::{Level, Levels, MOST_LEVELS, Setting};
+pub use setting::{Level, Levels, MOST_FALL, MOST_LEVELS, Setting};

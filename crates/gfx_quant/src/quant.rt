@@ -8,6 +8,9 @@ use gfx_base::Refusal;
 /// The least value that a band may be quantised by ([MS-RDPEGFX] RFX_COMPONENT_CODEC_QUANT).
 pub const LEAST_BASE: u8 = 6;
 
+/// What a band's base and what a level leaves out of it are at most together.
+pub const MOST_BITS: u8 = 15;
+
 /// A number for each band of a component, in the order of `Band`: what the band is quantised by, or
 /// how many low bits of it a quality leaves out ([MS-RDPEGFX] RFX_COMPONENT_CODEC_QUANT).
 #[derive(Clone, Copy, Debug, PartialEq, Eq)]
@@ -86,7 +89,7 @@ pub fn quant_to(quant: &Quant) -> [u8; 5]
     ]
 }
 
-fn all_at_least_base(values: &[u8]) -> bool
+pub(crate) fn all_at_least_base(values: &[u8]) -> bool
     ensures { result ≡ is_base values.now }
 {
     values.iter().all(|value| *value >= LEAST_BASE)

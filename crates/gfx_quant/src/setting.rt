@@ -7,6 +7,9 @@ use std::marker::Model;
 /// How many levels a setting lists at most.
 pub const MOST_LEVELS: usize = 7;
 
+/// How many bits a band gains at most from one level to the next.
+pub const MOST_FALL: u8 = 6;
+
 /// What a quality leaves out: of each component's bands that many low bits
 /// ([MS-RDPEGFX] RFX_PROGRESSIVE_CODEC_QUANT).
 #[derive(Clone, Copy, Debug, PartialEq, Eq)]

@@ -1,6 +1,6 @@
 use Rattle.std.proofs.Common.{◌≡◌, ◌^◌, ◌∙◌, sym, length-set, ℤ, pos, to_z, of_z, w32, lit<, lit≤, arith}
 use Rattle.gfx_dwt.specs.declared.layout.Transform.TheVariants.{Reduced}
-use Rattle.gfx_dwt.specs.declared.layout.Level.TheVariants.{First}
+use Rattle.gfx_dwt.specs.declared.layout.Scale.TheVariants.{First}
 use Rattle.gfx_dwt.specs.Lifting.{low_of}
 use Rattle.gfx_dwt.specs.Ranges.{at}
 use Rattle.gfx_dwt.specs.Splitting.{beyond, differed, low_half}

@@ -1,6 +1,6 @@
 use Rattle.std.proofs.Common.{◌≡◌, ◌^◌, ℤ, pos, to_z, of_z, w32, lit<, length-set, refl, ◌∙◌, arith}
 use Rattle.gfx_dwt.specs.declared.layout.Transform.TheVariants.{Reduced}
-use Rattle.gfx_dwt.specs.declared.layout.Level.TheVariants.{First}
+use Rattle.gfx_dwt.specs.declared.layout.Scale.TheVariants.{First}
 use Rattle.gfx_dwt.specs.Joining.{behind, even}
 use Rattle.gfx_dwt.specs.Lifting.{even_of, odd_of}
 use Rattle.gfx_dwt.specs.Ranges.{at}

@@ -1,0 +1,4 @@
+pub mod Numbers
+pub mod SetLemmas
+pub mod BodyLaws
+pub mod Laws

@@ -1,0 +1,6 @@
+pub mod ClientId
+pub mod Layouts
+pub mod Reading
+pub mod Spelling
+pub mod Laws
+pub mod Choice

@@ -1,0 +1,7 @@
+pub mod Making
+pub mod Drawings
+pub mod Shorts
+pub mod Outputs
+pub mod Again
+pub mod Painted
+pub mod ReadAgain

@@ -1,0 +1,13 @@
+use Rattle.std.proofs.Common.{◌≡◌, length}
+use Rattle.gfx_clear_bands.specs.Bands.{drawing, bands}
+use Rattle.gfx_clear_bands.proofs.Drawings.{Due}
+use Rattle.gfx_clear_bands.proofs.reading.read_bands.Given as goal
+
+abbrev pub invariant-bands : goal.invariant-bands
+invariant-bands l = record {
+  due : Due l.width l.height (drawing l.out l.drawn l.store.held) l.rest (bands l.width l.height (drawing l.fn.out l.fn.drawn l.fn.store.held) l.fn.bytes);
+  marked : l.store.marked ≡ l.fn.store.marked;
+}
+
+abbrev pub decreases-bands : goal.decreases-bands
+decreases-bands l = length l.rest

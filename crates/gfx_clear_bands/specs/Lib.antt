@@ -1,0 +1,5 @@
+pub mod Bars
+pub mod Bands
+pub mod Reading
+pub mod Writing
+pub mod ReadBack

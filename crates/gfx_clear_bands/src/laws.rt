@@ -1,0 +1,6 @@
+ghost use Rattle.gfx_clear_bands.specs.ReadBack.{ReadsBack};
+
+/// What is written is read back: it draws the picture, and leaves the rings as writing left them.
+pub fn written_is_read()
+    ensures { ReadsBack }
+{}

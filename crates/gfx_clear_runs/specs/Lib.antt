@@ -1,0 +1,7 @@
+pub mod Lengths
+pub mod Elements
+pub mod Reading
+pub mod Outcome
+pub mod Views
+pub mod Writing
+pub mod Forms

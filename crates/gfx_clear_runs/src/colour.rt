@@ -1,0 +1,28 @@
+ghost use Rattle.std.specs.Prelude.{◌≡◌, ◌≤◌, false, length, take, drop, replicate};
+ghost use Rattle.gfx_clear_runs.specs.Writing.{same_colour, begins};
+
+use gfx_base::Rgb;
+
+/// Whether two colours are the same.
+#[inline(always)]
+pub fn same_colour(one: Rgb, other: Rgb) -> bool
+    ensures { result ≡ same_colour one other }
+{
+    one.b == other.b && one.g == other.g && one.r == other.r
+}
+
+/// How many pixels at the front have this colour.
+#[inline(always)]
+#[tactic(auto, using(crate::proofs::Colours::colour_more, crate::proofs::Colours::begins_none))]
+pub fn front_run(colour: Rgb, pixels: &[Rgb]) -> usize
+    ensures within { result ≤ length pixels.now }
+    ensures same { take result pixels.now ≡ replicate result colour }
+    ensures ended { begins colour (drop result pixels.now) ≡ false }
+{
+    for (i, pixel) in pixels.iter().enumerate() {
+        if !same_colour(colour, *pixel) {
+            return i;
+        }
+    }
+    pixels.len()
+}

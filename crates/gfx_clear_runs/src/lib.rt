@@ -1,0 +1,18 @@
+//! Runs of ClearCodec: the residual layer and the RLEX subcodec, read and written.
+//!
+//! `gfx_clear` puts them into whole streams. They know nothing of bands, glyphs or surfaces.
+#![tactic(auto)]
+
+mod coding;
+mod collect;
+mod colour;
+mod element;
+mod laws;
+mod length;
+mod palette;
+mod read;
+mod write;
+
+pub use laws::{one_runs_form, rlex_reads_back, runs_are_longest, runs_read_back};
+pub use read::{read_rlex, read_runs};
+pub use write::{write_rlex, write_runs};

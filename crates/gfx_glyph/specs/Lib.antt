@@ -1,0 +1,3 @@
+pub mod Glyphs
+pub mod Index
+pub mod Inside

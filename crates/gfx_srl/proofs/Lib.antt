@@ -1,0 +1,9 @@
+pub mod Tokens
+pub mod Reading
+pub mod ReadingSteps
+pub mod Writing
+pub mod WritingSteps
+pub mod Unique
+pub mod OneWriting
+pub mod Bound
+pub mod Numbers

@@ -1,0 +1,111 @@
+-- What the reader's calls leave, as they compute it.
+use Rattle.std.proofs.Common.{◌≡◌, ◌≢◌, ℕ, suc, ◌+◌, ◌-◌, ◌^◌, ◌<◌, ◌≤◌, ◌==◌, Bool, true, false, cond, ℤ, pos, negsuc, List, drop, refl, sym, ◌∙◌, arith, min, subst}
+use Rattle.std.specs.Prelude.{MatchBool, nat_lt}
+use Rattle.std.specs.Int.RustNames.{unsigned_abs}
+use Rattle.std.proofs.lemmas.Bool.{ltb-true, ltb-false}
+use Rattle.std.proofs.Math.Pow.{pow_mono}
+use Rattle.gfx_bits.specs.Bits.{Spelled, first, number, zeros_code}
+use Rattle.gfx_bits.proofs.Laws.{number_1}
+use Rattle.gfx_srl.specs.Code.{Pair, k, is_negative}
+use Rattle.gfx_srl.specs.Steps.{Reader, HasRead, ReadsNext, ReadsZero, ComesToValue}
+use Rattle.gfx_srl.proofs.Reading.{standing, zero-read, run-read, head-read, value-read}
+
+at-zeros : (all : List Bool) (pairs : List Pair) (reader : Reader) (zeros : ℕ) (ends : Bool) → reader.zeros ≡ zeros → reader.ends ≡ ends
+    → HasRead all pairs reader → HasRead all pairs (standing reader.bits reader.kp zeros ends)
+at-zeros all pairs reader zeros ends e f h =
+    subst (λ b. HasRead all pairs (standing reader.bits reader.kp zeros b)) f (subst (λ n. HasRead all pairs (standing reader.bits reader.kp n reader.ends)) e h)
+
+-- a zero that was still to give
+pub gives-zero : (reader : Reader) (zeros : ℕ) → reader.zeros ≡ suc zeros → ReadsZero reader (standing reader.bits reader.kp zeros reader.ends)
+gives-zero reader zeros e width all pairs h =
+    zero-read all reader.bits reader.kp zeros width reader.ends pairs (at-zeros all pairs reader (suc zeros) reader.ends e refl h)
+
+no-bit : (bits : List Bool) → number 1 bits ≡ 0 → first bits ≡ false
+no-bit bits e = go (first bits) (sym (number_1 bits) ∙ e)
+  where
+    go : (b : Bool) → ◌≡◌ {A = ℕ} (cond b 1 0) 0 → b ≡ false
+    go true e = absurd (omega arith)
+    go false e = refl
+
+one-bit : (bits : List Bool) → (number 1 bits ≡ 0 → ⊥) → first bits ≡ true
+one-bit bits h = go (first bits) (λ e. h (number_1 bits ∙ e))
+  where
+    go : (b : Bool) → (◌≡◌ {A = ℕ} (cond b 1 0) 0 → ⊥) → b ≡ true
+    go true h = refl
+    go false h = absurd (h refl)
+
+-- a full run
+pub opens-run : (reader : Reader) (bits : List Bool) (kp zeros : ℕ) (ends : Bool) → reader.zeros ≡ 0 → reader.ends ≡ false → number 1 reader.bits ≡ 0
+    → bits ≡ drop 1 reader.bits → kp ≡ min 80 (reader.kp + 4) → zeros ≡ 2 ^ k reader.kp - 1 → ends ≡ false
+    → ReadsZero reader (standing bits kp zeros ends)
+opens-run reader bits kp zeros ends none begins bit on up run over width all pairs h =
+    rw (on, up, run, over) (run-read all reader.bits reader.kp width pairs (no-bit reader.bits bit) (at-zeros all pairs reader 0 false none begins h))
+
+-- the head of a run that a value ends
+opened : (reader : Reader) (all : List Bool) (pairs : List Pair) → reader.zeros ≡ 0 → reader.ends ≡ false → (number 1 reader.bits ≡ 0 → ⊥)
+    → HasRead all pairs reader → HasRead all pairs (standing (drop (k reader.kp) (drop 1 reader.bits)) reader.kp (number (k reader.kp) (drop 1 reader.bits)) true)
+opened reader all pairs none begins bit h =
+    head-read all reader.bits reader.kp pairs (one-bit reader.bits bit) (at-zeros all pairs reader 0 false none begins h)
+
+pub opens-value : (reader : Reader) (bits : List Bool) (kp run zeros : ℕ) → reader.zeros ≡ 0 → reader.ends ≡ false → (number 1 reader.bits ≡ 0 → ⊥)
+    → run ≡ number (k reader.kp) (drop 1 reader.bits) → bits ≡ drop (k reader.kp) (drop 1 reader.bits) → kp ≡ reader.kp → zeros ≡ run - 1
+    → MatchBool (nat_lt 0 run) (ReadsZero reader (standing bits kp zeros true)) (ComesToValue reader (standing bits kp zeros true))
+opens-value reader bits kp run zeros none begins bit counted on same less = go (nat_lt 0 run) refl
+  where
+    here : (all : List Bool) (pairs : List Pair) → HasRead all pairs reader → HasRead all pairs (standing bits kp run true)
+    here all pairs h = rw (on, same, counted) (opened reader all pairs none begins bit h)
+
+    go : (b : Bool) → nat_lt 0 run ≡ b → MatchBool b (ReadsZero reader (standing bits kp zeros true)) (ComesToValue reader (standing bits kp zeros true))
+    go true e = λ width all pairs h.
+        zero-read all bits kp zeros width true pairs
+        (subst (λ n. HasRead all pairs (standing bits kp n true)) {x = run} {y = suc zeros} (let some : 0 < run = ltb-true 0 run e in omega arith) (here all pairs h))
+    go false e =
+        let empty : run ≡ 0 = let most : run ≤ 0 = ltb-false 0 run e in omega arith in
+        (refl, omega arith, λ all pairs h. subst (λ n. HasRead all pairs (standing bits kp n true)) {x = run} {y = zeros} (omega arith) (here all pairs h))
+
+-- ---- a value
+
+abbrev pub signed_value : Bool → ℕ → ℤ
+signed_value negative below = cond negative (negsuc below) (pos (suc below))
+
+sign-of : (negative : Bool) (below : ℕ) → is_negative (signed_value negative below) ≡ negative
+sign-of true below = refl
+sign-of false below = refl
+
+below-of : (negative : Bool) (below : ℕ) → unsigned_abs (signed_value negative below) - 1 ≡ below
+below-of true below = omega arith
+below-of false below = omega arith
+
+not-zero : (negative : Bool) (below : ℕ) → signed_value negative below ≢ pos 0
+not-zero true below e = cc
+not-zero false below e = cc
+
+magnitude-of : (negative : Bool) (below : ℕ) → unsigned_abs (signed_value negative below) ≡ suc below
+magnitude-of true below = omega arith
+magnitude-of false below = omega arith
+
+-- the test of the sign's bit
+sign-bit : (bits : List Bool) (n : ℕ) → n ≡ number 1 bits → (n == 1) ≡ first bits
+sign-bit bits n e = rw (e, number_1 bits) (go (first bits))
+  where
+    go : (b : Bool) → (cond b 1 0 == 1) ≡ b
+    go true = refl
+    go false = refl
+
+-- the largest number of zeros in a magnitude's code
+pub most-zeros : (n : ℕ) → 1 ≤ n → n ≤ 24 → (2 ≤ 2 ^ n) × (2 ^ n ≤ 2 ^ 24)
+most-zeros n some few = (let one : 2 ^ 1 ≤ 2 ^ n = pow_mono some in omega arith, pow_mono few)
+
+pub small-value : (negative : Bool) (below n : ℕ) → 1 ≤ n → n ≤ 24 → below ≤ 2 ^ n - 2 → unsigned_abs (signed_value negative below) < 2 ^ n
+small-value negative below n some few most = omega (arith, magnitude-of negative below, most-zeros n some few)
+
+pub reads-value : (reader : Reader) (bits : List Bool) (kp zeros n bit below : ℕ) (ends : Bool) → reader.zeros ≡ 0 → reader.ends ≡ true → 1 ≤ n → n ≤ 24
+    → bit ≡ number 1 reader.bits → Spelled (drop 1 reader.bits) (zeros_code (2 ^ n - 2) below) bits → below ≤ 2 ^ n - 2
+    → kp ≡ reader.kp - 6 → zeros ≡ reader.zeros → ends ≡ false
+    → ReadsNext n (signed_value (bit == 1) below) reader (standing bits kp zeros ends)
+reads-value reader bits kp zeros n bit below ends none stops some few is spelled most down same over all pairs h =
+    rw (down, same, none, over)
+    (value-read all reader.bits bits reader.kp n (signed_value (bit == 1) below) pairs (not-zero (bit == 1) below) (small-value (bit == 1) below n some few most)
+    (sign-of (bit == 1) below ∙ sign-bit reader.bits bit is)
+    (subst (λ m. Spelled (drop 1 reader.bits) (zeros_code (2 ^ n - 2) m) bits) (sym (below-of (bit == 1) below)) spelled)
+    (at-zeros all pairs reader 0 true none stops h))

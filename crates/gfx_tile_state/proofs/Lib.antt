@@ -1,0 +1,10 @@
+pub mod Running
+pub mod Places
+pub mod Sums
+pub mod Reading
+pub mod Bands
+pub mod Passing
+pub mod Values
+pub mod Positions
+pub mod Parts
+pub mod OneReading

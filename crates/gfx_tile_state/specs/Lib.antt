@@ -1,0 +1,5 @@
+pub mod Entries
+pub mod Passes
+pub mod Record
+pub mod Shape
+pub mod Shapes

@@ -1,0 +1,91 @@
+-- What a pass makes of a component of a tile's record ([MS-RDPEGFX], the progressive codec; the kept plane is this project's own rule).
+use Rattle.std.specs.Prelude.{ℕ, ◌<◌, ◌≡◌, ◌⊎◌, ℤ, pos, ◌+ℤ◌, true, false, List, [], ◌∷◌, ◌++◌, take, drop, length, Result, Ok, Err, replicate}
+use Rattle.gfx_base.specs.declared.refusal.Refusal.{Refusal}
+use Rattle.gfx_base.specs.declared.refusal.Refusal.TheVariants.{CoefficientRange}
+use Rattle.gfx_rlgr.specs.Rlgr.{Rlgr}
+use Rattle.gfx_dwt.specs.declared.layout.Transform.{Transform}
+use Rattle.gfx_dwt.specs.declared.layout.Band.TheVariants.{Ll3}
+use Rattle.gfx_dwt.specs.Place.{start}
+use Rattle.gfx_dwt.specs.Ranges.{at}
+use Rattle.gfx_quant.specs.Coefficient.{is_coefficient}
+use Rattle.gfx_quant.specs.Planes.{Dequantises, LeavesRange}
+use Rattle.gfx_tile_state.specs.Shape.{AreAtMost}
+use Rattle.gfx_tile_state.specs.Entries.{Pass, AreEntries, sum_after}
+
+-- a component of a record: the plane that earlier tiles left, the sums of this tile's contributions, and the bit position of each band
+pub record Part : Type 0 where
+  pub kept : List ℤ
+  pub sums : List ℤ
+  pub positions : List ℕ
+
+-- each value and all before it
+unfoldable pub running : ℤ → List ℤ → List ℤ
+running total [] = []
+running total (x ∷ xs) = (total +ℤ x) ∷ running (total +ℤ x) xs
+
+-- LL3 is coded as differences from the value before it
+abbrev pub summed : Transform → List ℤ → List ℤ
+summed t values = take (start t Ll3) values ++ running (pos 0) (drop (start t Ll3) values)
+
+-- two planes, place by place
+unfoldable pub added : List ℤ → List ℤ → List ℤ
+added [] ys = []
+added (x ∷ xs) [] = []
+added (x ∷ xs) (y ∷ ys) = (x +ℤ y) ∷ added xs ys
+
+-- a plane of zeros
+abbrev pub blank : List ℤ
+blank = replicate 4096 (pos 0)
+
+-- the coefficients of a component
+abbrev pub coefficients : Part → List ℤ
+coefficients part = added part.kept part.sums
+
+-- some place of a kept plane with a sum is outside the 16-bit range, or the sum is
+abbrev pub LeavesIt : List ℤ → (ℕ → ℤ) → Type 0
+LeavesIt kept sum = (k : ℕ) × (k < 4096) × ((is_coefficient (sum k) ≡ false) ⊎ (is_coefficient (at kept k +ℤ sum k) ≡ false))
+
+-- why a first pass is refused: its data, a value without a coefficient, or a place that leaves the range
+abbrev pub FirstRefused : Transform → List ℕ → List ℕ → List ℤ → Type 0
+FirstRefused t positions bytes kept =
+    Rlgr bytes (Err CoefficientRange)
+    ⊎ ((values : List ℤ) × Rlgr bytes (Ok values)
+    × (LeavesRange t positions (summed t values) ⊎ ((sums : List ℤ) × Dequantises t positions (summed t values) sums × LeavesIt kept (at sums))))
+
+-- a first pass over a kept plane: the sums are the coefficients of its values
+abbrev pub TakesFirst : Result (Unit {0}) Refusal → Transform → List ℕ → List ℕ → List ℤ → Part → Part → Type 0
+TakesFirst (Ok done) t positions bytes kept old new =
+    (values : List ℤ) × Rlgr bytes (Ok values) × Dequantises t positions (summed t values) new.sums × (new.kept ≡ kept) × (new.positions ≡ positions)
+TakesFirst (Err refusal) t positions bytes kept old new = (refusal ≡ CoefficientRange) × FirstRefused t positions bytes kept × (new ≡ old)
+
+-- an upgrade: each sum with what the pass adds to it
+abbrev pub Upgrades : Result (Unit {0}) Refusal → Pass → List ℕ → Part → Part → Type 0
+Upgrades (Ok done) pass positions old new =
+    (entries : List ℤ) × AreEntries pass entries × ((k : ℕ) → k < 4096 → at new.sums k ≡ sum_after pass entries k) × (new.kept ≡ old.kept) × (new.positions ≡ positions)
+Upgrades (Err refusal) pass positions old new =
+    (refusal ≡ CoefficientRange) × ((entries : List ℤ) × AreEntries pass entries × LeavesIt old.kept (sum_after pass entries)) × (new ≡ old)
+
+-- a plane with another stays in the 16-bit range
+abbrev pub FitsOnto : List ℤ → List ℤ → Type 0
+FitsOnto kept plane = (k : ℕ) → k < 4096 → is_coefficient (at kept k +ℤ at plane k) ≡ true
+
+-- or leaves it at some place
+abbrev pub LeavesKept : List ℤ → List ℤ → Type 0
+LeavesKept kept plane = (k : ℕ) × (k < 4096) × (is_coefficient (at kept k +ℤ at plane k) ≡ false)
+
+-- what a first pass reads: the coefficients of its values, or why it is refused
+abbrev pub ReadsFirst : Result (Unit {0}) Refusal → Transform → List ℕ → List ℕ → List ℤ → Type 0
+ReadsFirst (Ok done) t positions bytes plane = (values : List ℤ) × Rlgr bytes (Ok values) × Dequantises t positions (summed t values) plane
+ReadsFirst (Err refusal) t positions bytes plane =
+    (refusal ≡ CoefficientRange) × (Rlgr bytes (Err CoefficientRange) ⊎ ((values : List ℤ) × Rlgr bytes (Ok values) × LeavesRange t positions (summed t values)))
+
+-- what a component holds: whole planes that stay in the 16-bit range together, and positions
+pub record IsSound (kept sums : List ℤ) (positions : List ℕ) : Type 0 where
+  pub kept_whole : length kept ≡ 4096
+  pub sums_whole : length sums ≡ 4096
+  pub fits : FitsOnto kept sums
+  pub positions_small : AreAtMost 30 positions
+
+-- a component before its first pass
+abbrev pub fresh : Part
+fresh = record { kept = blank; sums = blank; positions = replicate 10 0 }

@@ -1,0 +1,39 @@
+ghost use Rattle.std.specs.Prelude.{◌≡◌, OnOk};
+ghost use Rattle.gfx_dwt.specs.Ranges.{AllCoefficients, AllWithin};
+ghost use Rattle.gfx_tile_state.specs.Passes.{ReadsFirst, summed};
+ghost use Rattle.gfx_tile_state.specs.Shape.{AreWithin};
+
+use crate::planes::sum_up;
+use gfx_base::Refusal;
+use gfx_dwt::Transform;
+use gfx_quant::{Band, band_start, dequantise_plane};
+use gfx_rlgr::decode;
+
+/// Reads the coefficients of a first pass.
+pub fn read_first(
+    bytes: &[u8],
+    transform: Transform,
+    positions: &[u8; 10],
+    plane: &mut [i32; 4096],
+) -> Result<(), Refusal>
+    requires { AreWithin 6 30 positions.now }
+    ensures reads { ReadsFirst result transform positions.now bytes.now plane.new }
+    ensures coefficients { OnOk result (AllCoefficients plane.new) }
+{
+    decode(bytes, plane)?;
+    sum_low(plane, transform);
+    if dequantise_plane(plane, transform, positions) {
+        Ok(())
+    } else {
+        Err(Refusal::CoefficientRange)
+    }
+}
+
+/// LL3 is coded as differences from the value before it.
+fn sum_low(plane: &mut [i32; 4096], transform: Transform)
+    requires { AllWithin 32767 plane.old }
+    ensures { plane.new ≡ summed transform plane.old }
+{
+    let (_, low) = plane.split_at_mut(band_start(transform, Band::Ll3));
+    sum_up(low);
+}

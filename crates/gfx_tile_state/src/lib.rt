@@ -1,0 +1,19 @@
+//! Records of progressive tiles: what passes have left of a tile, and its pixels.
+//!
+//! It stands on the coders, the transforms and the quantising. The progressive decoder keeps such a
+//! record for each cell that was painted, and the server's source tiles are measured against it.
+#![tactic(auto)]
+
+mod entries;
+mod first;
+mod laws;
+mod part;
+mod planes;
+mod shape;
+mod state;
+mod upgrading;
+
+pub use laws::one_reading;
+pub use part::Part;
+pub use shape::PassShape;
+pub use state::TileState;

@@ -1,0 +1,169 @@
+ghost use Rattle.std.specs.Prelude.{◌≡◌, IfOk, MatchBool};
+ghost use Rattle.gfx_bits.specs.Bits.{bits_of};
+ghost use Rattle.gfx_dwt.specs.Ranges.{AllCoefficients};
+ghost use Rattle.gfx_tile_state.specs.Entries.{pass_of};
+ghost use Rattle.gfx_tile_state.specs.Passes.{TakesFirst, Upgrades, blank, coefficients, fresh};
+ghost use Rattle.gfx_tile_state.specs.Shape.{AreBelow, AreWithin, SomeAbove};
+
+use crate::entries::Readers;
+use crate::first::read_first;
+use crate::planes::{add, clear, fit_together, fits_onto, load, put};
+use crate::upgrading::upgrade_plane;
+use gfx_base::{NoMemory, Refusal};
+use gfx_bits::BitReader;
+use gfx_dwt::Transform;
+use gfx_srl::SrlReader;
+use std::alloc::Global;
+use std::marker::Model;
+
+/// One component of a tile's record: the plane that earlier tiles left, the sums of this tile's
+/// passes, and the bit position of each band. A known sign is the sign of its sum.
+#[derive(Drop)]
+pub struct Part {
+    kept: Vec<i16>,
+    sums: Vec<i16>,
+    positions: [u8; 10],
+}
+
+impl Model for Part {
+    ghost use Rattle.gfx_tile_state.specs.Passes.{Part as Component, IsSound};
+
+    ghost Value = { Component };
+
+    ghost view = { λ part. record { kept = part.kept.items; sums = part.sums.items; positions = part.positions } };
+
+    ghost invariant = { λ part. IsSound part.kept.items part.sums.items part.positions };
+}
+
+impl Part {
+    /// All zero.
+    pub fn new(alloc: Global) -> Result<Self, NoMemory>
+        ensures { IfOk result (λ part. part ≡ fresh) }
+    {
+        Ok(Part {
+            kept: vec![in alloc; 0i16; 4096]?,
+            sums: vec![in alloc; 0i16; 4096]?,
+            positions: [0; 10],
+        })
+    }
+
+    /// The same again.
+    pub fn copy(&self) -> Result<Self, NoMemory>
+        ensures { IfOk result (λ part. part ≡ self.now) }
+    {
+        Ok(Part {
+            kept: self.kept.clone()?,
+            sums: self.sums.clone()?,
+            positions: self.positions,
+        })
+    }
+
+    /// The bit positions of its bands.
+    pub fn positions(&self) -> [u8; 10]
+        ensures { result ≡ self.now.positions }
+    {
+        self.positions
+    }
+
+    /// Whether no position is above those that stand.
+    pub fn may_fall_to(&self, positions: &[u8; 10]) -> bool
+        ensures { MatchBool result (AreBelow positions.now self.now.positions) (SomeAbove positions.now self.now.positions) }
+    {
+        are_below(positions, &self.positions)
+    }
+
+    /// A plain first pass.
+    pub fn first(
+        &mut self,
+        bytes: &[u8],
+        transform: Transform,
+        positions: &[u8; 10],
+    ) -> Result<(), Refusal>
+        requires { AreWithin 6 30 positions.now }
+        ensures { TakesFirst result transform positions.now bytes.now blank self.old self.new }
+    {
+        let mut plane = [0; 4096];
+        read_first(bytes, transform, positions, &mut plane)?;
+        clear(&mut self.kept);
+        put(&plane, &mut self.sums);
+        self.positions = *positions;
+        Ok(())
+    }
+
+    /// A difference first pass: it keeps the coefficients that stand.
+    pub fn add(
+        &mut self,
+        bytes: &[u8],
+        transform: Transform,
+        positions: &[u8; 10],
+    ) -> Result<(), Refusal>
+        requires { AreWithin 6 30 positions.now }
+        ensures { TakesFirst result transform positions.now bytes.now (coefficients self.old) self.old self.new }
+    {
+        let mut plane = [0; 4096];
+        read_first(bytes, transform, positions, &mut plane)?;
+        let mut kept = [0; 4096];
+        self.coefficients(&mut kept);
+        if !fit_together(&kept, &plane) {
+            return Err(Refusal::CoefficientRange);
+        }
+        put(&kept, &mut self.kept);
+        put(&plane, &mut self.sums);
+        self.positions = *positions;
+        Ok(())
+    }
+
+    /// An upgrade to positions that are not above those that stand.
+    pub fn upgrade(
+        &mut self,
+        srl: &[u8],
+        raw: &[u8],
+        transform: Transform,
+        positions: &[u8; 10],
+    ) -> Result<(), Refusal>
+        requires within { AreWithin 6 30 positions.now }
+        requires below { AreBelow positions.now self.old.positions }
+        ensures { Upgrades result (pass_of transform self.old.positions positions.now self.old.sums (bits_of srl.now) (bits_of raw.now)) positions.now self.old self.new }
+    {
+        let mut plane = [0; 4096];
+        load(&self.sums, &mut plane);
+        let mut readers = Readers {
+            srl: SrlReader::new(srl),
+            bits: BitReader::new(raw),
+        };
+        let fits = upgrade_plane(
+            &mut plane,
+            transform,
+            &self.positions,
+            positions,
+            &mut readers,
+        );
+        if !fits {
+            return Err(Refusal::CoefficientRange);
+        }
+        if !fits_onto(&self.kept, &plane) {
+            return Err(Refusal::CoefficientRange);
+        }
+        put(&plane, &mut self.sums);
+        self.positions = *positions;
+        Ok(())
+    }
+
+    /// Its coefficients.
+    pub fn coefficients(&self, out: &mut [i32; 4096])
+        ensures value { out.new ≡ coefficients self.now }
+        ensures coefficients { AllCoefficients out.new }
+    {
+        add(&self.kept, &self.sums, out);
+    }
+}
+
+fn are_below(low: &[u8; 10], high: &[u8; 10]) -> bool
+    ensures { MatchBool result (AreBelow low.now high.now) (SomeAbove low.now high.now) }
+{
+    let mut below = true;
+    for index in 0..10 {
+        below &= low[index] <= high[index];
+    }
+    below
+}

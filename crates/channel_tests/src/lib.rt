@@ -6,6 +6,8 @@
 #[cfg(test)]
 mod bitmaps;
 #[cfg(test)]
+mod caps;
+#[cfg(test)]
 mod framing;
 #[cfg(test)]
 mod messages;
@@ -17,3 +19,5 @@ mod reports;
 mod streams;
 #[cfg(test)]
 mod surfaces;
+#[cfg(test)]
+mod windows;

@@ -26,15 +26,33 @@ const BROWN: Rgb = Rgb {
 };
 
 // A picture of 8 by 54 with a light window of 4 by 27.
+fn colour_at(x: u16, y: u16) -> Rgb {
+    if (14..41).contains(&y) && (2..6).contains(&x) {
+        LIGHT
+    } else {
+        BROWN
+    }
+}
+
 fn window(alloc: Global) -> Result<Vec<Rgb>, NoMemory> {
     let mut pixels = Vec::new(alloc);
     for y in 0..54 {
         for x in 0..8 {
-            let lit = (14..41).contains(&y) && (2..6).contains(&x);
-            pixels.push(if lit { LIGHT } else { BROWN })?;
+            pixels.push(colour_at(x, y))?;
         }
     }
     Ok(pixels)
+}
+
+fn is_window(pixels: &[Rgb]) -> bool {
+    for y in 0..54 {
+        for x in 0..8 {
+            if pixels.get(8 * usize::from(y) + usize::from(x)) != Some(&colour_at(x, y)) {
+                return false;
+            }
+        }
+    }
+    true
 }
 
 // The bytes that it is written as: a background column and a hit on it, a short of 27 pixels, hits.
@@ -81,52 +99,47 @@ fn hits(bytes: &mut Bytes, place: u8, count: u8) -> Result<(), NoMemory> {
 }
 
 // Writes the window once more. `write_bands` has a condition on the number of pixels.
-fn write_window(store: &mut Store, pixels: &[Rgb], out: &mut Bytes) -> Result<(), NoMemory> {
+fn written(alloc: Global, store: &mut Store) -> Result<Bytes, NoMemory> {
+    let pixels = window(alloc)?;
+    let mut out = Bytes::new(alloc);
     if pixels.len() == 432 {
-        write_bands(store, pixels, 8, 54, out)?;
+        write_bands(store, &pixels, 8, 54, &mut out)?;
     }
-    Ok(())
+    Ok(out)
 }
 
 #[test]
 fn writes_a_window(rt: HostRuntime) -> Result<(), NoMemory> {
-    let pixels = window(rt.alloc())?;
     let mut store = Store::new(rt.alloc())?;
-    let mut out = Bytes::new(rt.alloc());
-    write_window(&mut store, &pixels, &mut out)?;
+    let got = written(rt.alloc(), &mut store)?;
     let due = first_stream(rt.alloc())?;
-    assert!(rt; out.as_slice() == due.as_slice());
+    assert!(rt; got.as_slice() == due.as_slice());
 
-    let mut again = Bytes::new(rt.alloc());
-    write_window(&mut store, &pixels, &mut again)?;
+    let got = written(rt.alloc(), &mut store)?;
     let due = second_stream(rt.alloc())?;
-    assert!(rt; again.as_slice() == due.as_slice());
+    assert!(rt; got.as_slice() == due.as_slice());
     Ok(())
 }
 
-// Reads bands of a picture of 8 by 54 over black, and answers what is drawn if all of it is.
-fn read_window(
-    alloc: Global,
-    store: &mut Store,
-    bytes: &[u8],
-) -> Result<Option<Vec<Rgb>>, NoMemory> {
+// Reads bands of a picture of 8 by 54 over black, and answers whether they draw the window, whole.
+fn draws_window(alloc: Global, store: &mut Store, bytes: &[u8]) -> Result<bool, NoMemory> {
     let mut pixels = vec![in alloc; BLACK; 432]?;
     let mut drawn = vec![in alloc; false; 432]?;
     let read = read_bands(store, bytes, 8, 54, &mut pixels, &mut drawn);
-    let all = read.is_ok() && drawn.iter().all(|pixel| *pixel);
-    Ok(if all { Some(pixels) } else { None })
+    Ok(read.is_ok() && is_window(&pixels) && drawn.iter().all(|pixel| *pixel))
 }
 
 #[test]
 fn reads_a_window(rt: HostRuntime) -> Result<(), NoMemory> {
-    let due = window(rt.alloc())?;
     let mut store = Store::new(rt.alloc())?;
-    let first = first_stream(rt.alloc())?;
-    let got = read_window(rt.alloc(), &mut store, first.as_slice())?;
-    assert!(rt; got == Some(window(rt.alloc())?));
-    let second = second_stream(rt.alloc())?;
-    let got = read_window(rt.alloc(), &mut store, second.as_slice())?;
-    assert!(rt; got == Some(due));
+    let bytes = first_stream(rt.alloc())?;
+    let drawn = draws_window(rt.alloc(), &mut store, bytes.as_slice())?;
+    assert!(rt; drawn);
+    assert_eq!(rt; store.cursors(), (3, 2));
+
+    let bytes = second_stream(rt.alloc())?;
+    let drawn = draws_window(rt.alloc(), &mut store, bytes.as_slice())?;
+    assert!(rt; drawn);
     assert_eq!(rt; store.cursors(), (3, 2));
     Ok(())
 }

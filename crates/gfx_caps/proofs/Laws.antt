@@ -1,12 +1,16 @@
 -- Reading and spelling undo each other.
-use Rattle.std.proofs.Common.{◌≡◌, ℕ, ◌+◌, ◌-◌, ◌≤◌, ◌<◌, ◌^◌, Bool, true, false, cond, eqb, ltb, List, [], ◌∷◌, ◌++◌, length, take, drop, Option, Some, None, Ok, refl, sym, ap, subst, ◌∙◌, length-drop, arith, lit<, inl, inr}
+use Rattle.std.proofs.Common.{Result, ◌≡◌, ℕ, ◌+◌, ◌-◌, ◌≤◌, ◌<◌, ◌^◌, Bool, true, false, cond, eqb, ltb, List, [], ◌∷◌, ◌++◌, length, take, drop, Option, Some, None, Ok, refl, sym, ap, subst, ◌∙◌, length-drop, arith, lit<, inl, inr}
 use Rattle.std.proofs.lemmas.Bool.{le-ltb, eqb-true, eq-eqb, cases_Bool}
 use Rattle.std.proofs.lemmas.List.{take_all, drop-drop}
 use Rattle.std.specs.Int.{w16, w32}
 use Rattle.std.specs.Option.{ok_or}
 use Rattle.std.specs.List.{find}
 use Rattle.gfx_base.specs.Field.{number_at, IsBytes}
+use Rattle.std.specs.Prelude.{IfOk}
+use Rattle.gfx_base.specs.Outcome.{Gives}
 use Rattle.gfx_base.specs.Results.{and_then, check}
+use Rattle.gfx_base.specs.declared.answer.Cause.{Cause}
+use Rattle.gfx_base.specs.declared.refusal.Refusal.{Refusal}
 use Rattle.gfx_base.specs.declared.refusal.Refusal.TheVariants.{PduUnknown, CountMismatch}
 use Rattle.gfx_base.proofs.FieldLemmas.{IsBytes-drop}
 use Rattle.gfx_base.proofs.ResultLemmas.{and_then_ok, check_ok}
@@ -160,3 +164,8 @@ client_of-read bytes pdu all e =
     let whole : sized.0 ≡ length bytes = ap (λ f. f.1) pair ∙ alone in
     subst (λ p. Spells bytes p × Fits p) (ap (λ f. f.0) pair ∙ same)
     (is_message bytes named.0 bodied.0 sized.0 all (size_of-ok bytes sized.0 sized.1) whole (kind_of-ok bytes named.0 named.1) bodied.1)
+
+-- so of a call that gave what is due
+pub given-spells : (bytes : List ℕ) (given : Result ClientPdu (Cause Refusal)) → IsBytes bytes → Gives (λ p. p) given (client_of bytes) → IfOk given (λ p. Spells bytes p × Fits p)
+given-spells bytes (Err fault) all due = tt
+given-spells bytes (Ok pdu) all due = client_of-read bytes pdu all due

@@ -5,6 +5,7 @@ ghost use Rattle.gfx_base.specs.Outcome.{Gives};
 ghost use Rattle.gfx_layout.specs.Reading.{read, read_whole, take_each};
 ghost use Rattle.gfx_caps.specs.Layouts.{frame_acknowledge, caps_advertise, caps_set, layout_of};
 ghost use Rattle.gfx_caps.specs.Reading.{body_of, front, client_of};
+ghost use Rattle.gfx_caps.specs.Spelling.{Spells, Fits};
 
 use crate::client_id::ClientId;
 use crate::header::{HEADER, read_kind, read_size};
@@ -102,12 +103,9 @@ fn read_front(alloc: Global, bytes: &[u8]) -> Result<(ClientPdu, usize), Fault>
     Ok((pdu, size))
 }
 
-/// Reads bytes that are one message of the client.
-///
-/// Refusals are PduTruncated, PduLength, PduUnknown and CountMismatch, by the first of the checks of
-/// `specs/Reading` that fails. Bytes behind the message are CountMismatch.
+/// Reads bytes that are one message of the client, as `read_client` does.
 #[tactic(auto, unfolding(crate::specs::Reading::client_of, gfx_base::specs::Results::and_then))]
-pub fn read_client(alloc: Global, bytes: &[u8]) -> Result<ClientPdu, Fault>
+fn read_alone(alloc: Global, bytes: &[u8]) -> Result<ClientPdu, Fault>
     ensures { Gives (λ p. p) result (client_of bytes.now) }
 {
     let (pdu, size) = read_front(alloc, bytes)?;
@@ -115,4 +113,16 @@ pub fn read_client(alloc: Global, bytes: &[u8]) -> Result<ClientPdu, Fault>
         return Err(Fault::Refused(Refusal::CountMismatch));
     }
     Ok(pdu)
+}
+
+/// Reads bytes that are one message of the client.
+///
+/// Refusals are PduTruncated, PduLength, PduUnknown and CountMismatch, by the first of the checks of
+/// `specs/Reading` that fails. Bytes behind the message are CountMismatch.
+pub fn read_client(alloc: Global, bytes: &[u8]) -> Result<ClientPdu, Fault>
+    ensures value { Gives (λ p. p) result (client_of bytes.now) }
+    // What is read is spelled so, byte for byte but for flags, and all of it fits its field.
+    ensures spelled { IfOk result (λ p. Spells bytes.now p × Fits p) }
+{
+    read_alone(alloc, bytes)
 }

@@ -1,8 +1,8 @@
 -- The data of an upgrade say one list of entries.
-use Rattle.std.proofs.Common.{◌≡◌, ◌∙◌, ℕ, zero, suc, ◌+◌, ◌^◌, ◌<◌, ◌≤◌, Bool, ℤ, pos, neg_ℤ, List, [], ◌∷◌, ◌++◌, length, map, drop, get_or, refl, sym, ap, subst, arith}
+use Rattle.std.proofs.Common.{◌≡◌, ◌∙◌, ℕ, suc, ◌+◌, ◌^◌, ◌<◌, Bool, ℤ, pos, neg_ℤ, List, [], ◌∷◌, ◌++◌, length, map, drop, get_or, refl, sym, ap, subst, arith}
 use Rattle.std.specs.Int.RustNames.{unsigned_abs}
 use Rattle.std.proofs.lemmas.List.{map-append}
-use Rattle.gfx_bits.specs.Bits.{Spelled, number, digits}
+use Rattle.gfx_bits.specs.Bits.{Spelled, digits}
 use Rattle.gfx_bits.proofs.Laws.{spelled-apart, number-spelled}
 use Rattle.gfx_srl.specs.Code.{Pair, nothing}
 use Rattle.gfx_srl.specs.Srl.{width_of}

@@ -1,12 +1,18 @@
 -- A tile's record ([MS-RDPEGFX], the progressive codec; difference tiles are this project's own rule).
-use Rattle.std.specs.Prelude.{◌≡◌, ◌⊎◌, Option, Some, None, Result, Ok, Err, Bool, true, false}
+use Rattle.std.specs.Prelude.{ℕ, ℤ, List, ◌≡◌, ◌⊎◌, Option, Some, None, Result, Ok, Err, Bool, true, false}
 use Rattle.gfx_base.specs.declared.refusal.Refusal.{Refusal}
 use Rattle.gfx_base.specs.declared.refusal.Refusal.TheVariants.{TransformChanged, QualityWorse}
 use Rattle.gfx_dwt.specs.declared.layout.Transform.{Transform}
 use Rattle.gfx_dwt.specs.declared.layout.Transform.TheVariants.{Plain, Reduced}
 use Rattle.gfx_quant.specs.declared.quant.Component.{Component}
 use Rattle.gfx_quant.specs.declared.quant.Component.TheVariants.{Y, Cb, Cr}
-use Rattle.gfx_tile_state.specs.Passes.{Part, fresh}
+use Rattle.gfx_base.specs.declared.pixel.Pixel.{Pixel}
+use Rattle.gfx_bits.specs.Bits.{bits_of}
+use Rattle.gfx_dwt.specs.Samples.{sample}
+use Rattle.gfx_quant.specs.Colour.{colour_of}
+use Rattle.gfx_tile_state.specs.Entries.{Pass, pass_of}
+use Rattle.gfx_tile_state.specs.Passes.{Part, TakesFirst, Upgrades, coefficients, fresh}
+use Rattle.gfx_tile_state.specs.Shapes.{positions_of}
 use Rattle.gfx_tile_state.specs.Shape.{AreBelow, SomeAbove}
 use Rattle.gfx_tile_state.specs.declared.state.TileState.{TileState}
 use Rattle.gfx_tile_state.specs.declared.shape.PassShape.{PassShape}
@@ -59,3 +65,26 @@ MayUpgrade (Err refusal) tile shape =
     ((refusal ≡ TransformChanged) × (fits_transform tile.transform shape.transform ≡ false))
     ⊎ ((refusal ≡ QualityWorse) × (fits_transform tile.transform shape.transform ≡ true)
     × (SomeAbove shape.y tile.y.positions ⊎ (SomeAbove shape.cb tile.cb.positions ⊎ SomeAbove shape.cr tile.cr.positions)))
+
+-- a first pass of one component over a kept plane; the other components stay
+abbrev pub StartsIn : Result (Unit {0}) Refusal → Component → List ℕ → PassShape → List ℤ → TileState → TileState → Type 0
+StartsIn result component bytes shape kept old new =
+    TakesFirst result shape.transform (positions_of shape component) bytes kept (part_of old component) (part_of new component) × OthersStay component old new
+
+-- the upgrade of one component by these bytes
+abbrev pub upgrade_of : TileState → Component → PassShape → List ℕ → List ℕ → Pass
+upgrade_of tile component shape srl raw =
+    pass_of shape.transform (part_of tile component).positions (positions_of shape component) (part_of tile component).sums (bits_of srl) (bits_of raw)
+
+-- an upgrade of one component; the other components and the transform stay
+abbrev pub UpgradesIn : Result (Unit {0}) Refusal → Component → List ℕ → List ℕ → PassShape → TileState → TileState → Type 0
+UpgradesIn result component srl raw shape old new =
+    Upgrades result (upgrade_of old component shape srl raw) (positions_of shape component) (part_of old component) (part_of new component)
+    × OthersStay component old new
+    × (new.transform ≡ old.transform)
+
+-- the pixel of a row and a column: the colour of the samples of the record's coefficients
+abbrev pub pixel_of : TileState → ℕ → ℕ → Pixel
+pixel_of tile y x =
+    let t = transform_of tile.transform in
+    colour_of (sample t (coefficients tile.y) y x) (sample t (coefficients tile.cb) y x) (sample t (coefficients tile.cr) y x)

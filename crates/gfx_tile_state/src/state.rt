@@ -1,13 +1,8 @@
 ghost use Rattle.std.specs.Prelude.{◌≡◌, ◌<◌, ◌≤◌, ◌*◌, ◌+◌, ◌^◌, ℕ, IfOk, OnOk, OnErr, Some, true, slice_get};
-ghost use Rattle.gfx_bits.specs.Bits.{bits_of};
 ghost use Rattle.gfx_dwt.specs.Ranges.{AllWithin};
 ghost use Rattle.gfx_dwt.specs.Samples.{cell, sample};
-ghost use Rattle.gfx_quant.specs.Colour.{colour_of};
-ghost use Rattle.gfx_tile_state.specs.Entries.{pass_of};
-ghost use Rattle.gfx_tile_state.specs.Passes.{TakesFirst, Upgrades, blank, coefficients};
-ghost use Rattle.gfx_tile_state.specs.Record.{MayAdd, MayBeUpgraded, MayUpgrade, OthersStay, fits_transform, fresh_tile, part_of, transform_of};
-ghost use Rattle.gfx_tile_state.specs.Shapes.{positions_of};
-ghost use Rattle.gfx_tile_state.specs.Shape.{AreBelow, AreWithin};
+ghost use Rattle.gfx_tile_state.specs.Passes.{blank, coefficients};
+ghost use Rattle.gfx_tile_state.specs.Record.{MayAdd, MayBeUpgraded, MayUpgrade, StartsIn, UpgradesIn, fits_transform, fresh_tile, part_of, pixel_of, transform_of};
 
 use crate::part::Part;
 use crate::shape::PassShape;
@@ -59,8 +54,7 @@ impl TileState {
         bytes: &[u8],
         shape: &PassShape,
     ) -> Result<(), Refusal>
-        ensures part { TakesFirst result shape.now.transform (positions_of shape.now component) bytes.now blank (part_of self.old component) (part_of self.new component) }
-        ensures others { OthersStay component self.old self.new }
+        ensures part { StartsIn result component bytes.now shape.now blank self.old self.new }
         ensures ok { OnOk result (self.new.transform ≡ Some shape.now.transform) }
         ensures err { OnErr result (self.new.transform ≡ self.old.transform) }
     {
@@ -75,8 +69,7 @@ impl TileState {
         bytes: &[u8],
         shape: &PassShape,
     ) -> Result<(), Refusal>
-        ensures part { TakesFirst result shape.now.transform (positions_of shape.now component) bytes.now blank (part_of self.old component) (part_of self.new component) }
-        ensures others { OthersStay component self.old self.new }
+        ensures part { StartsIn result component bytes.now shape.now blank self.old self.new }
         ensures transform { self.new.transform ≡ self.old.transform }
     {
         let positions = shape.positions(component);
@@ -119,8 +112,7 @@ impl TileState {
         shape: &PassShape,
     ) -> Result<(), Refusal>
         requires { fits_transform self.old.transform shape.now.transform ≡ true }
-        ensures part { TakesFirst result shape.now.transform (positions_of shape.now component) bytes.now (coefficients (part_of self.old component)) (part_of self.old component) (part_of self.new component) }
-        ensures others { OthersStay component self.old self.new }
+        ensures part { StartsIn result component bytes.now shape.now (coefficients (part_of self.old component)) self.old self.new }
         ensures ok { OnOk result (self.new.transform ≡ Some shape.now.transform) }
         ensures err { OnErr result (self.new.transform ≡ self.old.transform) }
     {
@@ -135,8 +127,7 @@ impl TileState {
         bytes: &[u8],
         shape: &PassShape,
     ) -> Result<(), Refusal>
-        ensures part { TakesFirst result shape.now.transform (positions_of shape.now component) bytes.now (coefficients (part_of self.old component)) (part_of self.old component) (part_of self.new component) }
-        ensures others { OthersStay component self.old self.new }
+        ensures part { StartsIn result component bytes.now shape.now (coefficients (part_of self.old component)) self.old self.new }
         ensures transform { self.new.transform ≡ self.old.transform }
     {
         let positions = shape.positions(component);
@@ -177,9 +168,7 @@ impl TileState {
         shape: &PassShape,
     ) -> Result<(), Refusal>
         requires { MayBeUpgraded self.old shape.now }
-        ensures part { Upgrades result (pass_of shape.now.transform (part_of self.old component).positions (positions_of shape.now component) (part_of self.old component).sums (bits_of srl.now) (bits_of raw.now)) (positions_of shape.now component) (part_of self.old component) (part_of self.new component) }
-        ensures others { OthersStay component self.old self.new }
-        ensures transform { self.new.transform ≡ self.old.transform }
+        ensures { UpgradesIn result component srl.now raw.now shape.now self.old self.new }
     {
         let positions = shape.positions(component);
         match component {
@@ -191,7 +180,7 @@ impl TileState {
 
     /// The tile's pixels: the colours of the samples of its coefficients.
     pub fn pixels(&self, out: &mut [Pixel; 4096])
-        ensures { (y x : ℕ) → y < 64 → x < 64 → slice_get out.new (y * 64 + x) ≡ Some (colour_of (sample (transform_of self.now.transform) (coefficients self.now.y) y x) (sample (transform_of self.now.transform) (coefficients self.now.cb) y x) (sample (transform_of self.now.transform) (coefficients self.now.cr) y x)) }
+        ensures { (y x : ℕ) → y < 64 → x < 64 → slice_get out.new (y * 64 + x) ≡ Some (pixel_of self.now y x) }
     {
         let transform = self.transform_or_plain();
         let mut y = [0; 4096];

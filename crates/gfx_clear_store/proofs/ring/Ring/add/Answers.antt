@@ -1,4 +1,4 @@
-use Rattle.std.proofs.Common.{Some, ap, ◌∙◌}
+use Rattle.std.proofs.Common.{ap, ◌∙◌}
 use Rattle.std.proofs.lemmas.List.{length-set}
 use Rattle.gfx_clear_store.proofs.Adding.{room_kept, ring_added, index_added, copy_is}
 use Rattle.gfx_clear_store.proofs.ring.Ring.add.Goals as goal

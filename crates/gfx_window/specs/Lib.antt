@@ -1,0 +1,4 @@
+pub mod Window
+pub mod Superseded
+pub mod Hulls
+pub mod Rule

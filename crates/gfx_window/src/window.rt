@@ -1,0 +1,156 @@
+ghost use Rattle.std.specs.Prelude.{◌≡◌, ◌++◌, ◌∷◌, ◌<◌, ◌≤◌, IsTrue, [], Some, length, OnOk, OnErr};
+ghost use Rattle.std.specs.List.{slice_get};
+ghost use Rattle.gfx_base.specs.Outcome.{Says};
+ghost use Rattle.gfx_window.specs.Window.{has_room, with_pending, sent, acknowledged};
+ghost use Rattle.gfx_window.specs.Superseded.{superseded};
+
+use crate::covering::{is_covered, plain_write};
+use gfx_base::NoMemory;
+use gfx_script::{Kind, Script};
+use std::alloc::Global;
+use std::collections::VecDeque;
+use std::marker::Model;
+
+/// A step of the script that waits for a frame, by its number, counted from 1, and the kind that it goes
+/// as where it is a paint.
+#[derive(Clone, Copy, Debug, PartialEq, Eq)]
+pub struct Queued {
+    pub step: u32,
+    pub kind: Option<Kind>,
+}
+
+/// A frame that was sent, and its recorded step: the last one that was queued when it was sent.
+#[derive(Clone, Copy, Debug, PartialEq, Eq)]
+pub struct Sent {
+    pub frame: u32,
+    pub step: u32,
+}
+
+/// An acknowledgement that isn't of the oldest frame in flight.
+#[derive(Clone, Copy, Debug, PartialEq, Eq)]
+pub struct AckUnknown {
+    /// The frame that it names.
+    pub id: u32,
+    /// The oldest frame in flight, if there is one.
+    pub oldest: Option<u32>,
+}
+
+/// The steps that wait for a frame, and the frames in flight, of which there are at most so many as the
+/// window's size. Contracts see both as lists.
+#[derive(Drop)]
+pub struct Window {
+    size: u8,
+    pending: Vec<Queued>,
+    flying: VecDeque<Sent>,
+}
+
+impl Model for Window {
+    ghost use Rattle.std.specs.Prelude.{◌≤◌, length};
+    ghost use Rattle.gfx_window.specs.Window.{Window};
+
+    ghost Value = { Window };
+
+    ghost view = { λ w. record { size = w.size; pending = w.pending.items; flying = w.flying.items } };
+
+    ghost invariant = { λ w. length w.flying.items ≤ w.size };
+}
+
+impl Window {
+    /// A window for so many frames in flight. It takes no memory.
+    pub fn new(alloc: Global, size: u8) -> Window
+        ensures { result ≡ record { size = size; pending = []; flying = [] } }
+    {
+        Window {
+            size,
+            pending: Vec::new(alloc),
+            flying: VecDeque::new(alloc),
+        }
+    }
+
+    /// Puts an item behind those that wait.
+    pub fn queue(&mut self, item: Queued) -> Result<(), NoMemory>
+        ensures ok { OnOk result (self.new ≡ with_pending self.old (self.old.pending ++ item ∷ [])) }
+        ensures err { OnErr result (self.new ≡ self.old) }
+    {
+        self.pending.push(item)?;
+        Ok(())
+    }
+
+    /// How many items wait.
+    pub fn due(&self) -> usize
+        ensures { result ≡ length self.now.pending }
+    {
+        self.pending.len()
+    }
+
+    /// The item that waits at this place, counted from 0 in order of queueing.
+    pub fn item(&self, place: usize) -> Queued
+        requires { place < length self.now.pending }
+        ensures { slice_get self.now.pending place ≡ Some result }
+    {
+        self.pending[place]
+    }
+
+    /// Whether the item at this place need not be sent, since a later one covers it (`specs/Superseded`).
+    pub fn superseded(&self, script: &Script, place: usize) -> bool
+        requires { place < length self.now.pending }
+        ensures { result ≡ superseded script.now self.now.pending place }
+    {
+        let item = self.item(place);
+        let (_, later) = self.pending.split_at(place + 1);
+        match plain_write(script, item) {
+            None => false,
+            Some(write) => is_covered(script, write, later),
+        }
+    }
+
+    /// How many frames were sent and not acknowledged.
+    pub fn in_flight(&self) -> usize
+        ensures count { result ≡ length self.now.flying }
+        ensures few { result ≤ self.now.size }
+    {
+        self.flying.len()
+    }
+
+    /// Whether there is room for a frame.
+    pub fn can_send(&self) -> bool
+        ensures { result ≡ has_room self.now }
+    {
+        self.flying.len() < usize::from(self.size)
+    }
+
+    /// Notes a frame that goes with all items that wait, and the step that is recorded with it.
+    pub fn send(&mut self, frame: u32, step: u32) -> Result<(), NoMemory>
+        requires { IsTrue (has_room self.old) }
+        ensures ok { OnOk result (self.new ≡ sent self.old frame step) }
+        ensures err { OnErr result (self.new ≡ self.old) }
+    {
+        self.flying.push_back(Sent { frame, step })?;
+        self.pending.clear();
+        Ok(())
+    }
+
+    /// Takes the acknowledgement of the oldest frame in flight, and tells its recorded step. AckUnknown
+    /// exactly where the frame isn't that one.
+    #[tactic(auto, unfolding(crate::specs::Window::acknowledged))]
+    pub fn acknowledge(&mut self, frame: u32) -> Result<u32, AckUnknown>
+        ensures value { Says (λ step. (step, self.new)) result (acknowledged self.old self.old.flying frame) }
+        ensures err { OnErr result (self.new ≡ self.old) }
+    {
+        let oldest = self.flying.front().copied();
+        match oldest {
+            Some(first) if first.frame == frame => {
+                self.flying.pop_front();
+                Ok(first.step)
+            }
+            Some(first) => Err(AckUnknown {
+                id: frame,
+                oldest: Some(first.frame),
+            }),
+            None => Err(AckUnknown {
+                id: frame,
+                oldest: None,
+            }),
+        }
+    }
+}

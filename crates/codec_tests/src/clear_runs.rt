@@ -6,9 +6,13 @@ use std::process::Abort;
 use std::test::Fail;
 
 const RED: Rgb = Rgb { b: 0, g: 0, r: 255 };
+
 const BLUE: Rgb = Rgb { b: 255, g: 0, r: 0 };
+
 const ONE: Rgb = Rgb { b: 1, g: 0, r: 0 };
+
 const TWO: Rgb = Rgb { b: 2, g: 0, r: 0 };
+
 const THREE: Rgb = Rgb { b: 3, g: 0, r: 0 };
 
 /// Bytes, an area, and the pixels that they give or why they are refused.
@@ -41,11 +45,7 @@ fn residual(rt: HostRuntime) {
             2,
             Ok(&[RED, RED]),
         ),
-        Case(
-            &[0, 0, 0xFF, 1, 3, 0, 0, 0xFF, 1, 0],
-            2,
-            Ok(&[RED, THREE]),
-        ),
+        Case(&[0, 0, 0xFF, 1, 3, 0, 0, 0xFF, 1, 0], 2, Ok(&[RED, THREE])),
         // What is missing comes before what is too much.
         Case(&[0, 0, 0xFF, 5, 0, 0], 2, Err(Refusal::ClearLengths)),
     ] {
@@ -60,8 +60,8 @@ fn residual(rt: HostRuntime) {
 fn totals_do_not_wrap(rt: HostRuntime) {
     let most = 0xFF;
     let bytes = [
-        0, 0, 255, most, most, most, most, most, most, most, 0, 0, 255, most, most, most, most, most,
-        most, most, 0, 0, 255, 4,
+        0, 0, 255, most, most, most, most, most, most, most, 0, 0, 255, most, most, most, most,
+        most, most, most, 0, 0, 255, 4,
     ];
     let mut out = Rgbs::new(rt.alloc());
     assert!(rt; read_runs(&bytes, 2, &mut out) == Err(Fault::Refused(Refusal::RunTotal)));
@@ -147,9 +147,7 @@ fn both_writers(rt: HostRuntime) -> Result<(), Fail> {
         Written(
             &[(ONE, 254), (TWO, 255), (THREE, 256)],
             &[1, 0, 0, 254, 2, 0, 0, 255, 255, 0, 3, 0, 0, 255, 0, 1],
-            &[
-                3, 1, 0, 0, 2, 0, 0, 3, 0, 0, 0, 253, 1, 254, 2, 255, 255, 0,
-            ],
+            &[3, 1, 0, 0, 2, 0, 0, 3, 0, 0, 0, 253, 1, 254, 2, 255, 255, 0],
         ),
         Written(
             &[(RED, 65535)],

@@ -4,6 +4,7 @@ use gfx_glyph::Glyphs;
 use std::test::Fail;
 
 const RED: Rgb = Rgb { b: 0, g: 0, r: 255 };
+
 const BLUE: Rgb = Rgb { b: 255, g: 0, r: 0 };
 
 #[test]

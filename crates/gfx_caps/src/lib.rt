@@ -11,6 +11,7 @@ mod choice;
 mod client_id;
 mod header;
 mod message;
+mod offer;
 mod promises;
 mod reading;
 mod sets;
@@ -20,6 +21,7 @@ mod writing;
 pub use choice::{Chosen, choose_version, small_cache};
 pub use client_id::ClientId;
 pub use message::ClientPdu;
+pub use offer::{MOST_OFFERS, Offer, Offers};
 pub use promises::{
     what_is_read_from_a_client_is_spelled, what_is_spelled_for_a_client_is_read,
     what_is_written_for_a_client_is_spelled,

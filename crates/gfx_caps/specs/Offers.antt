@@ -1,0 +1,34 @@
+-- What a client says that offers versions ([MS-RDPEGFX] 2.2.2.18 and 2.2.3): this project's client decodes
+-- no AVC, and says so where the version has a flag for it.
+use Rattle.std.specs.Prelude.{ℕ, ◌+◌, ◌==◌, Bool, false, List, map, Result, Ok, Err, if◌then◌else◌}
+use Rattle.gfx_base.specs.declared.refusal.Refusal.{Refusal}
+use Rattle.gfx_layout.specs.Shape.{digits, u32}
+use Rattle.gfx_caps.specs.declared.choice.Chosen.{Chosen}
+use Rattle.gfx_caps.specs.declared.message.ClientPdu.{ClientPdu}
+use Rattle.gfx_caps.specs.declared.message.ClientPdu.TheVariants.{Advertise}
+use Rattle.gfx_caps.specs.declared.offer.Offer.{Offer}
+use Rattle.gfx_caps.specs.declared.sets.CapsSet.{CapsSet}
+use Rattle.gfx_caps.specs.declared.versions.TheConstants.{VERSION_10, SMALL_CACHE, AVC_DISABLED}
+use Rattle.gfx_caps.specs.Choice.{has_flag, choice}
+
+-- the flags of an offer
+abbrev pub flags_offered : Offer → ℕ
+flags_offered offer =
+    (if offer.small then SMALL_CACHE else 0) + (if offer.version == VERSION_10 then AVC_DISABLED else 0)
+
+-- the capability set of an offer
+abbrev pub set_offered : Offer → CapsSet
+set_offered offer = record { version = offer.version; body = digits u32 (flags_offered offer) }
+
+-- the message that offers these versions
+abbrev pub advertised : List Offer → ClientPdu
+advertised offers = Advertise (map set_offered offers)
+
+-- a choice has the small cache
+abbrev pub is_small : Result Chosen Refusal → Bool
+is_small (Ok chosen) = has_flag chosen.flags SMALL_CACHE
+is_small (Err r) = false
+
+-- the version that a server chooses of these offers has the small cache
+abbrev pub small_of : List Offer → Bool
+small_of offers = is_small (choice (map set_offered offers))

@@ -16,6 +16,8 @@ mod player;
 #[cfg(test)]
 mod reports;
 #[cfg(test)]
+mod sessions;
+#[cfg(test)]
 mod streams;
 #[cfg(test)]
 mod surfaces;

@@ -2,3 +2,5 @@ pub mod Numbers
 pub mod SetLemmas
 pub mod BodyLaws
 pub mod Laws
+pub mod SizeLaws
+pub mod OfferLaws

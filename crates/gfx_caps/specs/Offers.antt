@@ -1,6 +1,8 @@
 -- What a client says that offers versions ([MS-RDPEGFX] 2.2.2.18 and 2.2.3): this project's client decodes
 -- no AVC, and says so where the version has a flag for it.
-use Rattle.std.specs.Prelude.{ℕ, ◌+◌, ◌==◌, Bool, false, List, map, Result, Ok, Err, if◌then◌else◌}
+use Rattle.std.specs.Prelude.{ℕ, ◌+◌, ◌==◌, Bool, false, ◌||◌, IsTrue, List, map, Option, Result, Ok, Err, if◌then◌else◌}
+use Rattle.std.specs.List.{find}
+use Rattle.std.specs.Option.{option_or}
 use Rattle.gfx_base.specs.declared.refusal.Refusal.{Refusal}
 use Rattle.gfx_layout.specs.Shape.{digits, u32}
 use Rattle.gfx_caps.specs.declared.choice.Chosen.{Chosen}
@@ -8,7 +10,7 @@ use Rattle.gfx_caps.specs.declared.message.ClientPdu.{ClientPdu}
 use Rattle.gfx_caps.specs.declared.message.ClientPdu.TheVariants.{Advertise}
 use Rattle.gfx_caps.specs.declared.offer.Offer.{Offer}
 use Rattle.gfx_caps.specs.declared.sets.CapsSet.{CapsSet}
-use Rattle.gfx_caps.specs.declared.versions.TheConstants.{VERSION_10, SMALL_CACHE, AVC_DISABLED}
+use Rattle.gfx_caps.specs.declared.versions.TheConstants.{VERSION_8, VERSION_8_1, VERSION_10, SMALL_CACHE, AVC_DISABLED}
 use Rattle.gfx_caps.specs.Choice.{has_flag, choice}
 
 -- the flags of an offer
@@ -28,6 +30,21 @@ advertised offers = Advertise (map set_offered offers)
 abbrev pub is_small : Result Chosen Refusal → Bool
 is_small (Ok chosen) = has_flag chosen.flags SMALL_CACHE
 is_small (Err r) = false
+
+-- the first offer of a version
+abbrev pub offer_of : ℕ → List Offer → Option Offer
+offer_of version offers = find (λ offer. offer.version == version) offers
+
+-- the first offer of the highest version
+unfoldable pub best_offer : List Offer → Option Offer
+best_offer offers = option_or (offer_of VERSION_10 offers) (option_or (offer_of VERSION_8_1 offers) (offer_of VERSION_8 offers))
+
+-- an offer is of a version of this profile
+abbrev pub is_offer : Offer → Bool
+is_offer offer = offer.version == VERSION_10 || (offer.version == VERSION_8_1 || offer.version == VERSION_8)
+
+abbrev pub IsOffer : Offer → Type 0
+IsOffer offer = IsTrue (is_offer offer)
 
 -- the version that a server chooses of these offers has the small cache
 abbrev pub small_of : List Offer → Bool

@@ -88,8 +88,8 @@ fn flags_of(set: &CapsSet) -> u32
     }
 }
 
-/// Whether a word of flags has one of the flags above.
-fn has_flag(flags: u32, flag: u32) -> bool
+/// Whether a word of flags has this flag, which is a power of two.
+pub fn has_flag(flags: u32, flag: u32) -> bool
     requires { 0 < flag }
     ensures { result ≡ has_flag flags flag }
 {

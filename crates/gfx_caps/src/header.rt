@@ -1,9 +1,8 @@
 //! The header of a client's message ([MS-RDPEGFX] 2.2.1.5), read and written.
-#![tactic(auto, unfolding(gfx_pdu::specs::Reading::size_of, crate::specs::Reading::kind_of, crate::specs::Spelling::header, gfx_layout::specs::Shape::part_in, gfx_layout::specs::Shape::text))]
+#![tactic(auto, unfolding(crate::specs::Reading::kind_of, crate::specs::Spelling::header, gfx_layout::specs::Shape::part_in, gfx_layout::specs::Shape::text))]
 
-ghost use Rattle.std.specs.Prelude.{◌≡◌, ◌+◌, ◌≤◌, ◌<◌, ◌^◌, length, IfOk};
+ghost use Rattle.std.specs.Prelude.{◌≡◌, ◌+◌, ◌≤◌, ◌<◌, ◌^◌, length};
 ghost use Rattle.gfx_layout.specs.Writing.{Puts};
-ghost use Rattle.gfx_pdu.specs.Reading.{size_of};
 ghost use Rattle.gfx_pdu.specs.Spelling.{no_flags};
 ghost use Rattle.gfx_caps.specs.Reading.{kind_of};
 ghost use Rattle.gfx_caps.specs.Spelling.{header};
@@ -15,30 +14,8 @@ use gfx_layout::Part;
 /// How many bytes a header has.
 pub const HEADER: usize = 8;
 
-/// Where the length of the message stands in its header.
-const LENGTH: usize = 4;
-
 /// The flags that are written: the standard has none.
 const NO_FLAGS: u16 = 0;
-
-/// How many bytes the message at the front has, its header among them.
-pub fn read_size(bytes: &[u8]) -> Result<usize, Refusal>
-    ensures value { result ≡ size_of bytes.now }
-    ensures within { IfOk result (λ size. (8 ≤ size) × (size ≤ length bytes.now)) }
-{
-    if bytes.len() < HEADER {
-        return Err(Refusal::PduTruncated);
-    }
-    let (_, length) = bytes.split_at(LENGTH);
-    let size = u32::read(length) as usize;
-    if size < HEADER {
-        return Err(Refusal::PduLength);
-    }
-    if bytes.len() < size {
-        return Err(Refusal::PduTruncated);
-    }
-    Ok(size)
-}
 
 /// Which message a header announces.
 pub fn read_kind(bytes: &[u8]) -> Result<ClientId, Refusal>

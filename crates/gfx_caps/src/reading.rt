@@ -8,11 +8,12 @@ ghost use Rattle.gfx_caps.specs.Reading.{body_of, front, client_of};
 ghost use Rattle.gfx_caps.specs.Spelling.{Spells, Fits};
 
 use crate::client_id::ClientId;
-use crate::header::{HEADER, read_kind, read_size};
+use crate::header::{HEADER, read_kind};
 use crate::message::ClientPdu;
 use crate::sets::{CapsSet, CapsSets};
 use gfx_base::{Cause, Fault, Refusal};
 use gfx_layout::{Fields, Stop, kept};
+use gfx_pdu::read_size;
 use std::alloc::Global;
 
 /// Reads the body of RDPGFX_FRAME_ACKNOWLEDGE_PDU ([MS-RDPEGFX] 2.2.2.13).

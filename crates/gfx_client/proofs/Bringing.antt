@@ -9,9 +9,10 @@ use Rattle.gfx_client.specs.declared.fault.ClientFault.TheVariants as fault
 use Rattle.gfx_client.specs.declared.stepped.Stepped.{Stepped}
 use Rattle.gfx_client.specs.declared.stepped.Stepped.TheVariants as stepped
 use Rattle.gfx_client.specs.Client.{cursor_of, Advances, Moves, MovesBy, Ends}
-use Rattle.gfx_client.specs.Stepped.{stepped_by}
+use Rattle.gfx_client.specs.Replies.{stepped_of}
 use Rattle.gfx_client.specs.Standing.{StandsFor, HasBrought, BringsNext, Brings, IsDrained}
 use Rattle.gfx_state.specs.Cursor.{Cursor, given, before_all, Reaches}
+use Rattle.gfx_state.specs.State.{State}
 use Rattle.gfx_state.specs.Run.{begun, run_of}
 use Rattle.gfx_state.specs.History.{Effect, history, history_of, state_after, coming}
 use Rattle.gfx_state.proofs.Effects.{history-nil, history-append}
@@ -41,10 +42,11 @@ brought_next : (old new : Client) (said : Stepped) (bytes : List ℕ) (all : Lis
 brought_next old new said bytes all m b =
     let done = coming_reaches (cursor_of old) (cursor_of new) (m.pdu ∷ []) m.moves.reaches in
     let one = one_effect done.all m.pdu done.messages in
+    let after = done.state ∙ ap (state_after (cursor_of old).state) one.1 in
     record {
       next = one.0;
-      says = m.says ∙ ap stepped_by (sym one.2);
-      state = done.state ∙ ap (state_after (cursor_of old).state) one.1;
+      says = m.says ∙ ap (λ (s : State). stepped_of m.pdu s.decoded) after ∙ ap (λ pdu. stepped_of pdu one.0.state.decoded) (sym one.2);
+      state = after;
       brought = record {
         is = b.is ∙ ap (λ z. all ++ z) (done.first ∙ ap (λ z. z ++ coming (cursor_of new)) one.1)
             ∙ sym (append_assoc all (one.0 ∷ []) (coming (cursor_of new)));
@@ -74,7 +76,7 @@ brings_said None old new stepped.Need bytes all none w b =
     let on = brought_on old new bytes all w.moves.reaches b in
     (on, on.is ∙ ap (λ z. all ++ z) (coming_needs (cursor_of new) w.needs) ∙ append-nil all)
 brings_said None old new stepped.Applied bytes all none m b = brought_next old new stepped.Applied bytes all m b
-brings_said None old new (stepped.Ended frame) bytes all none m b = brought_next old new (stepped.Ended frame) bytes all m b
+brings_said None old new (stepped.Ended frame reply) bytes all none m b = brought_next old new (stepped.Ended frame reply) bytes all m b
 
 pub brings_refused : (closed : Option ClientFault) (old mid new : Client) (number : ℕ) (r : Refusal) (bytes : List ℕ) (all : List Effect) → closed ≡ None → Ends old mid r → HasBrought old bytes all → Brings closed (Err (fault.Refused number r)) new bytes all
 brings_refused (Some f) old mid new number r bytes all none e b = absurd cc

@@ -1,5 +1,5 @@
 -- What reading, applying and opening come to for a client.
-use Rattle.std.proofs.Common.{◌≡◌, ℕ, List, [], length, drop, true, false, ◌||◌, ◌==◌, Some, None, is_some, if◌then◌else◌, Result, Ok, Err, refl, sym, ap, ◌∙◌, subst}
+use Rattle.std.proofs.Common.{◌≡◌, ℕ, ◌+◌, ◌%◌, ◌^◌, List, [], length, drop, true, false, ◌||◌, ◌==◌, Some, None, is_some, if◌then◌else◌, Result, Ok, Err, refl, sym, ap, ◌∙◌, subst}
 use Rattle.std.proofs.lemmas.List.{drop-drop}
 use Rattle.gfx_base.specs.Memory.{next_count}
 use Rattle.gfx_base.specs.Outcome.{Gives, Applies}
@@ -11,19 +11,20 @@ use Rattle.gfx_pdu.specs.declared.pdu.Pdu.TheVariants as pdus
 use Rattle.gfx_pdu.specs.Reading.{next_pdu}
 use Rattle.gfx_segment.specs.Framing.{Splitter, next, after_next, payload, ended, Answers}
 use Rattle.gfx_state.specs.State.{State}
-use Rattle.gfx_state.specs.Step.{step}
+use Rattle.gfx_state.specs.Step.{step, frame_ended, is_open}
 use Rattle.gfx_state.specs.Cursor.{Cursor, Opens, Needs, Refuses, what_next, Reaches, Here, settled}
 use Rattle.gfx_state.specs.Cursor as cursor
 use Rattle.gfx_state.proofs.NextMoves.{what_next_takes, what_next_refuses, what_next_unread, what_next_opens, what_next_needs, what_next_ends, next_pdu_found, next_pdu_refused}
 use Rattle.gfx_base.specs.Results.{check}
-use Rattle.gfx_base.specs.declared.refusal.Refusal.TheVariants.{ChannelTruncated}
+use Rattle.gfx_base.specs.declared.refusal.Refusal.TheVariants.{ChannelTruncated, FrameMismatch}
+use Rattle.gfx_base.proofs.ResultLemmas.{and_then_ok}
 use Rattle.gfx_client.specs.declared.fault.ClientFault.{ClientFault}
 use Rattle.gfx_client.specs.declared.fault.ClientFault.TheVariants as faults
 use Rattle.gfx_state.proofs.Moves.{settled_reaches, settled_ending, next_short, needs_nothing, after_next_none, after_next_fewer, Reaches-opens, Reaches-takes, Reaches-none}
 use Rattle.gfx_client.specs.declared.client.Client.{Client}
 use Rattle.gfx_client.specs.declared.stepped.Stepped.{Stepped}
 use Rattle.gfx_client.specs.declared.stepped.Stepped.TheVariants as stepped
-use Rattle.gfx_client.specs.Stepped.{stepped_by}
+use Rattle.gfx_client.specs.Replies.{acknowledgement, stepped_of}
 use Rattle.gfx_client.specs.Client.{cursor_of, closed_by, TakesMessage, TakesOne, OpensMessage, OpensOne, IsAtPayloadEnd, Moves, Ends, Waits, Advances, Steps, end_of}
 
 -- taking a message ---------------------------------------------------------------------------------
@@ -40,14 +41,34 @@ not_applied client pdu after (fault.Refused r) state read due =
     let found = next_pdu_found client.payload client.at pdu after read in
     (what_next_refuses (cursor_of client) pdu found.size r found.read due.0, ap (λ z. record client { state = z }) due.1)
 
+-- no reply to it can be made
+pub unanswered : (client : Client) (f : Cause Refusal) → f ≡ fault.Memory → TakesMessage (Err f) client client
+unanswered client f none = rw none refl
+
+-- where a frame ends, one more is decoded
+decoded_ended : (state next : State) (frame : ℕ) → frame_ended state frame ≡ Ok next → (state.decoded + 1) % 2 ^ 32 ≡ next.decoded
+unfolding frame_ended
+decoded_ended state next frame e =
+    let ended = and_then_ok (check FrameMismatch (is_open state.frame frame)) _ next e in
+    let made = ended.2 in
+    let same : record state { frame = None; decoded = (state.decoded + 1) % 2 ^ 32 } ≡ next = cc in
+    ap (λ (s : State). s.decoded) same
+
+-- what is said of a message before it is applied is right after it
+said_after : (pdu : Pdu) (state next : State) → step state pdu ≡ Ok next → stepped_of pdu ((state.decoded + 1) % 2 ^ 32) ≡ stepped_of pdu next.decoded
+unfolding step
+said_after (pdus.EndFrame frame) state next e = ap (λ n. stepped.Ended frame (acknowledgement frame n)) (decoded_ended state next frame e)
+said_after other state next e = refl
+
 -- it is applied
-pub taken : (client : Client) (pdu : Pdu) (after applied : ℕ) (state : State) (stepped : Stepped) → next_pdu client.payload client.at ≡ Ok (Some (pdu, after)) → step client.state pdu ≡ Ok state → applied ≡ next_count client.applied → stepped ≡ stepped_by pdu → TakesOne client (record client { at = after; state = state; applied = applied }) stepped
-taken client pdu after applied state stepped read stepping counted says =
+pub taken : (client : Client) (pdu : Pdu) (after applied decoded : ℕ) (state : State) (stepped : Stepped) → next_pdu client.payload client.at ≡ Ok (Some (pdu, after)) → step client.state pdu ≡ Ok state → applied ≡ next_count client.applied
+    → decoded ≡ (client.state.decoded + 1) % 2 ^ 32 → stepped ≡ stepped_of pdu decoded → TakesOne client (record client { at = after; state = state; applied = applied }) stepped
+taken client pdu after applied decoded state stepped read stepping counted ended says =
     let found = next_pdu_found client.payload client.at pdu after read in
     let left : drop found.size (drop client.at client.payload) ≡ drop after client.payload = drop-drop found.size client.at client.payload ∙ ap (λ z. drop z client.payload) (sym found.behind) in
     record {
       pdu = pdu;
-      says = says;
+      says = says ∙ ap (stepped_of pdu) ended ∙ said_after pdu client.state state stepping;
       takes = what_next_takes (cursor_of client) pdu found.size state found.read stepping
           ∙ ap (λ z. cursor.Takes pdu (record { splitter = client.splitter; left = z; state = state; applied = next_count client.applied })) left
           ∙ ap (λ z. cursor.Takes pdu (record { splitter = client.splitter; left = drop after client.payload; state = state; applied = z })) (sym counted);
@@ -88,9 +109,9 @@ opened client p held end due =
 -- one message or more ------------------------------------------------------------------------------
 
 -- no message says that more bytes are needed
-never_need : (pdu : Pdu) → stepped_by pdu ≡ stepped.Need → ⊥
-never_need (pdus.EndFrame frame) e = absurd cc
-never_need other e = absurd cc
+never_need : (pdu : Pdu) (decoded : ℕ) → stepped_of pdu decoded ≡ stepped.Need → ⊥
+never_need (pdus.EndFrame frame) decoded e = absurd cc
+never_need other decoded e = absurd cc
 
 pub not_moved : (client : Client) → Moves client client []
 not_moved client = record { reaches = Here (cursor_of client); closed = refl }
@@ -104,13 +125,13 @@ moved_on old mid new m o = record {
 
 -- a message was applied
 pub moved_by : (old mid new : Client) (said : Stepped) → Moves old mid [] → TakesOne mid new said → Advances (Ok said) old new
-moved_by old mid new stepped.Need m t = absurd (never_need t.pdu (sym t.says))
+moved_by old mid new stepped.Need m t = absurd (never_need t.pdu _ (sym t.says))
 moved_by old mid new stepped.Applied m t = record {
   pdu = t.pdu;
   says = t.says;
   moves = record { reaches = Reaches-takes (cursor_of old) (cursor_of mid) (cursor_of new) [] t.pdu m.reaches t.takes; closed = t.closed ∙ m.closed };
 }
-moved_by old mid new (stepped.Ended frame) m t = record {
+moved_by old mid new (stepped.Ended frame reply) m t = record {
   pdu = t.pdu;
   says = t.says;
   moves = record { reaches = Reaches-takes (cursor_of old) (cursor_of mid) (cursor_of new) [] t.pdu m.reaches t.takes; closed = t.closed ∙ m.closed };

@@ -1,4 +1,4 @@
+pub mod ReplyLemmas
 pub mod ClientLemmas
 pub mod Playing
 pub mod Bringing
-pub mod Numbers

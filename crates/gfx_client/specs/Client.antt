@@ -5,6 +5,7 @@ use Rattle.gfx_base.specs.declared.refusal.Refusal.{Refusal}
 use Rattle.gfx_base.specs.declared.refusal.Refusal.TheVariants.{ChannelTruncated}
 use Rattle.gfx_base.specs.declared.answer.Cause.{Cause}
 use Rattle.gfx_base.specs.declared.answer.Cause.TheVariants as fault
+use Rattle.gfx_caps.specs.declared.offer.Offer.{Offer}
 use Rattle.gfx_pdu.specs.declared.pdu.Pdu.{Pdu}
 use Rattle.gfx_pdu.specs.Reading.{message_at}
 use Rattle.gfx_state.specs.Cursor.{Cursor, given, Opens, Needs, Refuses, what_next, Reaches, settled}
@@ -14,7 +15,7 @@ use Rattle.gfx_client.specs.declared.fault.ClientFault.{ClientFault}
 use Rattle.gfx_client.specs.declared.fault.ClientFault.TheVariants.{Refused, Memory, ClosedRefused, ClosedMemory}
 use Rattle.gfx_client.specs.declared.stepped.Stepped.{Stepped}
 use Rattle.gfx_client.specs.declared.stepped.Stepped.TheVariants.{Applied, Ended, Need}
-use Rattle.gfx_client.specs.Stepped.{stepped_by}
+use Rattle.gfx_client.specs.Replies.{stepped_of}
 
 -- where a client is in its stream
 abbrev pub cursor_of : Client → Cursor
@@ -28,6 +29,10 @@ cursor_of client = record {
 -- what a closed client answers
 abbrev pub closed_by : Client → Option ClientFault
 closed_by client = client.closed
+
+-- the versions that a client offers
+abbrev pub offers_of : Client → List Offer
+offers_of client = client.offered
 
 -- a message was refused or memory ran out: it has closed the client
 abbrev pub closed_form : ClientFault → ClientFault
@@ -52,7 +57,7 @@ pub record Ends (old new : Client) (r : Refusal) : Type 0 where
 -- a message was applied, and this was said of it
 pub record MovesBy (old new : Client) (stepped : Stepped) : Type 0 where
   pub pdu : Pdu
-  pub says : stepped ≡ stepped_by pdu
+  pub says : stepped ≡ stepped_of pdu (cursor_of new).state.decoded
   pub moves : Moves old new (pdu ∷ [])
 
 -- all messages are applied that the bytes taken hold whole
@@ -64,7 +69,7 @@ pub record Waits (old new : Client) : Type 0 where
 abbrev pub Advances : Result Stepped (Cause Refusal) → Client → Client → Type 0
 Advances (Ok Need) old new = Waits old new
 Advances (Ok Applied) old new = MovesBy old new Applied
-Advances (Ok (Ended frame)) old new = MovesBy old new (Ended frame)
+Advances (Ok (Ended frame reply)) old new = MovesBy old new (Ended frame reply)
 Advances (Err fault.Memory) old new = Moves old new []
 Advances (Err (fault.Refused r)) old new = Ends old new r × (closed_by new ≡ closed_by old)
 
@@ -72,7 +77,7 @@ Advances (Err (fault.Refused r)) old new = Ends old new r × (closed_by new ≡ 
 abbrev pub StepsOpen : Result Stepped ClientFault → Client → Client → Type 0
 StepsOpen (Ok Need) old new = Waits old new
 StepsOpen (Ok Applied) old new = MovesBy old new Applied
-StepsOpen (Ok (Ended frame)) old new = MovesBy old new (Ended frame)
+StepsOpen (Ok (Ended frame reply)) old new = MovesBy old new (Ended frame reply)
 StepsOpen (Err (Refused number r)) old new =
     Ends old new r × (number ≡ next_count (cursor_of old).applied) × (closed_by new ≡ Some (ClosedRefused number r))
 StepsOpen (Err Memory) old new =
@@ -115,7 +120,7 @@ IsAtPayloadEnd client = message_at (cursor_of client).left ≡ Ok None
 -- a message was taken, and this was said of it
 pub record TakesOne (old new : Client) (stepped : Stepped) : Type 0 where
   pub pdu : Pdu
-  pub says : stepped ≡ stepped_by pdu
+  pub says : stepped ≡ stepped_of pdu (cursor_of new).state.decoded
   pub takes : what_next (cursor_of old) ≡ cursor.Takes pdu (cursor_of new)
   pub closed : closed_by new ≡ closed_by old
 

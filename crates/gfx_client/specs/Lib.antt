@@ -1,3 +1,3 @@
-pub mod Stepped
+pub mod Replies
 pub mod Client
 pub mod Standing

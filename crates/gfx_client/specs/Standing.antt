@@ -8,7 +8,7 @@ use Rattle.gfx_client.specs.declared.fault.ClientFault.{ClientFault}
 use Rattle.gfx_client.specs.declared.fault.ClientFault.TheVariants.{Refused, Memory, ClosedRefused, ClosedMemory}
 use Rattle.gfx_client.specs.declared.stepped.Stepped.{Stepped}
 use Rattle.gfx_client.specs.declared.stepped.Stepped.TheVariants.{Applied, Ended, Need}
-use Rattle.gfx_client.specs.Stepped.{stepped_by}
+use Rattle.gfx_client.specs.Replies.{stepped_by}
 use Rattle.gfx_state.specs.History.{Effect, history_of, coming}
 use Rattle.gfx_state.specs.Cursor.{Needs, what_next, settled}
 use Rattle.gfx_state.specs.Run.{run_of, end}
@@ -50,7 +50,7 @@ pub record HasBrought (client : Client) (bytes : List ℕ) (all : List Effect) :
 -- a message was applied, the next of the history: its effect is the client's state, and this is said of it
 pub record BringsNext (new : Client) (bytes : List ℕ) (all : List Effect) (said : Stepped) : Type 0 where
   pub next : Effect
-  pub says : said ≡ stepped_by next.pdu
+  pub says : said ≡ stepped_by next
   pub state : (cursor_of new).state ≡ next.state
   pub brought : HasBrought new bytes (all ++ next ∷ [])
 
@@ -58,7 +58,7 @@ pub record BringsNext (new : Client) (bytes : List ℕ) (all : List Effect) (sai
 abbrev pub BringsOpen : Result Stepped ClientFault → Client → List ℕ → List Effect → Type 0
 BringsOpen (Ok Need) new bytes all = HasBrought new bytes all × (history_of bytes ≡ all)
 BringsOpen (Ok Applied) new bytes all = BringsNext new bytes all Applied
-BringsOpen (Ok (Ended frame)) new bytes all = BringsNext new bytes all (Ended frame)
+BringsOpen (Ok (Ended frame reply)) new bytes all = BringsNext new bytes all (Ended frame reply)
 BringsOpen (Err (Refused number r)) new bytes all = history_of bytes ≡ all
 BringsOpen (Err Memory) new bytes all = HasBrought new bytes all
 BringsOpen (Err (ClosedRefused number r)) new bytes all = ⊥

@@ -1,25 +1,27 @@
 ghost use Rattle.std.specs.Prelude.{◌≡◌, ℕ, ◌≤◌, List, [], ◌++◌, length, OnOk, OnErr, IfOk, None};
 ghost use Rattle.gfx_client.specs.Standing.{StandsFor, HasBrought, Brings, IsDrained, Plays, PlaysAll, ends_by};
 ghost use Rattle.gfx_state.specs.History.{Effect};
-ghost use Rattle.gfx_client.specs.Stepped.{stepped_by};
+ghost use Rattle.gfx_client.specs.Replies.{hello, stepped_of};
 
 use crate::fault::ClientFault;
-use crate::offer::{MOST_OFFERS, Offers};
+use crate::offered::Offered;
+use crate::replies::acknowledgement;
 use crate::stepped::Stepped;
 use gfx_base::{Bytes, Fault, NoMemory, Refusal};
 use gfx_bitmap_cache::Cache;
+use gfx_caps::{MOST_OFFERS, Offers};
 use gfx_pdu::{Pdu, read_pdu};
 use gfx_screen::State;
 use gfx_segment::Splitter;
 use gfx_surface_map::SurfaceMap;
 use std::alloc::Global;
 
-/// A client: the bytes that it was given and has not used, the payload that it is in, and what the
-/// messages before have drawn.
+/// A client: the versions that it offers, the bytes that it was given and has not used, the payload that
+/// it is in, and what the messages before have drawn.
 #[derive(Drop)]
 pub struct Client {
     alloc: Global,
-    offers: Offers,
+    offered: Offered,
     splitter: Splitter,
     payload: Bytes,
     at: usize,
@@ -29,7 +31,7 @@ pub struct Client {
 }
 
 impl Client {
-    ghost use Rattle.gfx_client.specs.Client.{cursor_of, closed_by, Takes, Steps, Advances, TakesMessage, OpensMessage, IsAtPayloadEnd, IsAtEnd, end_of};
+    ghost use Rattle.gfx_client.specs.Client.{cursor_of, closed_by, offers_of, Takes, Steps, Advances, TakesMessage, OpensMessage, IsAtPayloadEnd, IsAtEnd, end_of};
 
     /// A client at the start of a stream, which offers these versions.
     pub fn new(alloc: Global, offers: Offers) -> Result<Client, NoMemory>
@@ -37,10 +39,11 @@ impl Client {
         ensures stands { IfOk result (λ client. StandsFor client []) }
         ensures brought { IfOk result (λ client. HasBrought client [] []) }
         ensures drained { IfOk result IsDrained }
+        ensures offers { IfOk result (λ client. offers_of client ≡ offers) }
     {
         Ok(Client {
             alloc,
-            offers,
+            offered: Offered::new(offers),
             splitter: Splitter::new(alloc),
             payload: Bytes::new(alloc),
             at: 0,
@@ -48,6 +51,14 @@ impl Client {
             applied: 0,
             closed: None,
         })
+    }
+
+    /// What a client says first, for the server to choose a version: the message that offers its
+    /// versions ([MS-RDPEGFX] RDPGFX_CAPS_ADVERTISE_PDU), as it is sent. No state of the client bars it.
+    pub fn hello(&self) -> Result<Bytes, NoMemory>
+        ensures { IfOk result (λ bytes. bytes ≡ hello (offers_of self.now)) }
+    {
+        self.offered.hello(self.alloc)
     }
 
     /// Takes the next bytes of the stream, cut anywhere. It never refuses them.
@@ -59,6 +70,7 @@ impl Client {
         ensures brought { OnOk result ((bytes : List ℕ) (all : List Effect) → StandsFor self.old bytes → HasBrought self.old bytes all
             → HasBrought self.new (bytes ++ piece.now) all) }
         ensures kept { OnErr result ((bytes : List ℕ) → StandsFor self.old bytes → StandsFor self.new bytes) }
+        ensures offers { offers_of self.new ≡ offers_of self.old }
     {
         if let Some(fault) = self.closed {
             return Err(fault);
@@ -70,8 +82,9 @@ impl Client {
         Ok(())
     }
 
-    /// Applies the next message. `Need` says that the bytes taken hold no further whole message and
-    /// no refusal. The first fault closes the client.
+    /// Applies the next message, and says what the server is to be told of it. `Need` says that the
+    /// bytes taken hold no further whole message and no refusal. The first fault closes the client; a
+    /// message for which memory ran out has changed nothing.
     pub fn step(&mut self) -> Result<Stepped, ClientFault>
         ensures steps { Steps (closed_by self.old) result self.old self.new }
 
@@ -79,6 +92,7 @@ impl Client {
         ensures stands { (bytes : List ℕ) → StandsFor self.old bytes → StandsFor self.new bytes }
         ensures brings { (bytes : List ℕ) (all : List Effect) → HasBrought self.old bytes all
             → Brings (closed_by self.old) result self.new bytes all }
+        ensures offers { offers_of self.new ≡ offers_of self.old }
     {
         if let Some(fault) = self.closed {
             return Err(fault);
@@ -97,9 +111,11 @@ impl Client {
         }
     }
 
-    /// Takes these bytes, and applies all messages that are whole then.
+    /// Takes these bytes, and applies all messages that are whole then. What the server is to be told of
+    /// them is let go.
     pub fn play(&mut self, piece: &[u8]) -> Result<(), ClientFault>
-        ensures { Plays (closed_by self.old) result self.old self.new piece.now }
+        ensures plays { Plays (closed_by self.old) result self.old self.new piece.now }
+        ensures offers { offers_of self.new ≡ offers_of self.old }
     {
         self.take(piece)?;
         self.play_all()
@@ -149,7 +165,8 @@ impl Client {
     /// Applies all messages that the bytes taken hold whole.
     fn play_all(&mut self) -> Result<(), ClientFault>
         requires { closed_by self.old ≡ None }
-        ensures { (bytes : List ℕ) → StandsFor self.old bytes → PlaysAll result self.new bytes bytes }
+        ensures plays { (bytes : List ℕ) → StandsFor self.old bytes → PlaysAll result self.new bytes bytes }
+        ensures offers { offers_of self.new ≡ offers_of self.old }
     {
         'steps: loop {
             match self.step()? {
@@ -161,7 +178,8 @@ impl Client {
 
     /// Applies the next message, and opens channel messages until there is one.
     fn advance(&mut self) -> Result<Stepped, Fault>
-        ensures { Advances result self.old self.new }
+        ensures advances { Advances result self.old self.new }
+        ensures offers { offers_of self.new ≡ offers_of self.old }
     {
         'messages: loop {
             if let Some(stepped) = self.take_message()? {
@@ -175,21 +193,25 @@ impl Client {
 
     /// Applies the next message of the payload, if there is one.
     fn take_message(&mut self) -> Result<Option<Stepped>, Fault>
-        ensures { TakesMessage result self.old self.new }
+        ensures takes { TakesMessage result self.old self.new }
+        ensures offers { offers_of self.new ≡ offers_of self.old }
     {
         let Some((pdu, after)) = read_pdu(self.alloc, self.payload.as_slice(), self.at)? else {
             return Ok(None);
         };
+        // Before it is applied, so that want of memory leaves all as it was.
+        let stepped = stepped_of(self.alloc, &pdu, self.state.decoded().wrapping_add(1))?;
         self.state.apply(self.alloc, &pdu)?;
         self.at = after;
         self.applied = self.applied.saturating_add(1);
-        Ok(Some(stepped_by(&pdu)))
+        Ok(Some(stepped))
     }
 
     /// Goes on to the next channel message, if a whole one is there.
     fn open_message(&mut self) -> Result<bool, Fault>
         requires { IsAtPayloadEnd self.old }
-        ensures { OpensMessage result self.old self.new }
+        ensures opens { OpensMessage result self.old self.new }
+        ensures offers { offers_of self.new ≡ offers_of self.old }
     {
         let Some(payload) = self.splitter.next_message()? else {
             return Ok(false);
@@ -200,12 +222,16 @@ impl Client {
     }
 }
 
-/// What a step says of the message that it applied.
-fn stepped_by(pdu: &Pdu) -> Stepped
-    ensures { result ≡ stepped_by pdu.now }
+/// What a step says of a message, where so many frames are decoded after it.
+fn stepped_of(alloc: Global, pdu: &Pdu, decoded: u32) -> Result<Stepped, NoMemory>
+    ensures { IfOk result (λ stepped. stepped ≡ stepped_of pdu.now decoded) }
 {
     match pdu {
-        Pdu::EndFrame { frame } => Stepped::Ended { frame: *frame },
-        _ => Stepped::Applied,
+        Pdu::EndFrame { frame } => {
+            let reply = acknowledgement(alloc, *frame, decoded)?;
+            let frame = *frame;
+            Ok(Stepped::Ended { frame, reply })
+        }
+        _ => Ok(Stepped::Applied),
     }
 }

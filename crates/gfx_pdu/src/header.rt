@@ -19,7 +19,9 @@ const LENGTH: usize = 4;
 /// The flags that are written: the standard has none.
 const NO_FLAGS: u16 = 0;
 
-/// How many bytes the message at the front has, its header among them.
+/// How many bytes the message at the front has, its header among them, as the header says
+/// ([MS-RDPEGFX] 2.2.1.5): of the server as of the client. Refusals are PduTruncated where there are fewer
+/// bytes, and PduLength where the header says fewer than its own.
 pub fn read_size(bytes: &[u8]) -> Result<usize, Refusal>
     ensures value { result ≡ size_of bytes.now }
     ensures within { IfOk result (λ size. (8 ≤ size) × (size ≤ length bytes.now)) }

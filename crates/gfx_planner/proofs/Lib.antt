@@ -17,3 +17,4 @@ pub mod Frames
 pub mod Within
 pub mod Fronts
 pub mod Numbers
+pub mod Joined

@@ -28,7 +28,7 @@ use Rattle.gfx_planner.proofs.SurfaceSteps.{starts, ends, going}
 use Rattle.gfx_planner.proofs.Steps.{step_fine, allowed_fine, messages-is, after_put-is}
 
 -- messages, accepted one list after another
-both : (state via last : State) (xs ys : List Pdu) → all_steps state xs ≡ Ok via → all_steps via ys ≡ Ok last → all_steps state (xs ++ ys) ≡ Ok last
+pub both : (state via last : State) (xs ys : List Pdu) → all_steps state xs ≡ Ok via → all_steps via ys ≡ Ok last → all_steps state (xs ++ ys) ≡ Ok last
 both state via last xs ys first second = all_steps-append state xs ys ∙ and_then_at (all_steps state xs) via (λ next. all_steps next ys) first ∙ second
 
 -- frames ------------------------------------------------------------------------------------------
@@ -186,7 +186,7 @@ pub stream-cons : (script : Script) (server : Server) (one : KindedStep) (steps 
 unfolding stream
 stream-cons script server one steps = refl
 
-held_through-nil : (held after : Held) → held_through held [] ≡ Ok after → held ≡ after
+pub held_through-nil : (held after : Held) → held_through held [] ≡ Ok after → held ≡ after
 unfolding held_through
 held_through-nil held after checked = cc
 

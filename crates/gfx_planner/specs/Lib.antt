@@ -4,5 +4,6 @@ pub mod Wire
 pub mod Agree
 pub mod Planned
 pub mod Stream
+pub mod Joined
 pub mod Shows
 pub mod Within

@@ -1,3 +1,4 @@
+ghost use Rattle.gfx_planner.specs.Joined.{JoinedFramesAreShown};
 ghost use Rattle.gfx_planner.specs.Shows.{ScriptsAreShown};
 ghost use Rattle.gfx_planner.specs.Within.{StepsWriteWithin};
 
@@ -10,4 +11,10 @@ pub fn streams_show_their_scripts()
 /// No step changes a pixel outside of where it writes.
 pub fn steps_write_within()
     ensures { StepsWriteWithin }
+{}
+
+/// A frame that several steps share is accepted whole, and after it the state is the planner's own and
+/// shows what the steps want.
+pub fn joined_frames_are_shown()
+    ensures { JoinedFramesAreShown }
 {}

@@ -12,6 +12,6 @@ mod planner;
 mod sender;
 mod streaming;
 
-pub use laws::{steps_write_within, streams_show_their_scripts};
+pub use laws::{joined_frames_are_shown, steps_write_within, streams_show_their_scripts};
 pub use planner::{MOST_FRAMES, Planner};
 pub use streaming::put_in_frame;

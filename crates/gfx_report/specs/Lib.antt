@@ -1,2 +1,4 @@
 pub mod Texts
 pub mod Reports
+pub mod StateBytes
+pub mod Hashing

@@ -1,18 +1,23 @@
-//! The texts that report what a client shows: the dump of its surfaces, and that of its output. It reads
-//! surfaces and writes to a sink; it never sees the bytes of the channel, and it takes memory for one
-//! row of the output alone.
+//! The texts that report what a client shows: the dump of its surfaces, and that of its output; and the
+//! digest of its state. It reads surfaces and bitmaps and writes to a sink; it never sees the bytes of the
+//! channel, and it takes memory for one row of the output alone.
 //!
-//! It stands on `gfx_surface_map`, and the program's commands stand on it.
+//! It stands on `gfx_surface_map` and `gfx_bitmap_cache`, and the program's commands stand on it.
 #![tactic(auto)]
 
 mod digits;
 mod fault;
+mod hashing;
+mod laws;
 mod line;
 mod output;
 mod row;
+mod state;
 mod surface;
 mod surfaces;
 
 pub use fault::ReportFault;
+pub use laws::digests_follow_states;
 pub use output::dump_output;
+pub use state::digest;
 pub use surfaces::dump;

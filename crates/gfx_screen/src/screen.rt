@@ -80,6 +80,13 @@ impl State {
         self.frame
     }
 
+    /// How many frames have ended, modulo 2^32.
+    pub fn decoded(&self) -> u32
+        ensures { result ≡ self.now.decoded }
+    {
+        self.decoded
+    }
+
     /// Applies a message, or refuses it and changes nothing.
     #[tactic(auto, unfolding(gfx_state::specs::Step::step))]
     pub fn apply(&mut self, alloc: Global, pdu: &Pdu) -> Result<(), Fault>

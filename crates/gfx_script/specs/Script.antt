@@ -1,12 +1,15 @@
 -- The steps of a script, and what holds of every script that is accepted: this project's own rule.
 use Rattle.std.specs.Prelude.{◌≡◌, ℕ, ◌-◌, ◌≤◌, ◌<◌, ◌^◌, ◌==◌, Bool, true, false, IsTrue, if◌then◌else◌, List, [], ◌∷◌, length, Option, None, Ok}
 use Rattle.std.specs.List.{AllByRecursion, slice_get}
+use Rattle.gfx_caps.specs.Offers.{IsOffer, small_of}
 use Rattle.gfx_base.specs.Geometry.{IsPixel, IsPoint, IsRect}
 use Rattle.gfx_surface.specs.declared.TheConstants.{MOST_SIDE}
 use Rattle.gfx_surface_map.specs.declared.place.TheConstants.{MOST_OUTPUT_SIDE}
-use Rattle.gfx_script.specs.declared.TheConstants.{MOST_STEPS, MOST_RECTS, MOST_PICTURES, MOST_KEY}
+use Rattle.gfx_script.specs.declared.TheConstants.{MOST_STEPS, MOST_RECTS, MOST_PICTURES, MOST_KEY, MOST_VERSIONS, MOST_WINDOW, MOST_TURNS}
 use Rattle.gfx_script.specs.declared.step.Step.{Step}
 use Rattle.gfx_script.specs.declared.step.Step.TheVariants.{Surface, Delete, Reset, Map, Fill, Copy, Keep, Show, Forget, Paint, Frame}
+use Rattle.gfx_script.specs.declared.turn.Turn.{Turn}
+use Rattle.gfx_script.specs.declared.turn.Turn.TheVariants.{Server, Client, Answer}
 use Rattle.gfx_script.specs.Checks.{Held, held_first, sides_of_all, held_through}
 use Rattle.gfx_script.specs.Kinds.{HasKind, own}
 use Rattle.gfx_script.specs.Pictures.{IsDrawn}
@@ -45,8 +48,21 @@ IsStep (Forget key) = key ≤ MOST_KEY
 IsStep (Paint id picture at kind) = (id < 2 ^ 16) × IsPoint at
 IsStep Frame = Unit {0}
 
+-- the number of a turn, where it has one, is within its range
+abbrev pub IsTurn : Turn → Type 0
+IsTurn Server = Unit {0}
+IsTurn (Client most) = (1 ≤ most) × (most < 2 ^ 32)
+IsTurn (Answer most) = (1 ≤ most) × (most < 2 ^ 32)
+
 -- what holds of every script that is read
 pub record IsAccepted (script : Script) : Type 0 where
+  pub window_from : 1 ≤ script.window
+  pub window_most : script.window ≤ MOST_WINDOW
+  pub some_offers : 1 ≤ length script.offers
+  pub few_offers : length script.offers ≤ MOST_VERSIONS
+  pub offers : AllByRecursion IsOffer script.offers
+  -- whose small limits bind the version that a server chooses
+  pub small : script.small ≡ small_of script.offers
   pub few_pictures : length script.pictures ≤ MOST_PICTURES
   pub pictures : AllByRecursion IsDrawn script.pictures
   pub few : length script.steps ≤ MOST_STEPS
@@ -56,3 +72,5 @@ pub record IsAccepted (script : Script) : Type 0 where
   pub held : Held
   pub checked : held_through (held_first (sides_of_all script.pictures) script.small) script.steps ≡ Ok held
   pub framed : IsTrue (is_framed script.steps)
+  pub few_turns : length script.turns ≤ MOST_TURNS
+  pub turns : AllByRecursion IsTurn script.turns

@@ -1,11 +1,19 @@
 -- What a script holds.
-use Rattle.std.specs.Prelude.{Bool, List}
+use Rattle.std.specs.Prelude.{ℕ, Bool, List}
+use Rattle.gfx_caps.specs.declared.offer.Offer.{Offer}
 use Rattle.gfx_script.specs.declared.picture.Picture.{Picture}
 use Rattle.gfx_script.specs.declared.step.Step.{Step}
+use Rattle.gfx_script.specs.declared.turn.Turn.{Turn}
 
 pub record Script : Type 0 where
+  -- how many frames may be in flight
+  pub window : ℕ
+  -- what the client offers
+  pub offers : List Offer
   -- the pictures that paints name by their place, counted from 0
   pub pictures : List Picture
   -- the small limits on bitmaps bind the client
   pub small : Bool
   pub steps : List Step
+  -- which end moves when, one turn after another
+  pub turns : List Turn

@@ -1,5 +1,5 @@
-//! Scripts of a recorded screen: what the server's end shows, step by step, and the pictures that it
-//! paints. Which steps are good is checked against what the steps before them left, by `Held`.
+//! Scripts of a recorded screen: what the server's end shows, step by step, the pictures that it paints,
+//! and what a session of both ends is like: its window, what its client offers, its turns. Which steps are good is checked against what the steps before them left, by `Held`.
 //!
 //! In the pipe it stands below the reading of scripts from text (`gfx_script_text`) and the planner,
 //! which makes each step into messages. Scripts are this project's own (docs/SCRIPTS.md).
@@ -11,12 +11,14 @@ mod picture;
 mod script;
 mod step;
 mod stock;
+mod turn;
 
 pub use error::{Flaw, ScriptKind};
 pub use held::{Held, Sides};
 pub use picture::{Pattern, Picture};
 pub use script::{Script, is_framed};
 pub use step::{Kind, Step};
+pub use turn::Turn;
 
 /// The most steps of a script.
 pub const MOST_STEPS: u32 = 100_000;
@@ -32,3 +34,12 @@ pub const MOST_AREA: u32 = 8388608;
 
 /// The most that a key of a bitmap is.
 pub const MOST_KEY: u64 = 9223372036854775807;
+
+/// The most versions that a client offers.
+pub const MOST_VERSIONS: usize = 8;
+
+/// The most frames in flight that a script allows.
+pub const MOST_WINDOW: u8 = 64;
+
+/// The most turns.
+pub const MOST_TURNS: u32 = 1_000_000;

@@ -1,4 +1,4 @@
-//! A script: pictures and steps, and what they are under.
+//! A script: pictures and steps, and what a session of them is like.
 
 ghost use Rattle.std.specs.Prelude.{◌≡◌, IsSome, Some};
 ghost use Rattle.std.specs.List.{slice_get};
@@ -8,15 +8,20 @@ ghost use Rattle.gfx_script.specs.Script.{IsAccepted, step_at, is_framed};
 
 use crate::picture::Picture;
 use crate::step::Step;
+use crate::turn::Turn;
 use gfx_base::Pixel;
+use gfx_caps::Offers;
 use std::marker::Model;
 
 /// A script as it was read.
 #[derive(Debug, Drop)]
 pub struct Script {
+    window: u8,
+    offers: Offers,
     pictures: Vec<Picture>,
     small: bool,
     steps: Vec<Step>,
+    turns: Vec<Turn>,
 }
 
 impl Model for Script {
@@ -24,20 +29,44 @@ impl Model for Script {
 
     ghost Value = { Script };
 
-    ghost view = { λ s. record { pictures = s.pictures.items; small = s.small; steps = s.steps.items } };
+    ghost view = { λ s. record { window = s.window; offers = s.offers; pictures = s.pictures.items; small = s.small; steps = s.steps.items; turns = s.turns.items } };
 }
 
 impl Script {
     /// The script of these parts, of which all that holds of accepted scripts is to hold.
-    pub fn new(pictures: Vec<Picture>, small: bool, steps: Vec<Step>) -> Script
-        requires { IsAccepted record { pictures = pictures.items; small = small; steps = steps.items } }
-        ensures { result ≡ record { pictures = pictures.items; small = small; steps = steps.items } }
+    pub fn new(
+        window: u8,
+        offers: Offers,
+        pictures: Vec<Picture>,
+        small: bool,
+        steps: Vec<Step>,
+        turns: Vec<Turn>,
+    ) -> Script
+        requires { IsAccepted record { window = window; offers = offers; pictures = pictures.items; small = small; steps = steps.items; turns = turns.items } }
+        ensures { result ≡ record { window = window; offers = offers; pictures = pictures.items; small = small; steps = steps.items; turns = turns.items } }
     {
         Script {
+            window,
+            offers,
             pictures,
             small,
             steps,
+            turns,
         }
+    }
+
+    /// How many frames may be in flight.
+    pub fn window(&self) -> u8
+        ensures { result ≡ self.now.window }
+    {
+        self.window
+    }
+
+    /// What the client offers.
+    pub fn offers(&self) -> &Offers
+        ensures { result.now ≡ self.now.offers }
+    {
+        &self.offers
     }
 
     /// The step of this number, counted from 1, if there is one.
@@ -68,11 +97,18 @@ impl Script {
         self.pictures[picture as usize].pixel(x, y)
     }
 
-    /// Whether the client has a small cache of bitmaps.
+    /// Whether the version that is chosen of what the client offers has the small cache of bitmaps.
     pub fn small(&self) -> bool
         ensures { result ≡ self.now.small }
     {
         self.small
+    }
+
+    /// The turn at this place, counted from 0, if there is one.
+    pub fn turn(&self, at: u32) -> Option<Turn>
+        ensures { result ≡ slice_get self.now.turns at }
+    {
+        self.turns.get(at as usize).copied()
     }
 }
 

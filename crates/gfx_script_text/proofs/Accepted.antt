@@ -9,12 +9,13 @@ use Rattle.gfx_script.specs.declared.TheConstants.{MOST_STEPS}
 use Rattle.gfx_script.specs.declared.error.ScriptKind.{ScriptKind}
 use Rattle.gfx_script.specs.declared.error.ScriptKind.TheVariants.{Range, Unframed}
 use Rattle.gfx_script.specs.declared.step.Step.{Step}
-use Rattle.gfx_script.specs.Checks.{Held, held_first, sides_of_all, held_after, held_through}
+use Rattle.gfx_script.specs.Checks.{Held, held_after, held_through}
 use Rattle.gfx_script.specs.Kinds.{HasKind, own}
 use Rattle.gfx_script.specs.Scripted.{Script}
 use Rattle.gfx_script.specs.Script.{is_framed, IsStep, IsAccepted}
-use Rattle.gfx_script_text.specs.Text.{Top, Head, at_step, head_of, next_step, steps_of, script_of}
+use Rattle.gfx_script_text.specs.Text.{Top, Head, at_step, head_of, next_step, steps_of, held_before, script_with, script_of}
 use Rattle.gfx_script_text.proofs.PictureRanges.{AreGood, pictures_of-good}
+use Rattle.gfx_script_text.proofs.SessionRanges.{IsWindow, window_of-fits, AreOffers, offers_of-good, turns_of-good}
 use Rattle.gfx_script_text.proofs.Ranges.{IsRead, step_of-fits}
 
 at_step_ok : {A : Type 0} (number : ℕ) (r : Result A ScriptKind) (x : A) → at_step number r ≡ Ok x → r ≡ Ok x
@@ -70,19 +71,24 @@ steps_good names number held (value ∷ values) steps is =
 
 -- what holds of what stands before the steps
 record HeadGood (top : Top) (head : Head) : Type 0 where
+  window : IsWindow head.window
+  offers : AreOffers head.offers
   few : length top.step ≤ MOST_STEPS
   pictures : AreGood head.gallery
 
 head_of-good : (top : Top) → Has (head_of top) (HeadGood top)
 unfolding head_of
 head_of-good top =
-    chain _ _ (HeadGood top) (λ small found_small.
+    chain _ _ (HeadGood top) (λ window found_window.
+    chain _ _ (HeadGood top) (λ offers found_offers.
     chain _ _ (HeadGood top) (λ gallery found_gallery.
     chain _ _ (HeadGood top) (λ few are_few.
     gives _ (HeadGood top) record {
+      window = (window_of-fits top.window).each window found_window;
+      offers = (offers_of-good top.client).each offers found_offers;
       few = leb-true (length top.step) MOST_STEPS (check_ok Range _ are_few);
       pictures = (pictures_of-good top.picture).each gallery found_gallery;
-    })))
+    }))))
 
 -- a script that is read is good
 pub accepted : (text : List ℕ) (script : Script) → script_of text ≡ Ok script → IsAccepted script
@@ -93,10 +99,18 @@ accepted text script is =
     let head = and_then_ok _ _ script top.2 in
     let steps = and_then_ok _ _ script head.2 in
     let framed = and_then_ok _ _ script steps.2 in
-    let same : record { pictures = head.0.gallery.pictures; small = head.0.small; steps = steps.0 } ≡ script = let h = framed.2 in cc in
+    let turns = and_then_ok _ _ script framed.2 in
+    let same : script_with head.0 steps.0 turns.0 ≡ script = let h = turns.2 in cc in
     let before = (head_of-good top.0).each head.0 (at_step_ok 0 _ head.0 head.1) in
-    let good = steps_good head.0.gallery.names 1 (held_first (sides_of_all head.0.gallery.pictures) head.0.small) top.0.step steps.0 steps.1 in
+    let good = steps_good head.0.gallery.names 1 (held_before head.0) top.0.step steps.0 steps.1 in
+    let moved = (turns_of-good top.0.turn).each turns.0 (at_step_ok 0 _ turns.0 turns.1) in
     subst IsAccepted same record {
+      window_from = before.window.0;
+      window_most = before.window.1;
+      some_offers = before.offers.some;
+      few_offers = before.offers.few;
+      offers = before.offers.each;
+      small = refl;
       few_pictures = before.pictures.few;
       pictures = before.pictures.each;
       few = subst (λ n. n ≤ MOST_STEPS) (sym good.many) before.few;
@@ -105,4 +119,6 @@ accepted text script is =
       held = good.after;
       checked = good.checked;
       framed = check_ok Unframed (is_framed steps.0) (at_step_ok 0 _ framed.0 framed.1);
+      few_turns = moved.few;
+      turns = moved.each;
     }

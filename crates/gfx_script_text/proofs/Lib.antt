@@ -7,7 +7,7 @@ pub mod Documents
 pub mod Copies
 pub mod Faults
 pub mod Ranges
-pub mod Offers
+pub mod SessionRanges
 pub mod PictureRanges
 pub mod Accepted
 pub mod Limits

@@ -28,7 +28,7 @@ use Rattle.gfx_script.specs.Kinds.{HasKind, own}
 use Rattle.gfx_script.specs.Script.{IsStep}
 
 -- both tests passed
-range_passed : (least most n : ℕ) → (nat_le least n && nat_le n most) ≡ true → (least ≤ n) × (n ≤ most)
+pub range_passed : (least most n : ℕ) → (nat_le least n && nat_le n most) ≡ true → (least ≤ n) × (n ≤ most)
 range_passed least most n passed =
     let parts = and_parts (nat_le least n) (nat_le n most) passed in
     (leb-true least n parts.0, leb-true n most parts.1)
@@ -296,7 +296,7 @@ frame_of-fits : (table : Members) → Has (frame_of table) IsRead
 unfolding frame_of
 frame_of-fits table = chain _ _ IsRead (λ known passed. given Frame refl tt)
 
-if_has : {A E : Type 0} (b : Bool) (x y : Result A E) (P : A → Type 0) → Has x P → Has y P → Has (if b then x else y) P
+pub if_has : {A E : Type 0} (b : Bool) (x y : Result A E) (P : A → Type 0) → Has x P → Has y P → Has (if b then x else y) P
 if_has true x y P one other = one
 if_has false x y P one other = other
 

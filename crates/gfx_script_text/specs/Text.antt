@@ -1,20 +1,24 @@
 -- The script of a text, and the order of checks: this project's own format.
-use Rattle.std.specs.Prelude.{ℕ, ◌+◌, Bool, if◌then◌else◌, nat_le, List, [], ◌∷◌, length, Option, Some, None, Result, Ok, Err, codes}
+use Rattle.std.specs.Prelude.{ℕ, ℤ, ◌+◌, if◌then◌else◌, nat_le, List, [], ◌∷◌, length, Option, Some, None, Result, Ok, Err, codes}
 use Rattle.std.specs.Option.{ok_or}
 use Rattle.std.specs.Str.{is_utf8}
-use Rattle.toml.specs.Data.{Data, Members, get_member}
+use Rattle.toml.specs.Data.{Data, Members, as_integer, get_member}
 use Rattle.toml.specs.Parse.{parse_document}
 use Rattle.gfx_base.specs.Results.{◌>>=◌, check}
+use Rattle.gfx_caps.specs.declared.offer.Offer.{Offer}
+use Rattle.gfx_caps.specs.Offers.{small_of}
 use Rattle.gfx_script.specs.declared.TheConstants.{MOST_STEPS}
 use Rattle.gfx_script.specs.declared.error.ScriptKind.{ScriptKind}
 use Rattle.gfx_script.specs.declared.error.ScriptKind.TheVariants.{Toml, Key, Range, Unframed}
 use Rattle.gfx_script.specs.declared.step.Step.{Step}
+use Rattle.gfx_script.specs.declared.turn.Turn.{Turn}
 use Rattle.gfx_script.specs.Checks.{Held, held_first, sides_of_all, held_after}
 use Rattle.gfx_script.specs.Script.{is_framed}
 use Rattle.gfx_script.specs.Scripted.{Script}
-use Rattle.gfx_script_text.specs.Clients.{small_of}
+use Rattle.gfx_script_text.specs.Clients.{offers_of}
 use Rattle.gfx_script_text.specs.Members.{items_in, has_only}
 use Rattle.gfx_script_text.specs.Pictures.{Gallery, pictures_of}
+use Rattle.gfx_script_text.specs.Sessions.{window_of, turns_of}
 use Rattle.gfx_script_text.specs.Words.{step_of}
 
 -- what is wrong, at which step; 0 stands for a fault outside the steps
@@ -43,33 +47,46 @@ items_if_any (Some value) = do
   items ← ok_or (items_in value) Key
   Ok (Some items)
 
+-- a whole number, which may be missing
+abbrev pub whole_if_any : Option Data → Result (Option ℤ) ScriptKind
+whole_if_any None = Ok None
+whole_if_any (Some value) = do
+  number ← ok_or (as_integer value) Key
+  Ok (Some number)
+
 -- what stands under the keys at the top
 pub record Top : Type 0 where
+  pub window : Option ℤ
   pub client : Option (List Data)
   pub picture : List Data
   pub step : List Data
+  pub turn : List Data
 
 -- the same of a text's table: the faults of the top table itself come before all others
 unfoldable pub top_of : Members → Result Top ScriptKind
 top_of top = do
-  known ← check Key (has_only (codes "client" ∷ codes "picture" ∷ codes "step" ∷ []) top)
+  known ← check Key (has_only (codes "window" ∷ codes "client" ∷ codes "picture" ∷ codes "step" ∷ codes "turn" ∷ []) top)
+  window ← whole_if_any (get_member (codes "window") top)
   client ← items_if_any (get_member (codes "client") top)
   picture ← items_or_none (get_member (codes "picture") top)
   step ← items_or_none (get_member (codes "step") top)
-  Ok record { client = client; picture = picture; step = step }
+  turn ← items_or_none (get_member (codes "turn") top)
+  Ok record { window = window; client = client; picture = picture; step = step; turn = turn }
 
 -- what stands before the steps
 pub record Head : Type 0 where
-  pub small : Bool
+  pub window : ℕ
+  pub offers : List Offer
   pub gallery : Gallery
 
--- the same of a top: `client` comes before `picture`, and `step` behind it
+-- the same of a top: `window` and `client` come before `picture`, and `step` behind it
 unfoldable pub head_of : Top → Result Head ScriptKind
 head_of top = do
-  small ← small_of top.client
+  window ← window_of top.window
+  offers ← offers_of top.client
   gallery ← pictures_of top.picture
   few ← check Range (nat_le (length top.step) MOST_STEPS)
-  Ok record { small = small; gallery = gallery }
+  Ok record { window = window; offers = offers; gallery = gallery }
 
 -- the step that a value is, and what is held after it
 unfoldable pub next_step : List (List ℕ) → Held → Data → Result (Step × Held) ScriptKind
@@ -86,12 +103,28 @@ steps_of names number held (value ∷ values) = do
   steps ← steps_of names (number + 1) next.1 values
   Ok (next.0 ∷ steps)
 
+-- what is held before the first step
+abbrev pub held_before : Head → Held
+held_before head = held_first (sides_of_all head.gallery.pictures) (small_of head.offers)
+
+-- the script of these parts
+abbrev pub script_with : Head → List Step → List Turn → Script
+script_with head steps turns = record {
+  window = head.window;
+  offers = head.offers;
+  pictures = head.gallery.pictures;
+  small = small_of head.offers;
+  steps = steps;
+  turns = turns;
+}
+
 -- the script of a text, or what is wrong first
 unfoldable pub script_of : List ℕ → Result Script Wrong
 script_of bytes = do
   table ← at_step 0 (document_of bytes)
   top ← at_step 0 (top_of table)
   head ← at_step 0 (head_of top)
-  steps ← steps_of head.gallery.names 1 (held_first (sides_of_all head.gallery.pictures) head.small) top.step
+  steps ← steps_of head.gallery.names 1 (held_before head) top.step
   framed ← at_step 0 (check Unframed (is_framed steps))
-  Ok record { pictures = head.gallery.pictures; small = head.small; steps = steps }
+  turns ← at_step 0 (turns_of top.turn)
+  Ok (script_with head steps turns)

@@ -29,7 +29,14 @@ Reads view (Err (errors.Fault step kind)) due = due ≡ Err record { step = step
 
 -- the parts of a script, as contracts see them
 abbrev pub parts_seen : Parts → Script
-parts_seen parts = record { pictures = parts.pictures.items; small = parts.small; steps = parts.steps.items }
+parts_seen parts = record {
+  window = parts.window;
+  offers = parts.offers;
+  pictures = parts.pictures.items;
+  small = parts.small;
+  steps = parts.steps.items;
+  turns = parts.turns.items;
+}
 
 -- pictures with their names, as contracts see them
 abbrev pub gallery_seen : read_pictures.Gallery → Gallery
@@ -37,8 +44,14 @@ gallery_seen gallery = record { names = gallery.names; pictures = gallery.pictur
 
 -- what stands under the keys at the top, as contracts see it
 abbrev pub top_seen : read_top.Top → text.Top
-top_seen top = record { client = option_map (λ items. map view items.now) top.client; picture = map view top.picture.now; step = map view top.step.now }
+top_seen top = record {
+  window = top.window;
+  client = option_map (λ items. map view items.now) top.client;
+  picture = map view top.picture.now;
+  step = map view top.step.now;
+  turn = map view top.turn.now;
+}
 
 -- what stands before the steps, as contracts see it
 abbrev pub head_seen : read_head.Head → text.Head
-head_seen head = record { small = head.small; gallery = gallery_seen head.gallery }
+head_seen head = record { window = head.window; offers = head.offers; gallery = gallery_seen head.gallery }

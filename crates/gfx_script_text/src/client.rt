@@ -1,97 +1,61 @@
-//! The capability sets that the client of a script offers. The one of the highest version is chosen.
+//! The versions that the client of a script offers.
 
-ghost use Rattle.std.specs.Prelude.{◌≡◌, map, option_map, codes, Ok};
-ghost use Rattle.std.specs.Option.{option_map_or};
-ghost use Rattle.gfx_base.specs.Results.{and_then, each};
+ghost use Rattle.std.specs.Prelude.{◌≡◌, [], ◌∷◌, map, option_map, codes, IfOk};
+ghost use Rattle.gfx_base.specs.Outcome.{Gives};
+ghost use Rattle.gfx_base.specs.Results.{each};
 ghost use Rattle.toml.specs.Data.{get_member};
 ghost use Rattle.toml.specs.View.{table_view, view};
-ghost use Rattle.gfx_script_text.specs.Clients.{offered_in, version_named, flag_or_false, rank, better, chooses_small, small_of};
+ghost use Rattle.gfx_script_text.specs.Clients.{offer_in, version_named, flag_or_false, usual_offer, offers_of};
 
-use crate::MOST_CLIENTS;
 use crate::members::{check_keys, member, text};
-use gfx_script::ScriptKind;
+use gfx_base::NoMemory;
+use gfx_caps::{Offer, Offers, VERSION_8, VERSION_8_1, VERSION_10};
+use gfx_script::{Flaw, MOST_VERSIONS, ScriptKind};
+use std::alloc::Global;
 use toml::{Table, Value};
 
-/// A version of the graphics channel ([MS-RDPEGFX] 2.2.3).
-#[derive(Clone, Copy, Debug, PartialEq, Eq)]
-pub enum Version {
-    V8,
-    V81,
-    V10,
-}
-
-/// One capability set.
-#[derive(Clone, Copy)]
-pub struct Offered {
-    pub version: Version,
-    pub small: bool,
-}
-
-/// Whether the set that is chosen has a small cache.
-#[tactic(auto, unfolding(crate::specs::Clients::small_of, gfx_base::specs::Results::and_then))]
-pub fn read_small(client: Option<&[Value]>) -> Result<bool, ScriptKind>
-    ensures { result ≡ small_of (option_map (λ x. map view x.now) client.entry) }
+/// Reads what stands under `client`, if anything does.
+#[tactic(auto, unfolding(crate::specs::Clients::offers_of, gfx_base::specs::Results::and_then))]
+pub fn read_client(alloc: Global, client: Option<&[Value]>) -> Result<Offers, Flaw>
+    ensures { Gives (λ x. x) result (offers_of (option_map (λ x. map view x.now) client.entry)) }
 {
     let Some(values) = client else {
-        return Ok(false);
+        return Ok(usual_offers(alloc)?);
     };
-    if !(1..=MOST_CLIENTS).contains(&values.len()) {
-        return Err(ScriptKind::Range);
+    if !(1..=MOST_VERSIONS).contains(&values.len()) {
+        return Err(Flaw::Refused(ScriptKind::Range));
     }
-    read_offers(values)
+    read_offers(alloc, values)
 }
 
-/// Reads the sets, one after another, and keeps the best so far.
-fn read_offers(values: &[Value]) -> Result<bool, ScriptKind>
-    ensures { result ≡ and_then (each offered_in (map view values.now)) (λ offers. Ok (chooses_small offers)) }
+/// What is offered where the script says nothing.
+fn usual_offers(alloc: Global) -> Result<Offers, NoMemory>
+    ensures { IfOk result (λ offers. offers ≡ usual_offer ∷ []) }
 {
-    let mut best: Option<Offered> = None;
+    let mut offers = Offers::new(alloc);
+    offers.push(Offer {
+        version: VERSION_10,
+        small: false,
+    })?;
+    Ok(offers)
+}
+
+/// Reads offers, one after another.
+fn read_offers(alloc: Global, values: &[Value]) -> Result<Offers, Flaw>
+    ensures { Gives (λ x. x) result (each offer_in (map view values.now)) }
+{
+    let mut offers = Offers::new(alloc);
     'values: for value in values {
-        let one = read_offered(value)?;
-        best = Some(better_of(best, one));
+        let offer = read_offer(value)?;
+        offers.push(offer)?;
     }
-    match best {
-        Some(best) => Ok(best.small),
-        None => Ok(false),
-    }
+    Ok(offers)
 }
 
-/// The better of the best so far, if there is one, and one more.
-fn better_of(best: Option<Offered>, one: Offered) -> Offered
-    ensures { result ≡ option_map_or (λ b. better b one) best one }
-{
-    match best {
-        Some(best) => better(best, one),
-        None => one,
-    }
-}
-
-/// The one of the higher version, and the first of equal ones.
-fn better(best: Offered, one: Offered) -> Offered
-    ensures { result ≡ better best one }
-{
-    if rank(best.version) < rank(one.version) {
-        one
-    } else {
-        best
-    }
-}
-
-/// The versions in ascending order.
-fn rank(version: Version) -> u8
-    ensures { result ≡ rank version }
-{
-    match version {
-        Version::V8 => 0,
-        Version::V81 => 1,
-        Version::V10 => 2,
-    }
-}
-
-/// Reads a capability set.
-#[tactic(auto, unfolding(crate::specs::Clients::offered_in, gfx_base::specs::Results::and_then))]
-fn read_offered(value: &Value) -> Result<Offered, ScriptKind>
-    ensures { result ≡ offered_in (view value.now) }
+/// Reads an offer.
+#[tactic(auto, unfolding(crate::specs::Clients::offer_in, gfx_base::specs::Results::and_then))]
+fn read_offer(value: &Value) -> Result<Offer, ScriptKind>
+    ensures { result ≡ offer_in (view value.now) }
 {
     let Value::Table(table) = value else {
         return Err(ScriptKind::Key);
@@ -100,17 +64,17 @@ fn read_offered(value: &Value) -> Result<Offered, ScriptKind>
     let word = text(table, "version")?;
     let version = version_named(word)?;
     let small = read_flag(table)?;
-    Ok(Offered { version, small })
+    Ok(Offer { version, small })
 }
 
 /// The version that a word names.
-fn version_named(word: &str) -> Result<Version, ScriptKind>
+fn version_named(word: &str) -> Result<u32, ScriptKind>
     ensures { result ≡ version_named word.now }
 {
     match word {
-        "8" => Ok(Version::V8),
-        "8.1" => Ok(Version::V81),
-        "10" => Ok(Version::V10),
+        "8" => Ok(VERSION_8),
+        "8.1" => Ok(VERSION_8_1),
+        "10" => Ok(VERSION_10),
         _ => Err(ScriptKind::Key),
     }
 }

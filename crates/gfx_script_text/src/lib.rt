@@ -19,6 +19,7 @@ mod pictures;
 mod places;
 mod promises;
 mod reading;
+mod session;
 mod surface;
 mod words;
 
@@ -26,8 +27,11 @@ pub use error::ScriptError;
 pub use promises::accepted_scripts_are_good;
 pub use reading::read_script;
 
-/// The most capability sets of a client.
-pub const MOST_CLIENTS: usize = 8;
-
 /// The most that an id or a coordinate is.
 pub const MOST_NUMBER: u16 = 65535;
+
+/// The most bytes that a turn takes.
+pub const MOST_TAKE: u32 = 4_294_967_295;
+
+/// How many frames may be in flight where a script doesn't say it.
+pub const USUAL_WINDOW: u8 = 2;

@@ -1,44 +1,52 @@
 //! The whole of a script's text, and the order of checks.
 
-ghost use Rattle.std.specs.Prelude.{◌≤◌, length, map, IfOk};
+ghost use Rattle.std.specs.Prelude.{◌≡◌, ◌≤◌, length, map, IfOk};
 ghost use Rattle.std.specs.Option.{option_map};
 ghost use Rattle.toml.specs.Data.{get_member};
 ghost use Rattle.toml.specs.View.{table_view, view};
 ghost use Rattle.gfx_base.specs.Outcome.{Gives, Says};
 ghost use Rattle.gfx_script.specs.declared.TheConstants.{MOST_STEPS};
-ghost use Rattle.gfx_script_text.specs.Text.{script_of, document_of, items_or_none, items_if_any, top_of, head_of, next_step, steps_of};
+ghost use Rattle.gfx_script_text.specs.Text.{script_of, document_of, items_or_none, items_if_any, whole_if_any, top_of, head_of, next_step, steps_of};
 ghost use Rattle.gfx_script_text.specs.Told.{Reads, parts_seen, top_seen, head_seen};
 
-use crate::client::read_small;
+use crate::client::read_client;
 use crate::error::ScriptError;
 use crate::members::{check_keys, items_in, member};
 use crate::names::Names;
 use crate::pictures::{Gallery, read_pictures};
+use crate::session::{read_turns, read_window};
 use crate::words::read_step;
-use gfx_script::{Flaw, Held, MOST_STEPS, Picture, Script, ScriptKind, Step, is_framed};
+use gfx_caps::{Offers, offers_small};
+use gfx_script::{Flaw, Held, MOST_STEPS, Picture, Script, ScriptKind, Step, Turn, is_framed};
 use std::alloc::Global;
 use toml::{Table, Value};
 
 /// What a script is made of.
 #[derive(Drop)]
 struct Parts {
+    window: u8,
+    offers: Offers,
     pictures: Vec<Picture>,
     small: bool,
     steps: Vec<Step>,
+    turns: Vec<Turn>,
 }
 
 /// What stands under the keys at the top.
 #[derive(Clone, Copy)]
 struct Top<'a> {
+    window: Option<i64>,
     client: Option<&'a [Value]>,
     picture: &'a [Value],
     step: &'a [Value],
+    turn: &'a [Value],
 }
 
 /// What stands before the steps.
 #[derive(Drop)]
 struct Head<'a> {
-    small: bool,
+    window: u8,
+    offers: Offers,
     gallery: Gallery<'a>,
 }
 
@@ -47,7 +55,14 @@ pub fn read_script(alloc: Global, text: &[u8]) -> Result<Script, ScriptError>
     ensures { Reads (λ script. script) result (script_of text.now) }
 {
     let parts = read_parts(alloc, text)?;
-    Ok(Script::new(parts.pictures, parts.small, parts.steps))
+    Ok(Script::new(
+        parts.window,
+        parts.offers,
+        parts.pictures,
+        parts.small,
+        parts.steps,
+        parts.turns,
+    ))
 }
 
 /// Reads the parts of a script.
@@ -63,11 +78,16 @@ fn read_parts(alloc: Global, text: &[u8]) -> Result<Parts, ScriptError>
         Ok(top) => top,
         Err(kind) => return Err(ScriptError::Fault { step: 0, kind }),
     };
-    let Head { small, gallery } = match read_head(alloc, top) {
+    let Head {
+        window,
+        offers,
+        gallery,
+    } = match read_head(alloc, top) {
         Ok(head) => head,
         Err(flaw) => return Err(ScriptError::at(0, flaw)),
     };
     let Gallery { names, pictures } = gallery;
+    let small = offers_small(offers.as_slice());
     let Ok(held) = Held::new(alloc, &pictures, small) else {
         return Err(ScriptError::Memory);
     };
@@ -78,10 +98,17 @@ fn read_parts(alloc: Global, text: &[u8]) -> Result<Parts, ScriptError>
             kind: ScriptKind::Unframed,
         });
     }
+    let turns = match read_turns(alloc, top.turn) {
+        Ok(turns) => turns,
+        Err(flaw) => return Err(ScriptError::at(0, flaw)),
+    };
     Ok(Parts {
+        window,
+        offers,
         pictures,
         small,
         steps,
+        turns,
     })
 }
 
@@ -105,14 +132,18 @@ fn read_document(alloc: Global, text: &[u8]) -> Result<Table, Flaw>
 fn read_top(table: &Table) -> Result<Top<'_>, ScriptKind>
     ensures { Says top_seen result (top_of (table_view table.now)) }
 {
-    check_keys(table, &["client", "picture", "step"])?;
+    check_keys(table, &["window", "client", "picture", "step", "turn"])?;
+    let window = whole_if_any(table, "window")?;
     let client = items_if_any(table, "client")?;
     let picture = items_or_none(table, "picture")?;
     let step = items_or_none(table, "step")?;
+    let turn = items_or_none(table, "turn")?;
     Ok(Top {
+        window,
         client,
         picture,
         step,
+        turn,
     })
 }
 
@@ -141,18 +172,37 @@ fn items_if_any<'a>(table: &'a Table, key: &str) -> Result<Option<&'a [Value]>, 
     }
 }
 
+/// The whole number under a key, which may be missing.
+#[tactic(auto, unfolding(gfx_base::specs::Results::and_then))]
+fn whole_if_any(table: &Table, key: &str) -> Result<Option<i64>, ScriptKind>
+    ensures { result ≡ whole_if_any (get_member key.now (table_view table.now)) }
+{
+    match member(table, key) {
+        None => Ok(None),
+        Some(value) => match value.as_integer() {
+            Some(number) => Ok(Some(number)),
+            None => Err(ScriptKind::Key),
+        },
+    }
+}
+
 /// Reads what stands before the steps, and says whether the steps are too many.
 #[tactic(auto, unfolding(crate::specs::Text::head_of, gfx_base::specs::Results::and_then))]
 fn read_head(alloc: Global, top: Top<'_>) -> Result<Head<'_>, Flaw>
     ensures exact { Gives head_seen result (head_of (top_seen top.entry)) }
     ensures few { IfOk result (λ _. length top.entry.step.now ≤ MOST_STEPS) }
 {
-    let small = read_small(top.client)?;
+    let window = read_window(top.window)?;
+    let offers = read_client(alloc, top.client)?;
     let gallery = read_pictures(alloc, top.picture)?;
     if top.step.len() > MOST_STEPS as usize {
         return Err(Flaw::Refused(ScriptKind::Range));
     }
-    Ok(Head { small, gallery })
+    Ok(Head {
+        window,
+        offers,
+        gallery,
+    })
 }
 
 /// Reads the steps, one after another, where the pictures have these names and this is held before.

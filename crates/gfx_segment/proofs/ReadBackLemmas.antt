@@ -1,14 +1,14 @@
 -- What is wrapped is read back, whatever follows.
 use Rattle.std.proofs.Common.{◌≡◌, ℕ, ◌+◌, ◌*◌, ◌^◌, ◌≤◌, ◌<◌, zero, suc, List, [], ◌∷◌, ◌++◌, length, take, drop, Some, Ok, inl, inr, refl, sym, ap, ◌∙◌, append_assoc, arith, length-append, length-take}
 use Rattle.std.specs.Int.{w16, w32, to_le_bytes, div_ceil}
-use Rattle.std.proofs.lemmas.List.{take-append-drop, take_at, drop_at, nil_from_length}
+use Rattle.std.proofs.lemmas.List.{append-nil, take-append-drop, take_at, drop_at, nil_from_length}
 use Rattle.std.proofs.lemmas.Bool.{cases_lt, le-leb, le-ltb, eq-eqb, cond-true, cond-false}
 use Rattle.gfx_base.specs.Field.{field}
 use Rattle.gfx_base.proofs.FieldLemmas.{number_at-written_2, number_at-written_4}
 use Rattle.gfx_base.proofs.ResultLemmas.{and_then_at}
 use Rattle.gfx_segment.specs.declared.profile.TheConstants.{MOST_MESSAGE, MOST_PAYLOAD, MOST_BLOCK, SINGLE, MULTIPART, RDP8}
-use Rattle.gfx_segment.specs.Framing.{Whole, front, front_of, block_data, cut_of, next_block, blocks, segments, payload, sized_block, sized_blocks, message_of, prefixed, wrapped, ReadBack}
-use Rattle.gfx_segment.proofs.FrontLemmas.{IsLength, whole_at, Begins, front_at}
+use Rattle.gfx_segment.specs.Framing.{Whole, Short, front, front_of, block_data, cut_of, next_block, blocks, segments, payload, sized_block, sized_blocks, message_of, prefixed, wrapped, ReadBack}
+use Rattle.gfx_segment.proofs.FrontLemmas.{IsLength, whole_at, Begins, front_at, front_beginning}
 use Rattle.gfx_segment.proofs.BlockLemmas.{onto_nil, Counts, segments_whole}
 use Rattle.gfx_segment.proofs.WrapLemmas.{Holds, Holds-drop, counted, message_single, message_segments, length-message_segments}
 
@@ -34,6 +34,11 @@ front-prefixed message more h =
     ap front (append_assoc (to_le_bytes w32 (length message)) message more)
     ∙ front_at (length message) _ begins
     ∙ front_at_limit MOST_MESSAGE message more h
+
+-- what is cut off inside is short
+pub front_prefixed_cut : (message start rest : List ℕ) → IsLength MOST_MESSAGE (length message) → prefixed message ≡ start ++ rest → 0 < length rest → front start ≡ Short
+front_prefixed_cut message start rest h cut some =
+    front_beginning start rest message (ap front (sym cut ∙ sym (append-nil (prefixed message))) ∙ front-prefixed message [] h) some
 
 -- blocks ------------------------------------------------------------------------------------------------
 

@@ -1,7 +1,18 @@
-ghost use Rattle.gfx_segment.specs.Framing.{AnyCutting};
+ghost use Rattle.std.specs.Prelude.{◌≡◌, ℕ, ◌<◌, ◌≤◌, List, ◌++◌, length};
+ghost use Rattle.gfx_segment.specs.Framing.{AnyCutting, Whole, Short, front, prefixed};
+ghost use Rattle.gfx_segment.specs.declared.profile.TheConstants.{MOST_MESSAGE};
 
 /// A law, which does nothing when it is called: however bytes are cut into pieces, a splitter gives
 /// the same messages from them, and the same refusal behind those.
 pub fn any_cutting_gives_the_same()
     ensures { AnyCutting }
+{}
+
+/// A law: a message of 1 to 67,108,864 bytes that stands behind its length is whole, whatever follows,
+/// and what is cut off inside is none yet.
+pub fn a_prefixed_message_is_whole()
+    ensures whole { (message more : List ℕ) → 0 < length message → length message ≤ MOST_MESSAGE
+        → front (prefixed message ++ more) ≡ Whole message more }
+    ensures short { (message start rest : List ℕ) → 0 < length message → length message ≤ MOST_MESSAGE
+        → prefixed message ≡ start ++ rest → 0 < length rest → front start ≡ Short }
 {}

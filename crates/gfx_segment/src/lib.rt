@@ -12,10 +12,10 @@ mod profile;
 mod splitter;
 mod writing;
 
-pub use laws::any_cutting_gives_the_same;
+pub use laws::{a_prefixed_message_is_whole, any_cutting_gives_the_same};
 pub use profile::{
     COMPRESSED, MOST_BLOCK, MOST_MESSAGE, MOST_PAYLOAD, MULTIPART, PREFIX, RDP8, SEGMENTS_AT,
     SINGLE, SIZE_AT, TYPES,
 };
 pub use splitter::Splitter;
-pub use writing::wrap;
+pub use writing::{prefix, wrap};

@@ -1,8 +1,11 @@
 ghost use Rattle.std.specs.Prelude.{◌≡◌, ℕ, List, ◌++◌, ◌*◌, ◌≤◌, ◌<◌, length, OnOk, OnErr};
-ghost use Rattle.gfx_segment.specs.Framing.{wrapped, sized_block, sized_blocks, ReadBack};
+ghost use Rattle.std.specs.Int.{w32, to_le_bytes};
+ghost use Rattle.gfx_segment.specs.Framing.{prefixed, wrapped, sized_block, sized_blocks, ReadBack};
 ghost use Rattle.gfx_segment.specs.Pieces.{Puts};
 
-use crate::profile::{MOST_BLOCK, MOST_PAYLOAD, MULTIPART, PREFIX, RDP8, SEGMENTS_AT, SINGLE};
+use crate::profile::{
+    MOST_BLOCK, MOST_MESSAGE, MOST_PAYLOAD, MULTIPART, PREFIX, RDP8, SEGMENTS_AT, SINGLE,
+};
 use gfx_base::{Bytes, NoMemory};
 
 /// A message's descriptor is one byte.
@@ -29,6 +32,40 @@ pub fn wrap(payload: &[u8], out: &mut Bytes) -> Result<(), NoMemory>
     done
 }
 
+/// Appends a channel message, of at most 67,108,864 bytes, behind its length, as it stands (the length is
+/// this project's own): a client's message is alone in one, without blocks. Without memory `out` stays
+/// as it was.
+pub fn prefix(message: &[u8], out: &mut Bytes) -> Result<(), NoMemory>
+    requires { length message.now ≤ MOST_MESSAGE }
+    ensures ok { OnOk result (out.new ≡ out.old ++ prefixed message.now) }
+    ensures err { OnErr result (out.new ≡ out.old) }
+{
+    let before = out.len();
+    let done = put_prefixed(message, out);
+    if done.is_err() {
+        out.truncate(before);
+    }
+    done
+}
+
+/// A message as it stands, behind its length.
+fn put_prefixed(message: &[u8], out: &mut Bytes) -> Result<(), NoMemory>
+    requires { length message.now ≤ MOST_MESSAGE }
+    ensures { Puts result out.old out.new (prefixed message.now) }
+{
+    put_length(message.len(), out)?;
+    out.append(message)
+}
+
+/// The length of a message.
+fn put_length(length: usize, out: &mut Bytes) -> Result<(), NoMemory>
+    requires { length ≤ MOST_MESSAGE }
+    ensures ok { OnOk result (out.new ≡ out.old ++ to_le_bytes w32 length) }
+    ensures err { OnErr result (out.new ≡ out.old) }
+{
+    out.append(&(length as u32).to_le_bytes())
+}
+
 fn put_message(payload: &[u8], out: &mut Bytes) -> Result<(), NoMemory>
     requires { length payload.now ≤ MOST_PAYLOAD }
     ensures { Puts result out.old out.new (wrapped payload.now) }
@@ -45,8 +82,7 @@ fn put_single(payload: &[u8], out: &mut Bytes) -> Result<(), NoMemory>
     requires { length payload.now ≤ MOST_BLOCK }
     ensures { Puts result out.old out.new (wrapped payload.now) }
 {
-    let length = (payload.len() + DESCRIPTOR + HEADER) as u32;
-    out.append(&length.to_le_bytes())?;
+    put_length(payload.len() + DESCRIPTOR + HEADER, out)?;
     out.append(&[SINGLE, RDP8])?;
     out.append(payload)
 }
@@ -58,8 +94,8 @@ fn put_segments(payload: &[u8], out: &mut Bytes) -> Result<(), NoMemory>
     ensures { Puts result out.old out.new (wrapped payload.now) }
 {
     let count = payload.len().div_ceil(MOST_BLOCK);
-    let length = DESCRIPTOR + SEGMENTS_AT + payload.len() + count * (PREFIX + HEADER);
-    out.append(&(length as u32).to_le_bytes())?;
+    let blocks = payload.len() + count * (PREFIX + HEADER);
+    put_length(DESCRIPTOR + SEGMENTS_AT + blocks, out)?;
     out.append(&[MULTIPART])?;
     out.append(&(count as u16).to_le_bytes())?;
     out.append(&(payload.len() as u32).to_le_bytes())?;

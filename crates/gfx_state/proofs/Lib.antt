@@ -8,4 +8,3 @@ pub mod Wider
 pub mod Effects
 pub mod Coming
 pub mod Leading
-pub mod Numbers

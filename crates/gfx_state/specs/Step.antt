@@ -1,6 +1,6 @@
 -- What a message does to the state, or the first reason to refuse it. A refused message changes nothing.
 -- The effects are those of [MS-RDPEGFX] 3.3.5; the order of the checks is this project's own rule.
-use Rattle.std.specs.Prelude.{ℕ, ◌+◌, ◌*◌, ◌/◌, ◌%◌, ◌^◌, ◌==◌, ◌&&◌, ◌||◌, Bool, false, not, List, length, Option, Some, None, is_some, Result, Ok, Err}
+use Rattle.std.specs.Prelude.{ℕ, ◌+◌, ◌*◌, ◌%◌, ◌^◌, ◌==◌, ◌&&◌, ◌||◌, Bool, false, not, List, length, Option, Some, None, is_some, Result, Ok, Err}
 use Rattle.std.specs.List.{list_all}
 use Rattle.std.specs.Option.{ok_or}
 use Rattle.std.specs.FinMap as finmap
@@ -14,6 +14,8 @@ use Rattle.gfx_base.specs.declared.geometry.Rect.{Rect}
 use Rattle.gfx_base.specs.declared.pixel.Pixel.{Pixel}
 use Rattle.gfx_base.specs.declared.refusal.Refusal.{Refusal}
 use Rattle.gfx_base.specs.declared.refusal.Refusal.TheVariants.{PduUnknown, NoSurface, SurfaceExists, SurfaceSize, RectOutside, PixelFormat, CodecRefused, PayloadLength, SlotRange, FrameOpen, FrameMismatch, CapsVersion}
+use Rattle.gfx_caps.specs.Choice.{has_flag}
+use Rattle.gfx_caps.specs.declared.versions.TheConstants.{VERSION_8, VERSION_8_1, VERSION_10, FLAGS_SIZE, SMALL_CACHE}
 use Rattle.gfx_pdu.specs.declared.pdu.Pdu.{Pdu}
 use Rattle.gfx_pdu.specs.declared.pdu.Pdu.TheVariants.{WireToSurface1, WireToSurface2, SolidFill, SurfaceToSurface, SurfaceToCache, CacheToSurface, EvictCacheEntry, CreateSurface, DeleteSurface, StartFrame, EndFrame, ResetGraphics, MapSurfaceToOutput, CapsConfirm}
 use Rattle.gfx_bitmap_cache.specs.Slots.{Cached, Image, cached, entry, takes_slot, stored, evicted}
@@ -22,7 +24,6 @@ use Rattle.gfx_surface.specs.Picture.{Picture, overlaid, raw_pixels, rect_of}
 use Rattle.gfx_surface_map.specs.Surfaces.{is_size, painted}
 use Rattle.gfx_surface_map.specs.Shown.{Shown, with_picture, surface_made, surface_deleted, surface_copied, pixels_put, output_reset, output_mapped}
 use Rattle.gfx_state.specs.State.{State}
-use Rattle.gfx_state.specs.declared.caps.TheConstants.{VERSION_8, VERSION_8_1, VERSION_10, FLAGS_SIZE, SMALL_CACHE}
 
 -- RDPGFX_START_FRAME_PDU: no frame may be open
 unfoldable pub frame_started : State → ℕ → Result State Refusal
@@ -112,7 +113,7 @@ is_version version = version == VERSION_8 || version == VERSION_8_1 || version =
 
 -- these flags choose the small limits
 abbrev pub has_small_cache : List ℕ → Bool
-has_small_cache flags = number_at w32 flags 0 / SMALL_CACHE % 2 == 1
+has_small_cache flags = has_flag (number_at w32 flags 0) SMALL_CACHE
 
 -- RDPGFX_CAPS_CONFIRM_PDU: it sets the limits of later stores
 unfoldable pub caps_confirmed : State → ℕ → List ℕ → Result State Refusal

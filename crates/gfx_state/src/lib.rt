@@ -6,10 +6,8 @@
 //! no parameters and no work to do: each states a law of the definitions, and its contract is the law.
 #![tactic(auto)]
 
-mod caps;
 mod laws;
 
-pub use caps::{FLAGS_SIZE, SMALL_CACHE, VERSION_8, VERSION_8_1, VERSION_10};
 pub use laws::{
     histories_go_on, moves_make_the_history, pieces_are_the_whole, refusals_stay,
     sent_messages_are_their_history, sent_messages_are_their_steps, steps_keep_the_run,

@@ -1,0 +1,41 @@
+//! What a client writes to the server: messages of its own, each alone in a channel message.
+ghost use Rattle.std.specs.Prelude.{◌≡◌, ◌≤◌, IfOk};
+ghost use Rattle.gfx_caps.specs.Spelling.{IsSpellable, size};
+ghost use Rattle.gfx_client.specs.Replies.{alone, acknowledgement};
+
+use gfx_base::{Bytes, NoMemory};
+use gfx_caps::{ClientPdu, write_client};
+use gfx_segment::{MOST_MESSAGE, prefix};
+use std::alloc::Global;
+
+/// A message as it is sent.
+pub fn sent_alone(alloc: Global, pdu: &ClientPdu) -> Result<Bytes, NoMemory>
+    requires spellable { IsSpellable pdu.now }
+    requires short { size pdu.now ≤ MOST_MESSAGE }
+    ensures { IfOk result (λ bytes. bytes ≡ alone pdu.now) }
+{
+    let mut message = Bytes::new(alloc);
+    write_client(pdu, &mut message)?;
+    let mut bytes = Bytes::new(alloc);
+    prefix(message.as_slice(), &mut bytes)?;
+    Ok(bytes)
+}
+
+/// The acknowledgement of a frame behind which so many frames are decoded, as it is sent.
+pub fn acknowledgement(alloc: Global, frame: u32, decoded: u32) -> Result<Bytes, NoMemory>
+    ensures { IfOk result (λ bytes. bytes ≡ acknowledgement frame decoded) }
+{
+    let depth = NOTHING_WAITS;
+    let total = decoded;
+    sent_alone(
+        alloc,
+        &ClientPdu::Ack {
+            depth,
+            frame,
+            total,
+        },
+    )
+}
+
+/// The queueDepth of a client that applies each message before it takes the next.
+const NOTHING_WAITS: u32 = 0;

@@ -1,0 +1,15 @@
+pub mod Lists
+pub mod LeavingPictures
+pub mod LeavingStates
+pub mod LeavingSteps
+pub mod LeavingItems
+pub mod Pieces
+pub mod Flights
+pub mod Items
+pub mod Listening
+pub mod Words
+pub mod Planning
+pub mod Keeping
+pub mod Confirming
+pub mod Turns
+pub mod Rounds

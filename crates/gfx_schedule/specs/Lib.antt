@@ -1,0 +1,10 @@
+pub mod Rising
+pub mod Frames
+pub mod Leaving
+pub mod Pieces
+pub mod ServerEnd
+pub mod Plan
+pub mod Hearing
+pub mod Words
+pub mod World
+pub mod Schedule

@@ -5,7 +5,7 @@ use itoa::Buffer;
 use std::marker::Model;
 
 /// No line is longer, in bytes.
-pub const LINE_ROOM: usize = 128;
+pub const LINE_ROOM: usize = 192;
 
 /// A line of text under way. Contracts see its bytes.
 #[derive(Drop)]

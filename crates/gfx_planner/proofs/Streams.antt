@@ -243,7 +243,7 @@ front_within front rest steps same =
 abbrev pub first_held : Script → Held
 first_held script = held_first (sides_of_all script.pictures) script.small
 
-stands_at_start : (script : Script) → IsAccepted script → Stands script (at_start script.small) (first_held script) (nothing_wanted script.small)
+pub stands_at_start : (script : Script) → IsAccepted script → Stands script (at_start script.small) (first_held script) (nothing_wanted script.small)
 stands_at_start script good = record {
   holds = record {
     drawn = good.pictures;

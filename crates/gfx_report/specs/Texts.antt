@@ -1,4 +1,5 @@
--- The texts that report what surfaces show, as lists of bytes. They are this project's own rule.
+-- The texts that report what surfaces show and which frames were acknowledged, as lists of bytes. They are
+-- this project's own rule.
 use Rattle.std.specs.Prelude.{ℕ, List, [], ◌∷◌, ◌++◌, codes, decimal}
 use Rattle.std.specs.List.{flat_map, range_with_len}
 use Rattle.std.specs.FinMap as finmap
@@ -52,6 +53,12 @@ dump_text surfaces = flat_map (λ entry. surface_text entry.0 entry.1) (finmap.e
 -- the line above the output's rows, as in `output 1024x768`
 unfoldable pub output_line : ℕ → ℕ → List ℕ
 output_line width height = codes "output " ++ (sides_text width height ++ newline)
+
+-- the line of an acknowledged frame: its id, its recorded step, and the digests of the client's and the
+-- server's state right after it, as in `ack 1 step 2 client <64 digits> server <64 digits>`
+unfoldable pub ack_line : ℕ → ℕ → List ℕ → List ℕ → List ℕ
+ack_line frame step client server =
+    codes "ack " ++ (decimal frame ++ (codes " step " ++ (decimal step ++ (codes " client " ++ (encode_lower client ++ (codes " server " ++ (encode_lower server ++ newline)))))))
 
 -- the dump of the output: its line, and its rows
 unfoldable pub output_text : Shown → List ℕ

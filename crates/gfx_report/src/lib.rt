@@ -1,10 +1,11 @@
-//! The texts that report what a client shows: the dump of its surfaces, and that of its output; and the
-//! digest of its state. It reads surfaces and bitmaps and writes to a sink; it never sees the bytes of the
+//! The texts that report what a client shows: the dump of its surfaces, and that of its output; the digest
+//! of its state, and the line of an acknowledged frame, which has two. It reads surfaces and bitmaps and writes to a sink; it never sees the bytes of the
 //! channel, and it takes memory for one row of the output alone.
 //!
 //! It stands on `gfx_surface_map` and `gfx_bitmap_cache`, and the program's commands stand on it.
 #![tactic(auto)]
 
+mod ack;
 mod digits;
 mod fault;
 mod hashing;
@@ -16,6 +17,7 @@ mod state;
 mod surface;
 mod surfaces;
 
+pub use ack::write_ack;
 pub use fault::ReportFault;
 pub use laws::digests_follow_states;
 pub use output::dump_output;

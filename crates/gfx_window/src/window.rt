@@ -108,8 +108,11 @@ impl Window {
     pub fn in_flight(&self) -> usize
         ensures count { result ≡ length self.now.flying }
         ensures few { result ≤ self.now.size }
+        ensures small { result ≤ 255 }
     {
-        self.flying.len()
+        let count = self.flying.len();
+        prove!(count <= usize::from(self.size));
+        count
     }
 
     /// Whether there is room for a frame.

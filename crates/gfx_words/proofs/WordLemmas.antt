@@ -17,7 +17,7 @@ use Rattle.gfx_words.proofs.LongWords.{long_word}
 use Rattle.gfx_words.specs.Laws.{IsNameAlone, IsNameAndFlag, OnlyNameIsCommand, OnlyNamesAreCommands, OnlyRenderAndFlagAreRenderOutput}
 use Rattle.gfx_words.specs.Table.{command_named, output_command, plain_command}
 use Rattle.gfx_words.specs.declared.table.Command.{Command}
-use Rattle.gfx_words.specs.declared.table.Command.TheVariants.{Encode, Render, RenderOutput}
+use Rattle.gfx_words.specs.declared.table.Command.TheVariants.{Encode, Render, RenderOutput, Session}
 
 -- ---- the walk as an answer
 
@@ -378,23 +378,31 @@ abbrev IsPlainName : Command → Text → Type 0
 IsPlainName Encode a = a ≡ codes "encode"
 IsPlainName Render a = a ≡ codes "render"
 IsPlainName RenderOutput a = ⊥
+IsPlainName Session a = a ≡ codes "session"
 
 -- the text is the name that is the command with the flag
 abbrev IsFlagName : Command → Text → Type 0
 IsFlagName Encode a = ⊥
 IsFlagName Render a = ⊥
 IsFlagName RenderOutput a = a ≡ codes "render"
+IsFlagName Session a = ⊥
 
 plain_in_table : (c : Command) (a : Text) → plain_command a ≡ Some c → IsPlainName c a
 unfolding plain_command
 plain_in_table c a is = by_encode (bytes_eq a (codes "encode")) refl is
   where
-    by_render : (b : Bool) → bytes_eq a (codes "render") ≡ b → (if b then Some Render else None) ≡ Some c → IsPlainName c a
+    by_session : (b : Bool) → bytes_eq a (codes "session") ≡ b → (if b then Some Session else None) ≡ Some c → IsPlainName c a
+    by_session true same e = subst (λ k. IsPlainName k a) (same_command Session c e) ((bytes_eq-Decides a (codes "session")).0 same)
+    by_session false same e = absurd (no_answer c e)
+
+    by_render : (b : Bool) → bytes_eq a (codes "render") ≡ b
+        → (if b then Some Render else if bytes_eq a (codes "session") then Some Session else None) ≡ Some c → IsPlainName c a
     by_render true same e = subst (λ k. IsPlainName k a) (same_command Render c e) ((bytes_eq-Decides a (codes "render")).0 same)
-    by_render false same e = absurd (no_answer c e)
+    by_render false same e = by_session (bytes_eq a (codes "session")) refl e
 
     by_encode : (b : Bool) → bytes_eq a (codes "encode") ≡ b
-        → (if b then Some Encode else if bytes_eq a (codes "render") then Some Render else None) ≡ Some c → IsPlainName c a
+        → (if b then Some Encode else if bytes_eq a (codes "render") then Some Render else if bytes_eq a (codes "session") then Some Session else None) ≡ Some c
+        → IsPlainName c a
     by_encode true same e = subst (λ k. IsPlainName k a) (same_command Encode c e) ((bytes_eq-Decides a (codes "encode")).0 same)
     by_encode false same e = by_render (bytes_eq a (codes "render")) refl e
 
@@ -442,7 +450,10 @@ pub only_names_are_commands : OnlyNamesAreCommands
 unfolding clap_on_literals accepted plain_command
 only_names_are_commands = (
   by_name (codes "encode") Encode (λ a is. is) (λ a is. is) (refl, (refl, refl)),
-  by_name (codes "render") Render (λ a is. is) (λ a is. is) (refl, (refl, refl)),
+  (
+    by_name (codes "render") Render (λ a is. is) (λ a is. is) (refl, (refl, refl)),
+    by_name (codes "session") Session (λ a is. is) (λ a is. is) (refl, (refl, refl)),
+  ),
 )
 
 render_output_taken : (words : List Text) → IsNameAndFlag (codes "render") words → accepted words ≡ Some RenderOutput

@@ -3,7 +3,7 @@ use Rattle.std.specs.Prelude.{◌≡◌, ◌⊎◌, ◌↔◌, List, [], ◌∷�
 use Rattle.clap.specs.Words.{Text}
 use Rattle.gfx_words.specs.CommandLine.{accepted}
 use Rattle.gfx_words.specs.declared.table.Command.{Command}
-use Rattle.gfx_words.specs.declared.table.Command.TheVariants.{Encode, Render, RenderOutput}
+use Rattle.gfx_words.specs.declared.table.Command.TheVariants.{Encode, Render, RenderOutput, Session}
 
 -- the words are the name alone, or with the mark `--` before or behind it
 abbrev pub IsNameAlone : Text → List Text → Type 0
@@ -16,7 +16,8 @@ OnlyNameIsCommand name command = (words : List Text) → (accepted words ≡ Som
 
 -- the commands of a name alone, each with its name
 abbrev pub OnlyNamesAreCommands : Type 0
-OnlyNamesAreCommands = OnlyNameIsCommand (codes "encode") Encode × OnlyNameIsCommand (codes "render") Render
+OnlyNamesAreCommands =
+    OnlyNameIsCommand (codes "encode") Encode × (OnlyNameIsCommand (codes "render") Render × OnlyNameIsCommand (codes "session") Session)
 
 -- the words are the name and the flag `--output` in either order, with the mark `--` at most once
 -- and behind the flag

@@ -2,12 +2,13 @@
 use Rattle.std.specs.Prelude.{ℕ, Bool, true, false, List, Option, Some, None, codes, if◌then◌else◌}
 use Rattle.std.specs.Str.{bytes_eq}
 use Rattle.gfx_words.specs.declared.table.Command.{Command}
-use Rattle.gfx_words.specs.declared.table.Command.TheVariants.{Encode, Render, RenderOutput}
+use Rattle.gfx_words.specs.declared.table.Command.TheVariants.{Encode, Render, RenderOutput, Session}
 
 -- the command, of those that are built, that a name alone is
 unfoldable pub plain_command : List ℕ → Option Command
 plain_command name = if bytes_eq name (codes "encode") then Some Encode
-    else if bytes_eq name (codes "render") then Some Render else None
+    else if bytes_eq name (codes "render") then Some Render
+    else if bytes_eq name (codes "session") then Some Session else None
 
 -- the command that a name with the flag `--output` is
 unfoldable pub output_command : List ℕ → Option Command

@@ -15,6 +15,8 @@ pub enum Command {
     Render,
     /// Reads a stream of channel messages and writes the pixels of its output.
     RenderOutput,
+    /// Reads a script, plays its session and writes a line for each acknowledged frame.
+    Session,
 }
 
 /// The command that its name, the number behind it and the flag `--output` make.
@@ -40,6 +42,7 @@ fn plain_command(name: &str) -> Option<Command>
     match name {
         "encode" => Some(Command::Encode),
         "render" => Some(Command::Render),
+        "session" => Some(Command::Session),
         _ => None,
     }
 }

@@ -1,0 +1,65 @@
+-- What a call of a server's end comes to.
+use Rattle.std.proofs.Common.{◌≡◌, ℕ, Bool, true, false, List, [], ◌∷◌, length, map, Ok, refl, sym, ap, ◌∙◌, subst, arith}
+use Rattle.std.proofs.lemmas.List.{length-map}
+use Rattle.gfx_schedule.specs.Hearing.{Heard, listening, hears}
+use Rattle.gfx_schedule.specs.Plan.{InPlan}
+use Rattle.gfx_script.specs.Script.{IsAccepted}
+use Rattle.gfx_script.specs.Scripted.{Script}
+use Rattle.gfx_window.specs.declared.window.Sent.{Sent}
+use Rattle.gfx_session.specs.Kept.{digest_in, own_steps, InStep, IsServerEnd}
+use Rattle.gfx_session.specs.Listening.{Beside}
+use Rattle.gfx_session.specs.Serving.{Takes, Listens, taken_of}
+use Rattle.gfx_session.specs.declared.server_end.ServerEnd.{ServerEnd}
+use Rattle.gfx_session.specs.declared.server_end.listening.Taken.{Taken}
+
+-- what every server's end has stays
+in_step : (script : Script) (old new : ServerEnd) (had has : List Taken) → Beside old new had has → InStep old → InStep new
+in_step script old new had has b i = record {
+  at = record i.at { window = new.window };
+  gone = i.gone;
+  waiting = i.waiting;
+  plan = subst (λ z. InPlan z (own_steps z) (record i.at { window = new.window }) i.gone i.waiting) (sym b.script) (record {
+    cut = i.plan.cut;
+    last = i.plan.last;
+    pending = b.pending ∙ ap (λ z. z.pending) i.window ∙ i.plan.pending;
+    held = i.plan.held;
+    checked = i.plan.checked;
+    holds = i.plan.holds;
+    agrees = i.plan.agrees;
+    frame = i.plan.frame;
+    frames = i.plan.frames;
+  });
+  last = b.last ∙ i.last;
+  window = refl;
+  planned = b.planner ∙ i.planned;
+}
+
+pub keeps : (old new : ServerEnd) (had has : List Taken) → Beside old new had has → IsServerEnd old → IsServerEnd new
+keeps old new had has b i = record {
+  good = subst IsAccepted (sym b.script) i.good;
+  in_step = λ fresh. in_step old.script old new had has b (i.in_step (sym b.spent ∙ fresh));
+}
+
+pub closed_too : (new : ServerEnd) (closed : Bool) → IsServerEnd new → IsServerEnd (record new { closed = closed })
+closed_too new closed i = record {
+  good = i.good;
+  in_step = λ fresh. let s = i.in_step fresh in record { at = s.at; gone = s.gone; waiting = s.waiting; plan = s.plan; last = s.last; window = s.window; planned = s.planned };
+}
+
+-- the count ---------------------------------------------------------------------------------------------------
+
+length-taken_of : (frames : List Sent) (digests : List (List ℕ)) → length digests ≡ length frames → length (taken_of frames digests) ≡ length frames
+length-taken_of [] [] e = refl
+length-taken_of [] (d ∷ digests) e = refl
+length-taken_of (f ∷ frames) [] e = absurd (omega (arith, e))
+length-taken_of (f ∷ frames) (d ∷ digests) e = omega (arith, length-taken_of frames digests (omega (arith, e)))
+
+pub counts : (closed : Bool) (old new : ServerEnd) (before now : List ℕ) (has : List Taken) (piece : List ℕ) (count : ℕ) → count ≡ length has → Listens closed (Ok tt) old new before now [] has piece → Takes closed (Ok count) old new before now piece
+counts true old new before now has piece count is l = absurd (let e = l.0 in cc)
+counts false old new before now has piece count is l = (
+  l.0,
+  (λ at s.
+      let h = l.1 at s in
+      let all : Heard = hears old.script (listening at) piece in
+      (h.0, h.1, h.2, is ∙ ap length h.3 ∙ length-taken_of all.taken (map digest_in all.states) (length-map all.states digest_in ∙ h.4))),
+)

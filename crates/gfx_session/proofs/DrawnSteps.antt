@@ -1,0 +1,125 @@
+-- What the client of a session draws, step by step.
+use Rattle.std.proofs.Common.{◌≡◌, ℕ, ◌<◌, List, [], ◌∷◌, ◌++◌, map, Option, Some, None, Err, refl, sym, ap, ◌∙◌, subst, append_assoc, arith}
+use Rattle.std.proofs.lemmas.List.{append-nil, map-append}
+use Rattle.std.proofs.lemmas.List.Elements.{filter-append}
+use Rattle.std.proofs.lemmas.Grind.{flat_map-append}
+use Rattle.gfx_base.specs.declared.refusal.Refusal.{Refusal}
+use Rattle.gfx_client.specs.Client.{cursor_of, closed_by, Steps, StepsOpen, Ends, MovesBy, Waits}
+use Rattle.gfx_client.specs.Replies.{stepped_of, stepped_by, reply_in, replies}
+use Rattle.gfx_client.specs.Standing.{HasBrought, BringsNext}
+use Rattle.gfx_client.specs.declared.client.Client.{Client}
+use Rattle.gfx_client.specs.declared.fault.ClientFault.{ClientFault}
+use Rattle.gfx_client.specs.declared.fault.ClientFault.TheVariants.{Refused, Memory, ClosedRefused, ClosedMemory}
+use Rattle.gfx_client.specs.declared.stepped.Stepped.{Stepped}
+use Rattle.gfx_client.specs.declared.stepped.Stepped.TheVariants.{Applied, Ended}
+use Rattle.gfx_pdu.specs.declared.pdu.Pdu.{Pdu}
+use Rattle.gfx_pdu.specs.declared.pdu.Pdu.TheVariants.{EndFrame}
+use Rattle.gfx_state.specs.Cursor.{settled, run_at}
+use Rattle.gfx_state.specs.History.{Effect, end_states, ends_frame}
+use Rattle.gfx_state.specs.Run.{Run, refuse}
+use Rattle.gfx_state.specs.State.{State}
+use Rattle.gfx_state.proofs.Moves.{settled_reaches, settled_refuses}
+use Rattle.gfx_state.proofs.Weights.{weight, weight_reaches}
+use Rattle.gfx_session.specs.Kept.{digest_in}
+use Rattle.gfx_session.specs.Turning.{Drew, Draws}
+
+-- a client whose run isn't refused refuses nothing -------------------------------------------------------------
+
+not_refused : (old new : Client) (r : Refusal) → (settled (cursor_of old)).refusal ≡ None → Ends old new r → ⊥
+not_refused old new r good e =
+    let run : settled (cursor_of old) ≡ refuse (run_at e.at) r = sym (settled_reaches (cursor_of old) e.at [] e.reaches) ∙ settled_refuses e.at r e.refuses in
+    let refusal : (settled (cursor_of old)).refusal ≡ Some r = ap (λ (z : Run). z.refusal) run in
+    absurd cc
+
+only_memory : (f : ClientFault) (old new : Client) → (settled (cursor_of old)).refusal ≡ None → StepsOpen (Err f) old new → f ≡ Memory
+only_memory (Refused number r) old new good s = absurd (not_refused old new r good s.0)
+only_memory Memory old new good s = refl
+only_memory (ClosedRefused number r) old new good s = absurd s
+only_memory ClosedMemory old new good s = absurd s
+
+pub memory_alone : (f : ClientFault) (old new : Client) → closed_by old ≡ None → (settled (cursor_of old)).refusal ≡ None → Steps (closed_by old) (Err f) old new → f ≡ Memory
+memory_alone f old new none good s = only_memory f old new good (subst (λ (z : Option ClientFault). Steps z (Err f) old new) none s)
+
+-- what is noted of a step -----------------------------------------------------------------------------------
+
+-- the digest of the state at the end of a frame
+abbrev pub noted_of : Stepped → State → List (List ℕ)
+noted_of (Ended frame reply) state = digest_in state ∷ []
+noted_of other state = []
+
+one_noted : (pdu : Pdu) (size : ℕ) (state : State) → map digest_in (end_states (record { pdu = pdu; size = size; state = state } ∷ [])) ≡ noted_of (stepped_of pdu state.decoded) state
+one_noted (EndFrame frame) size state = refl
+one_noted other size state = refl
+
+more_noted : (xs ys : List Effect) → map digest_in (end_states (xs ++ ys)) ≡ map digest_in (end_states xs) ++ map digest_in (end_states ys)
+more_noted xs ys =
+    ap (λ z. map digest_in (map (λ (e : Effect). e.state) z)) (filter-append (λ (e : Effect). ends_frame e.pdu) xs ys)
+    ∙ ap (map digest_in) (map-append (λ (e : Effect). e.state) _ _)
+    ∙ map-append digest_in (end_states xs) (end_states ys)
+
+more_replies : (all : List Effect) (next : Effect) → replies (all ++ next ∷ []) ≡ replies all ++ reply_in (stepped_by next)
+more_replies all next = flat_map-append (λ (e : Effect). reply_in (stepped_by e)) all (next ∷ []) ∙ ap (λ z. replies all ++ z) (append-nil (reply_in (stepped_by next)))
+
+-- nothing is drawn yet
+pub draws_none : (client : Client) (up : List ℕ) (noted : List (List ℕ)) → Draws client client up up noted noted
+draws_none client up noted = λ bytes all b. record {
+  more = [];
+  brought = subst (HasBrought client bytes) (sym (append-nil all)) b;
+  replied = sym (append-nil up);
+  shown = sym (append-nil noted);
+}
+
+-- one more message
+draws_next : (old new : Client) (said : Stepped) (bytes : List ℕ) (all : List Effect) (up_before up up_now : List ℕ) (noted_before noted noted_now : List (List ℕ)) (d : Drew old bytes all up_before up noted_before noted)
+    → BringsNext new bytes (all ++ d.more) said → up_now ≡ up ++ reply_in said → noted_now ≡ noted ++ noted_of said (cursor_of new).state → Drew new bytes all up_before up_now noted_before noted_now
+draws_next old new said bytes all up_before up up_now noted_before noted noted_now d n replied shown = record {
+  more = d.more ++ n.next ∷ [];
+  brought = subst (HasBrought new bytes) (append_assoc all d.more (n.next ∷ [])) n.brought;
+  replied =
+      replied ∙ ap (λ z. z ++ reply_in said) d.replied ∙ append_assoc up_before (replies d.more) (reply_in said)
+      ∙ ap (λ z. up_before ++ (replies d.more ++ reply_in z)) n.says ∙ ap (λ z. up_before ++ z) (sym (more_replies d.more n.next));
+  shown =
+      let here : noted_of said (cursor_of new).state ≡ map digest_in (end_states (n.next ∷ [])) =
+      (λ i. noted_of (n.says i) (n.state i)) ∙ sym (one_noted n.next.pdu n.next.size n.next.state) in
+      shown ∙ ap (λ z. z ++ noted_of said (cursor_of new).state) d.shown
+      ∙ append_assoc noted_before (map digest_in (end_states d.more)) (noted_of said (cursor_of new).state)
+      ∙ ap (λ z. noted_before ++ (map digest_in (end_states d.more) ++ z)) here
+      ∙ ap (λ z. noted_before ++ z) (sym (more_noted d.more (n.next ∷ [])));
+}
+
+pub draws_applied : (start old new : Client) (up_before up : List ℕ) (noted_before noted : List (List ℕ)) → Draws start old up_before up noted_before noted
+    → ((bytes : List ℕ) (all : List Effect) → HasBrought old bytes all → BringsNext new bytes all Applied) → Draws start new up_before up noted_before noted
+draws_applied start old new up_before up noted_before noted before brings = λ bytes all b.
+    let d = before bytes all b in
+    draws_next old new Applied bytes all up_before up up noted_before noted noted d (brings bytes (all ++ d.more) d.brought) (sym (append-nil up)) (sym (append-nil noted))
+
+pub draws_ended : (start old new : Client) (frame : ℕ) (reply : List ℕ) (up_before up up_now : List ℕ) (noted_before noted noted_now : List (List ℕ)) → Draws start old up_before up noted_before noted
+    → ((bytes : List ℕ) (all : List Effect) → HasBrought old bytes all → BringsNext new bytes all (Ended frame reply))
+    → up_now ≡ up ++ reply → noted_now ≡ noted ++ digest_in (cursor_of new).state ∷ [] → Draws start new up_before up_now noted_before noted_now
+draws_ended start old new frame reply up_before up up_now noted_before noted noted_now before brings replied shown = λ bytes all b.
+    let d = before bytes all b in
+    draws_next old new (Ended frame reply) bytes all up_before up up_now noted_before noted noted_now d (brings bytes (all ++ d.more) d.brought) replied shown
+
+-- it needs more bytes
+pub draws_rest : (start old new : Client) (up_before up : List ℕ) (noted_before noted : List (List ℕ)) → Draws start old up_before up noted_before noted
+    → ((bytes : List ℕ) (all : List Effect) → HasBrought old bytes all → HasBrought new bytes all) → Draws start new up_before up noted_before noted
+draws_rest start old new up_before up noted_before noted before brings = λ bytes all b.
+    let d = before bytes all b in
+    record { more = d.more; brought = brings bytes (all ++ d.more) d.brought; replied = d.replied; shown = d.shown }
+
+-- where a step leaves the client ------------------------------------------------------------------------------
+
+pub record GoesOn (start old new : Client) : Type 0 where
+  pub run : settled (cursor_of new) ≡ settled (cursor_of start)
+  pub not_closed : closed_by new ≡ None
+  pub lighter : weight (cursor_of new) < weight (cursor_of old)
+
+pub goes_on : (start old new : Client) (said : Stepped) → settled (cursor_of old) ≡ settled (cursor_of start) → closed_by old ≡ None → MovesBy old new said → GoesOn start old new
+goes_on start old new said same none m = record {
+  run = settled_reaches (cursor_of old) (cursor_of new) (m.pdu ∷ []) m.moves.reaches ∙ same;
+  not_closed = m.moves.closed ∙ none;
+  lighter = let few = weight_reaches (cursor_of old) (cursor_of new) (m.pdu ∷ []) m.moves.reaches in omega arith;
+}
+
+pub waits_on : (start old new : Client) → settled (cursor_of old) ≡ settled (cursor_of start) → Waits old new → settled (cursor_of new) ≡ settled (cursor_of start)
+waits_on start old new same w = settled_reaches (cursor_of old) (cursor_of new) [] w.moves.reaches ∙ same

@@ -1,0 +1,11 @@
+pub mod Queueing
+pub mod Framing
+pub mod Plans
+pub mod Turning
+pub mod Growing
+pub mod Messages
+pub mod Midway
+pub mod Closing
+pub mod NotedFrames
+pub mod DrawnSteps
+pub mod TurnLemmas

@@ -1,0 +1,139 @@
+-- A server's end that is in step with its script: what may go as a frame, and the start.
+use Rattle.std.proofs.Common.{◌≡◌, ◌+◌, ◌≤◌, ◌<◌, Bool, true, false, ◌&&◌, not, List, [], ◌∷◌, ◌++◌, length, drop, Some, IsSome, Ok, refl, sym, ap, ◌∙◌, subst, append_assoc, arith, length-append}
+use Rattle.std.specs.List.{AllByRecursion}
+use Rattle.std.specs.Option.{option_map}
+use Rattle.std.proofs.Math.Seq.{drop-append_seam}
+use Rattle.std.proofs.lemmas.Bool.{ne_eqb}
+use Rattle.std.proofs.lemmas.List.{map-append, length-map}
+use Rattle.gfx_planner.specs.Joined.{after_frame, JoinsFrame}
+use Rattle.gfx_planner.specs.Planned.{Planned}
+use Rattle.gfx_planner.specs.Want.{want}
+use Rattle.gfx_planner.proofs.Fronts.{own_fit}
+use Rattle.gfx_planner.proofs.Streams.{bare, first_held, stands_at_start}
+use Rattle.gfx_schedule.specs.Leaving.{step_of}
+use Rattle.gfx_schedule.specs.Plan.{InPlan}
+use Rattle.gfx_schedule.specs.ServerEnd.{ServerEnd as EndOfSchedule, server_at_start, numbered, is_none, due}
+use Rattle.gfx_schedule.proofs.Items.{length-numbered, step_at-middle}
+use Rattle.gfx_schedule.proofs.Planning.{Ahead, ahead, joins}
+use Rattle.gfx_script.specs.Checks.{held_through}
+use Rattle.gfx_script.specs.Kinds.{KindedStep, as_kind}
+use Rattle.gfx_script.specs.Script.{IsAccepted, step_at}
+use Rattle.gfx_script.specs.Scripted.{Script}
+use Rattle.gfx_session.specs.Frames.{due_of, MayFrame, can_go}
+use Rattle.gfx_session.specs.Kept.{own_steps, InStep}
+use Rattle.gfx_session.specs.declared.server_end.ServerEnd.{ServerEnd}
+use Rattle.gfx_window.specs.Window.{Window, has_room}
+
+-- tests -----------------------------------------------------------------------------------------------
+
+pub both_true : (a b : Bool) → (a && b) ≡ true → (a ≡ true) × (b ≡ true)
+both_true true true e = (refl, refl)
+both_true true false e = absurd cc
+both_true false b e = absurd cc
+
+pub none_false : (a : Bool) → (a && false) ≡ false
+none_false true = refl
+none_false false = refl
+
+pub not_true : (a : Bool) → not a ≡ true → a ≡ false
+not_true true e = absurd cc
+not_true false e = refl
+
+pub some_is : {X : Type 0} (x : X) (xs : List X) → is_none (x ∷ xs) ≡ false
+some_is x xs = ne_eqb (length (x ∷ xs)) 0 (λ e. omega arith)
+
+pub none_is : {X : Type 0} (xs : List X) → is_none xs ≡ true → xs ≡ []
+none_is [] e = refl
+none_is (x ∷ xs) e = absurd (let some = some_is x xs in cc)
+
+some_wait : {X : Type 0} (xs : List X) → is_none xs ≡ false → 0 < length xs
+some_wait [] e = absurd cc
+some_wait (x ∷ xs) e = omega arith
+
+-- the plan ----------------------------------------------------------------------------------------------
+
+-- what is left is what stands behind the last that was queued
+pub left_is : (script : Script) (kinded : List KindedStep) (at : EndOfSchedule) (gone waiting : List KindedStep) → InPlan script kinded at gone waiting → at.left ≡ drop at.last kinded
+left_is script kinded at gone waiting plan =
+    let cut : kinded ≡ (gone ++ waiting) ++ at.left = plan.cut ∙ sym (append_assoc gone waiting at.left) in
+    let count : at.last ≡ length (gone ++ waiting) = plan.last ∙ sym (length-append gone waiting) in
+    sym (drop-append_seam (gone ++ waiting) at.left) ∙ (λ i. drop (sym count i) (sym cut i))
+
+last_within : (script : Script) (at : EndOfSchedule) (gone waiting : List KindedStep) → InPlan script (own_steps script) at gone waiting → at.last ≤ length script.steps
+last_within script at gone waiting plan =
+    let all : length script.steps ≡ length gone + (length waiting + length at.left) =
+    sym (length-map script.steps _) ∙ ap length plan.cut ∙ length-append gone (waiting ++ at.left) ∙ ap (λ n. length gone + n) (length-append waiting at.left) in
+    omega (arith, plan.last, all)
+
+pub within : (end : ServerEnd) → InStep end → end.last ≤ length end.script.steps
+within end is = subst (λ n. n ≤ length end.script.steps) (sym is.last) (last_within end.script is.at is.gone is.waiting is.plan)
+
+-- each item that waits is a step of the script
+are_steps : (script : Script) (gone waiting left : List KindedStep) → bare (gone ++ (waiting ++ left)) ≡ script.steps → AllByRecursion (λ item. IsSome (step_of script item)) (numbered (length gone + 1) waiting)
+are_steps script gone [] left same = tt
+are_steps script gone (one ∷ more) left same =
+    let cut : script.steps ≡ bare gone ++ one.step ∷ bare (more ++ left) = sym same ∙ map-append (λ (z : KindedStep). z.step) gone (one ∷ (more ++ left)) in
+    let count : length gone ≡ length (bare gone) = sym (length-map gone (λ (z : KindedStep). z.step)) in
+    let there : step_at script.steps (length gone + 1) ≡ Some one.step =
+    ap (λ z. step_at z (length gone + 1)) cut ∙ ap (λ n. step_at (bare gone ++ one.step ∷ bare (more ++ left)) (n + 1)) count ∙ step_at-middle (bare gone) one.step (bare (more ++ left)) in
+    let first : step_of script (record { step = length gone + 1; kind = one.kind }) ≡ Some one = ap (option_map (as_kind one.kind)) there in
+    let longer : length (gone ++ one ∷ []) + 1 ≡ length gone + 1 + 1 = omega (arith, length-append gone (one ∷ [])) in
+    let whole : bare ((gone ++ one ∷ []) ++ (more ++ left)) ≡ script.steps = ap bare (append_assoc gone (one ∷ []) (more ++ left)) ∙ same in (
+      subst IsSome (sym first) refl,
+      subst (λ n. AllByRecursion (λ item. IsSome (step_of script item)) (numbered n more)) longer (are_steps script (gone ++ one ∷ []) more left whole),
+    )
+
+-- what waits may go as a frame
+pub record May (script : Script) (at : EndOfSchedule) (gone waiting : List KindedStep) (plan : InPlan script (own_steps script) at gone waiting) : Type 0 where
+  pub may : MayFrame script at.server at.window
+  pub ahead : Ahead script (own_steps script) at gone waiting plan.held
+  pub joins : JoinsFrame script at.server (due script at) ahead.after (want script (gone ++ waiting))
+  pub some : 0 < length waiting
+
+may_at : (script : Script) (at : EndOfSchedule) (gone waiting : List KindedStep) (plan : InPlan script (own_steps script) at gone waiting) → IsAccepted script → is_none at.window.pending ≡ false → May script at gone waiting plan
+may_at script at gone waiting plan good wait =
+    let fits = own_fit script good in
+    let a = ahead script (own_steps script) at gone waiting good fits plan in
+    let some : 0 < length waiting = omega (arith, some_wait at.window.pending wait, ap length plan.pending, length-numbered (length gone + 1) waiting) in
+    record {
+      may = record {
+        few = omega (arith, plan.frames, a.few, good.few, some);
+        between = plan.frame;
+        there = subst (AllByRecursion (λ item. IsSome (step_of script item))) (sym plan.pending) (are_steps script gone waiting at.left (ap bare (sym plan.cut) ∙ fits.same));
+        may = record { numbers = a.numbers; kinds = a.kinds; held = plan.held; holds = plan.holds; after = a.after; checked = a.checked };
+      };
+      ahead = a;
+      joins = joins script (own_steps script) at gone waiting good fits plan a;
+      some = some;
+    }
+
+-- where a frame can go
+waits : (end : ServerEnd) → can_go end ≡ true → is_none end.window.pending ≡ false
+waits end can =
+    let tests = both_true end.confirmed (not (is_none end.window.pending) && has_room end.window) can in
+    not_true (is_none end.window.pending) (both_true (not (is_none end.window.pending)) (has_room end.window) tests.1).0
+
+pub goes_at : (end : ServerEnd) → IsAccepted end.script → (is : InStep end) → can_go end ≡ true → May end.script is.at is.gone is.waiting is.plan
+goes_at end good is can = may_at end.script is.at is.gone is.waiting is.plan good (ap (λ (w : Window). is_none w.pending) (sym is.window) ∙ waits end can)
+
+pub may_frame : (end : ServerEnd) → IsAccepted end.script → InStep end → can_go end ≡ true → MayFrame end.script end.planner.server end.window
+may_frame end good is can =
+    subst (λ (p : Planned). MayFrame end.script p.server end.window) (sym is.planned)
+    (subst (MayFrame end.script is.at.server) (sym is.window) (goes_at end good is can).may)
+
+-- its frame takes the next id
+pub next_id : (end : ServerEnd) → IsAccepted end.script → InStep end → can_go end ≡ true → (after_frame end.script end.planner.server (due_of end.script end.window)).frames ≡ end.planner.server.frames + 1
+next_id end good is can =
+    subst (λ (p : Planned). (after_frame end.script p.server (due_of end.script end.window)).frames ≡ p.server.frames + 1) (sym is.planned)
+    (subst (λ (w : Window). (after_frame end.script is.at.server (due_of end.script w)).frames ≡ is.at.server.frames + 1) (sym is.window) (goes_at end good is can).joins.frames)
+
+-- the start -------------------------------------------------------------------------------------------------
+
+through_none : (script : Script) → held_through (first_held script) [] ≡ Ok (first_held script)
+unfolding held_through
+through_none script = refl
+
+pub starts : (script : Script) → IsAccepted script → InPlan script (own_steps script) (server_at_start script (own_steps script)) [] []
+starts script good =
+    let start = stands_at_start script good in
+    record { cut = refl; last = refl; pending = refl; held = first_held script; checked = through_none script; holds = start.holds; agrees = start.agrees; frame = refl; frames = omega arith }

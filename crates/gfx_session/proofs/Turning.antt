@@ -1,0 +1,282 @@
+-- A turn of a server's end, against what the schedule says of it.
+use Rattle.std.proofs.Common.{◌≡◌, ℕ, ◌+◌, ◌≤◌, Bool, true, false, ◌&&◌, ◌||◌, not, cond, nat_lt, List, [], ◌∷◌, ◌++◌, length, map, take, drop, is_some, Ok, Err, refl, sym, ap, ◌∙◌, subst, append_assoc, arith, length-append}
+use Rattle.std.proofs.Math.Seq.{drop-append_seam}
+use Rattle.std.proofs.lemmas.Bool.{lt-ltb, le-ltb}
+use Rattle.std.proofs.lemmas.List.{append-nil, map-append, length-map, length-take-le, take-append-drop}
+use Rattle.gfx_base.specs.declared.answer.NoMemory.{NoMemory}
+use Rattle.gfx_planner.specs.Joined.{frame_of, after_frame}
+use Rattle.gfx_planner.specs.Planned.{PutsFront, ready}
+use Rattle.gfx_planner.specs.Wire.{Server}
+use Rattle.gfx_schedule.specs.Plan.{InPlan}
+use Rattle.gfx_schedule.specs.ServerEnd.{ServerEnd as EndOfSchedule, first_frame, behind_frame, numbered, queued, is_none, can_send, due, with_sent, sends, bytes_sent, serves, serving, can_serve, has_served}
+use Rattle.gfx_schedule.specs.declared.turned.Turned.{Turned}
+use Rattle.gfx_schedule.specs.declared.turned.Turned.TheVariants.{Moved, Waiting, Ended}
+use Rattle.gfx_schedule.proofs.Items.{frame_parts}
+use Rattle.gfx_schedule.proofs.Planning.{queues, goes}
+use Rattle.gfx_script.specs.Kinds.{KindedStep, own}
+use Rattle.gfx_script.specs.Script.{IsAccepted}
+use Rattle.gfx_script.specs.Scripted.{Script}
+use Rattle.gfx_segment.specs.Framing.{front, holding}
+use Rattle.gfx_session.specs.Frames.{next_steps, QueuesFrame, due_of, can_go, Flies, frame_due, SendsFrame}
+use Rattle.gfx_session.specs.Kept.{digest_in, own_steps, Stands, InStep, IsServerEnd}
+use Rattle.gfx_session.specs.Serving.{Serves, answers}
+use Rattle.gfx_session.specs.declared.server_end.ServerEnd.{ServerEnd}
+use Rattle.gfx_session.proofs.Plans.{both_true, none_false, some_is, none_is, left_is, within, goes_at, next_id}
+use Rattle.gfx_state.specs.Sending.{sent}
+use Rattle.gfx_window.specs.Window.{Window, has_room, with_pending}
+use Rattle.gfx_window.specs.Window.{sent as with_frame}
+
+-- a frame of the script is queued -----------------------------------------------------------------------------
+
+-- it may be spent meanwhile
+abbrev pub awake : ServerEnd → ServerEnd
+awake end = record end { spent = false }
+
+abbrev pub with_queued : ServerEnd → ℕ → Window → ServerEnd
+with_queued end number window = record end { window = window; last = number; spent = true }
+
+-- nothing else changes then
+record QueuedSame (at now : EndOfSchedule) : Type 0 where
+  server : now.server ≡ at.server
+  ends : now.ends ≡ at.ends
+  confirmed : now.confirmed ≡ at.confirmed
+  stopped : now.stopped ≡ at.stopped
+  heard : now.heard ≡ at.heard
+
+queued_same : (at : EndOfSchedule) → QueuedSame at (queued at)
+unfolding queued
+queued_same at = record { server = refl; ends = refl; confirmed = refl; stopped = refl; heard = refl }
+
+queued_is : (script : Script) (last number : ℕ) (old new : Window) (at : EndOfSchedule) → at.left ≡ drop at.last (own_steps script) → last ≡ at.last → old ≡ at.window → QueuesFrame (Ok number) script last old new
+    → (number ≡ (queued at).last) × (new ≡ (queued at).window)
+unfolding queued
+queued_is script last number old new at left same window q =
+    let first : next_steps script last ≡ first_frame at.left = ap (λ n. first_frame (drop n (own_steps script))) same ∙ ap first_frame (sym left) in (
+      q.0 ∙ (λ i. same i + length (first i)),
+      q.1 ∙ (λ i. with_pending (window i) ((window i).pending ++ numbered (same i + 1) (first i))),
+    )
+
+drop_first : {X : Type 0} (few : ℕ) (all xs ys : List X) → drop few all ≡ xs ++ ys → few ≤ length all → ys ≡ drop (few + length xs) all
+drop_first few all xs ys is within =
+    let front = take few all in
+    let cut : all ≡ (front ++ xs) ++ ys = sym (take-append-drop few all) ∙ ap (λ z. front ++ z) is ∙ sym (append_assoc front xs ys) in
+    let count : length (front ++ xs) ≡ few + length xs = length-append front xs ∙ ap (λ n. n + length xs) (length-take-le few all within) in
+    sym (drop-append_seam (front ++ xs) ys) ∙ (λ i. drop (count i) (sym cut i))
+
+queued_left : (at : EndOfSchedule) (all : List KindedStep) → at.left ≡ drop at.last all → at.last ≤ length all → (queued at).left ≡ drop (queued at).last all
+unfolding queued
+queued_left at all left within = drop_first at.last all (first_frame at.left) (behind_frame at.left) (sym left ∙ sym (frame_parts at.left)) within
+
+queued_flying : (at : EndOfSchedule) → (queued at).window.flying ≡ at.window.flying
+unfolding queued
+queued_flying at = refl
+
+pub queued_stands : (end : ServerEnd) (at : EndOfSchedule) (number : ℕ) (window : Window) → end.last ≤ length end.script.steps → Stands end at → QueuesFrame (Ok number) end.script end.last end.window window
+    → Stands (awake (with_queued end number window)) (queued at)
+queued_stands end at number window few st q =
+    let is = queued_is end.script end.last number end.window window at st.left st.last st.window q in
+    let same = queued_same at in
+    let all : at.last ≤ length (own_steps end.script) = omega (arith, few, st.last, length-map end.script.steps own) in
+    record {
+      fresh = refl;
+      left = queued_left at (own_steps end.script) st.left all;
+      last = is.0;
+      window = is.1;
+      planned = st.planned ∙ ap ready (sym same.server);
+      ends = st.ends ∙ ap (map digest_in) (sym same.ends);
+      confirmed = st.confirmed ∙ sym same.confirmed;
+      closed = st.closed ∙ ap is_some (sym same.stopped);
+      even = ap length same.ends ∙ st.even ∙ ap length (sym (queued_flying at));
+      heard = λ none. st.heard (sym same.stopped ∙ none) ∙ ap holding (sym same.heard);
+      short = λ none. ap front same.heard ∙ st.short (sym same.stopped ∙ none);
+    }
+
+pub queued_in_step : (end : ServerEnd) (number : ℕ) (window : Window) → InStep end → QueuesFrame (Ok number) end.script end.last end.window window → InStep (with_queued end number window)
+queued_in_step end number window is q =
+    let new = queued_is end.script end.last number end.window window is.at (left_is end.script (own_steps end.script) is.at is.gone is.waiting is.plan) is.last is.window q in
+    record {
+      at = queued is.at;
+      gone = is.gone;
+      waiting = is.waiting ++ first_frame is.at.left;
+      plan = queues end.script (own_steps end.script) is.at is.gone is.waiting is.plan;
+      last = new.0;
+      window = new.1;
+      planned = is.planned ∙ ap ready (sym (queued_same is.at).server);
+    }
+
+-- a frame goes --------------------------------------------------------------------------------------------------
+
+can_is : (end : ServerEnd) (at : EndOfSchedule) → Stands (awake end) at → can_go end ≡ can_send at
+can_is end at st = λ i. st.confirmed i && (not (is_none (st.window i).pending) && has_room (st.window i))
+
+sends_is : (script : Script) (at : EndOfSchedule) → can_send at ≡ true → (sends script at ≡ with_sent at (after_frame script at.server (due script at))) × (bytes_sent script at ≡ sent (frame_of script at.server (due script at)))
+unfolding sends bytes_sent
+sends_is script at can =
+    (ap (λ b. cond b (with_sent at (after_frame script at.server (due script at))) at) can, ap (λ b. cond b (sent (frame_of script at.server (due script at))) []) can)
+
+rests_is : (script : Script) (at : EndOfSchedule) → can_send at ≡ false → (sends script at ≡ at) × (bytes_sent script at ≡ [])
+unfolding sends bytes_sent
+rests_is script at can =
+    (ap (λ b. cond b (with_sent at (after_frame script at.server (due script at))) at) can, ap (λ b. cond b (sent (frame_of script at.server (due script at))) []) can)
+
+flown : (mid new : ServerEnd) (at : EndOfSchedule) (server : Server) → Stands (awake mid) at → Flies mid new server → server.frames ≡ mid.planner.server.frames + 1 → Stands (awake new) (with_sent at server)
+unfolding with_sent
+flown mid new at server st flies id = record {
+  fresh = refl;
+  left = st.left ∙ ap (λ (s : Script). drop at.last (own_steps s)) (sym flies.script);
+  last = flies.last ∙ st.last;
+  window = flies.window ∙ (λ i. with_frame (st.window i) (sym id i) (st.last i));
+  planned = flies.planned;
+  ends = flies.ends ∙ ap (λ z. z ++ digest_in server.state ∷ []) st.ends ∙ sym (map-append digest_in at.ends (server.state ∷ []));
+  confirmed = flies.confirmed ∙ st.confirmed;
+  closed = flies.closed ∙ st.closed;
+  even = omega (arith, st.even, length-append at.ends (server.state ∷ []), length-append at.window.flying (record { frame = server.frames; step = at.last } ∷ []));
+  heard = λ none. flies.splitter ∙ st.heard none;
+  short = st.short;
+}
+
+-- what the schedule says of it
+abbrev pub Follows : ServerEnd → ServerEnd → Bool → List ℕ → List ℕ → EndOfSchedule → Type 0
+Follows mid new went before now at = Stands (awake new) (sends mid.script at) × (now ≡ before ++ bytes_sent mid.script at) × (went ≡ can_send at)
+
+follows : (mid new : ServerEnd) (went : Bool) (before now : List ℕ) (at : EndOfSchedule) → IsAccepted mid.script → InStep mid → Stands (awake mid) at → SendsFrame (Ok went) mid new before now → Follows mid new went before now at
+follows mid new true before now at good is st s =
+    let can = sym (can_is mid at st) ∙ s.0 in
+    let due_is = sends_is mid.script at can in
+    let same : after_frame mid.script mid.planner.server (due_of mid.script mid.window) ≡ after_frame mid.script at.server (due mid.script at) = λ i. after_frame mid.script ((st.planned i).server) (due_of mid.script (st.window i)) in
+    let put : frame_due mid ≡ bytes_sent mid.script at = (λ i. sent (frame_of mid.script ((st.planned i).server) (due_of mid.script (st.window i)))) ∙ sym due_is.1 in (
+      subst (Stands (awake new)) (ap (with_sent at) same ∙ sym due_is.0) (flown mid new at _ st s.1 (next_id mid good is s.0)),
+      s.2 ∙ ap (λ z. before ++ z) put,
+      sym can,
+    )
+follows mid new false before now at good is st s =
+    let can = sym (can_is mid at st) ∙ s.0 in
+    let due_is = rests_is mid.script at can in (
+      subst (λ (n : ServerEnd). Stands (awake n) (sends mid.script at)) (sym s.1) (subst (Stands (awake mid)) (sym due_is.0) st),
+      s.2 ∙ sym (append-nil before) ∙ ap (λ z. before ++ z) (sym due_is.1),
+      sym can,
+    )
+
+-- and it stays in step
+stays : (mid new : ServerEnd) (went : Bool) (before now : List ℕ) → IsAccepted mid.script → InStep mid → SendsFrame (Ok went) mid new before now → InStep (awake new)
+unfolding with_sent
+stays mid new true before now good is s =
+    let flies = s.1 in
+    let m = goes_at mid good is s.0 in
+    let server = after_frame mid.script is.at.server (due mid.script is.at) in
+    let same : after_frame mid.script mid.planner.server (due_of mid.script mid.window) ≡ server = λ i. after_frame mid.script ((is.planned i).server) (due_of mid.script (is.window i)) in
+    record {
+      at = with_sent is.at server;
+      gone = is.gone ++ is.waiting;
+      waiting = [];
+      plan = subst (λ (s : Script). InPlan s (own_steps s) (with_sent is.at server) (is.gone ++ is.waiting) []) (sym flies.script)
+          (goes mid.script (own_steps mid.script) is.at is.gone is.waiting is.plan m.ahead m.some m.joins);
+      last = flies.last ∙ is.last;
+      window = flies.window ∙ (λ i. with_frame (is.window i) ((is.planned i).server.frames + 1) (is.last i)) ∙ ap (λ n. with_frame is.at.window n is.at.last) (sym m.joins.frames);
+      planned = flies.planned ∙ ap ready same;
+    }
+stays mid new false before now good is s =
+    subst InStep (sym (ap awake s.1)) record { at = is.at; gone = is.gone; waiting = is.waiting; plan = is.plan; last = is.last; window = is.window; planned = is.planned }
+
+-- the turn --------------------------------------------------------------------------------------------------------
+
+-- all of it was served: a turn changes nothing
+abbrev pub served_now : ServerEnd → Bool
+served_now end = is_none (drop end.last (own_steps end.script)) && (is_none end.window.pending && is_none end.window.flying)
+
+served_is : (end : ServerEnd) (at : EndOfSchedule) → Stands end at → served_now end ≡ has_served at
+served_is end at st = λ i. is_none (left i) && (is_none (st.window i).pending && is_none (st.window i).flying)
+  where
+    left : drop end.last (own_steps end.script) ≡ at.left
+    left = ap (λ n. drop n (own_steps end.script)) st.last ∙ sym st.left
+
+queued_none : (at : EndOfSchedule) → at.left ≡ [] → queued at ≡ at
+unfolding queued
+queued_none at none =
+    let zero_more : at.last + 0 ≡ at.last = omega arith in
+    ap (λ left. record at { left = behind_frame left; last = at.last + length (first_frame left); window = with_pending at.window (at.window.pending ++ numbered (at.last + 1) (first_frame left)) }) none
+    ∙ (λ i. record at { left = sym none i; last = zero_more i; window = with_pending at.window (append-nil at.window.pending i) })
+
+idles : (script : Script) (at : EndOfSchedule) → has_served at ≡ true → (serves script at ≡ at) × (serving script at ≡ [])
+idles script at done =
+    let tests = both_true (is_none at.left) (is_none at.window.pending && is_none at.window.flying) done in
+    let still = queued_none at (none_is at.left tests.0) in
+    let wait = (both_true (is_none at.window.pending) (is_none at.window.flying) tests.1).0 in
+    let can : can_send at ≡ false = ap (λ b. at.confirmed && (not b && has_room at.window)) wait ∙ none_false at.confirmed in
+    let rests = rests_is script at can in
+    (ap (sends script) still ∙ rests.0, ap (bytes_sent script) still ∙ rests.1)
+
+pub ended_turn : (end : ServerEnd) (before : List ℕ) → end.spent ≡ false → served_now end ≡ true → Serves (Ok Ended) end end before before
+ended_turn end before fresh done = (fresh, refl, λ at st. by at st)
+  where
+    by : (at : EndOfSchedule) → Stands end at → Stands end (serves end.script at) × (before ≡ before ++ serving end.script at) × (Ended ≡ answers at)
+    by at st =
+        let served = sym (served_is end at st) ∙ done in
+        let idle = idles end.script at served in (
+          subst (Stands end) (sym idle.0) st,
+          sym (append-nil before) ∙ ap (λ z. before ++ z) (sym idle.1),
+          ap (λ b. cond b Ended (cond (can_serve at) Moved Waiting)) (sym served),
+        )
+
+-- some step was queued where one was left
+some_queued : (left : List KindedStep) (last number : ℕ) → number ≡ last + length (first_frame left) → nat_lt last number ≡ not (is_none left)
+some_queued [] last number is = le-ltb last number (omega (arith, is))
+some_queued (x ∷ xs) last number is = lt-ltb last number (omega (arith, is)) ∙ ap not (sym (some_is x xs))
+
+either_is : (a b : Bool) → (not a || b) ≡ not (a && not b)
+either_is true true = refl
+either_is true false = refl
+either_is false b = refl
+
+-- what is told of a turn that isn't the last
+abbrev pub told : Bool → Bool → Turned
+told some went = cond (some || went) Moved Waiting
+
+pub turn : (end new : ServerEnd) (number : ℕ) (window : Window) (went : Bool) (before now : List ℕ) → IsServerEnd end → end.spent ≡ false → served_now end ≡ false → QueuesFrame (Ok number) end.script end.last end.window window
+    → SendsFrame (Ok went) (with_queued end number window) new before now → new.script ≡ end.script → Serves (Ok (told (nat_lt end.last number) went)) end (awake new) before now
+turn end new number window went before now is fresh more q s kept_script = (fresh, kept_script, λ at st. by at st)
+  where
+    mid : ServerEnd
+    mid = with_queued end number window
+
+    by : (at : EndOfSchedule) → Stands end at → Stands (awake new) (serves end.script at) × (now ≡ before ++ serving end.script at) × (told (nat_lt end.last number) went ≡ answers at)
+    by at st =
+        let steps = is.in_step fresh in
+        let stands = queued_stands end at number window (within end steps) st q in
+        let f = follows mid new went before now (queued at) is.good (queued_in_step end number window steps q) stands s in
+        let left : at.left ≡ drop end.last (own_steps end.script) = st.left ∙ ap (λ n. drop n (own_steps end.script)) (sym st.last) in
+        let some : nat_lt end.last number ≡ not (is_none at.left) = some_queued at.left end.last number (q.0 ∙ ap (λ z. end.last + length (first_frame z)) (sym left)) in
+        let moved : (nat_lt end.last number || went) ≡ can_serve at = (λ i. some i || f.2 i) ∙ either_is (is_none at.left) (can_send (queued at)) in
+        let unserved : has_served at ≡ false = sym (served_is end at st) ∙ more in (
+          f.0,
+          f.1,
+          ap (λ b. cond b Moved Waiting) moved ∙ ap (λ b. cond b Ended (cond (can_serve at) Moved Waiting)) (sym unserved),
+        )
+
+pub turned_is : (end new : ServerEnd) (number : ℕ) (window : Window) (went : Bool) (before now : List ℕ) → IsServerEnd end → end.spent ≡ false → QueuesFrame (Ok number) end.script end.last end.window window
+    → SendsFrame (Ok went) (with_queued end number window) new before now → new.script ≡ end.script → IsServerEnd (awake new)
+turned_is end new number window went before now is fresh q s kept_script = record {
+  good = subst IsAccepted (sym kept_script) is.good;
+  in_step = λ again. stays (with_queued end number window) new went before now is.good (queued_in_step end number window (is.in_step fresh) q) s;
+}
+
+pub same_script : (mid new : ServerEnd) (went : Bool) (before now : List ℕ) → SendsFrame (Ok went) mid new before now → new.script ≡ mid.script
+same_script mid new true before now s = s.1.script
+same_script mid new false before now s = ap (λ (z : ServerEnd). z.script) s.1
+
+-- without memory ------------------------------------------------------------------------------------------------------
+
+-- a front of the frame was
+pub unsent : (end new : ServerEnd) (number : ℕ) (window : Window) (before now : List ℕ) (e f : NoMemory) → IsServerEnd end → end.spent ≡ false → QueuesFrame (Ok number) end.script end.last end.window window
+    → SendsFrame (Err f) (with_queued end number window) new before now → Serves (Err e) end new before now
+unsent end new number window before now e f is fresh q s = (s.2, s.1, λ was. absurd cc, λ at st. by at st)
+  where
+    mid : ServerEnd
+    mid = with_queued end number window
+
+    by : (at : EndOfSchedule) → Stands end at → PutsFront before now (serving end.script at)
+    by at st =
+        let stands = queued_stands end at number window (within end (is.in_step fresh)) st q in
+        let can = sym (can_is mid (queued at) stands) ∙ s.0 in
+        let put : frame_due mid ≡ serving end.script at = (λ i. sent (frame_of end.script ((stands.planned i).server) (due_of end.script (stands.window i)))) ∙ sym (sends_is end.script (queued at) can).1 in
+        subst (PutsFront before now) put s.3

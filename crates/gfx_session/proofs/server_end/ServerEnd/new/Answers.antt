@@ -1,0 +1,44 @@
+use Rattle.std.proofs.Common.{[], ◌∙◌, refl, ap}
+use Rattle.gfx_planner.specs.Planned.{ready}
+use Rattle.gfx_planner.specs.Wire.{at_start}
+use Rattle.gfx_segment.proofs.FrontLemmas.{front-nil}
+use Rattle.gfx_schedule.specs.ServerEnd.{server_at_start}
+use Rattle.gfx_session.specs.Kept.{own_steps}
+use Rattle.gfx_session.proofs.Plans.{starts}
+use Rattle.gfx_session.proofs.server_end.ServerEnd.new.Goals as goal
+use Rattle.gfx_window.specs.Window.{Window}
+
+pub returns-clause-stands : goal.returns-clause-stands
+returns-clause-stands c =
+    let window : Window = record { size = c.window.result; pending = []; flying = [] } in record {
+      fresh = refl;
+      left = refl;
+      last = refl;
+      window = c.new-window.ensures ∙ ap (λ n. record window { size = n }) c.window.ensures;
+      planned = c.in_ok-planner.ensures ∙ ap (λ b. ready (at_start b)) c.small.ensures;
+      ends = c.new-2.ensures.items;
+      even = refl;
+      confirmed = refl;
+      closed = refl;
+      heard = λ none. c.new-3.ensures.exact;
+      short = λ none. front-nil;
+    }
+
+pub returns-clause-is : goal.returns-clause-is
+returns-clause-is c =
+    let window : Window = record { size = c.window.result; pending = []; flying = [] } in (
+      record {
+        good = c.requires;
+        in_step = λ fresh. record {
+          at = server_at_start c.args.script (own_steps c.args.script);
+          gone = [];
+          waiting = [];
+          plan = starts c.args.script c.requires;
+          last = refl;
+          window = c.new-window.ensures ∙ ap (λ n. record window { size = n }) c.window.ensures;
+          planned = c.in_ok-planner.ensures ∙ ap (λ b. ready (at_start b)) c.small.ensures;
+        };
+      },
+      refl,
+      refl,
+    )

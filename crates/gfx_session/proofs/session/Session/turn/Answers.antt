@@ -1,0 +1,5 @@
+use Rattle.gfx_session.proofs.TurnLemmas.{turns_told}
+use Rattle.gfx_session.proofs.session.Session.turn.Goals as goal
+
+pub returns-clause-turns : goal.returns-clause-turns
+returns-clause-turns c = turns_told c.args.self.now c.take_turn.new.self c.args.turn c.has_ended-ended.result c.in_ok-moved.moved c.told.result c.if-self.false c.has_ended-ended.ensures c.in_ok-moved.ensures.does c.told.ensures

@@ -1,0 +1,85 @@
+-- What the parts of a turn of a server's end do.
+use Rattle.std.specs.Prelude.{◌≡◌, ◌<◌, ◌+◌, ℕ, Bool, true, false, ◌&&◌, not, List, [], ◌∷◌, ◌++◌, drop, length, map, None, IsSome, Result, Ok, Err}
+use Rattle.std.specs.List.{AllByRecursion}
+use Rattle.gfx_base.specs.declared.answer.NoMemory.{NoMemory}
+use Rattle.gfx_planner.specs.Agree.{Holds}
+use Rattle.gfx_planner.specs.Joined.{frame_of, after_frame}
+use Rattle.gfx_planner.specs.Planned.{Planned, PutsFront, AllSent, ready}
+use Rattle.gfx_planner.specs.Wire.{Server}
+use Rattle.gfx_planner.specs.declared.planner.TheConstants.{MOST_FRAMES}
+use Rattle.gfx_schedule.specs.Leaving.{kept, step_of, steps_of}
+use Rattle.gfx_schedule.specs.ServerEnd.{first_frame, numbered, is_none}
+use Rattle.gfx_script.specs.Checks.{Held, held_through}
+use Rattle.gfx_script.specs.Kinds.{KindedStep, HasKind}
+use Rattle.gfx_script.specs.Script.{IsStep}
+use Rattle.gfx_script.specs.Scripted.{Script}
+use Rattle.gfx_session.specs.Kept.{digest_in, own_steps}
+use Rattle.gfx_session.specs.declared.server_end.ServerEnd.{ServerEnd}
+use Rattle.gfx_state.specs.Sending.{sent}
+use Rattle.gfx_window.specs.Window.{Window, has_room, with_pending}
+use Rattle.gfx_window.specs.Window.{sent as with_frame}
+
+-- the steps of a script behind this number, up to and including the next of the word `frame`
+abbrev pub next_steps : Script → ℕ → List KindedStep
+next_steps script last = first_frame (drop last (own_steps script))
+
+-- they are queued, and the number of the last of them is answered
+abbrev pub QueuesFrame : Result ℕ NoMemory → Script → ℕ → Window → Window → Type 0
+QueuesFrame (Ok number) script last old new =
+    (number ≡ last + length (next_steps script last)) × (new ≡ with_pending old (old.pending ++ numbered (last + 1) (next_steps script last)))
+QueuesFrame (Err e) script last old new = Unit {0}
+
+-- the steps of a frame of all that waits
+abbrev pub due_of : Script → Window → List KindedStep
+due_of script window = steps_of script (kept script window.pending)
+
+-- steps may be put one after another: their numbers are within their ranges, their kinds are such as they
+-- may go as, and the checks of each hold on what those before it leave of what the server's end has
+pub record MayPut (script : Script) (server : Server) (steps : List KindedStep) : Type 0 where
+  pub numbers : AllByRecursion IsStep (map (λ one. one.step) steps)
+  pub kinds : AllByRecursion HasKind steps
+  pub held : Held
+  pub holds : Holds script held server
+  pub after : Held
+  pub checked : held_through held (map (λ one. one.step) steps) ≡ Ok after
+
+-- a frame of all that waits may be opened, and each item that waits is a step of the script
+pub record MayFrame (script : Script) (server : Server) (window : Window) : Type 0 where
+  pub few : server.frames < MOST_FRAMES
+  pub between : server.state.frame ≡ None
+  pub there : AllByRecursion (λ item. IsSome (step_of script item)) window.pending
+  pub may : MayPut script server (due_of script window)
+
+-- a frame of steps is put out, and its id is answered; or a front of it is
+abbrev pub PutsFrame : Result ℕ NoMemory → Script → List KindedStep → Server → Planned → List ℕ → List ℕ → Type 0
+PutsFrame (Ok frame) script steps server new before now =
+    (frame ≡ server.frames + 1) × AllSent new before now (frame_of script server steps) (after_frame script server steps)
+PutsFrame (Err e) script steps server new before now = PutsFront before now (sent (frame_of script server steps))
+
+-- a frame can go: the version is confirmed, a step waits, and the window has room
+abbrev pub can_go : ServerEnd → Bool
+can_go end = end.confirmed && (not (is_none end.window.pending) && has_room end.window)
+
+-- a frame of all that waited is in flight, and the planner is then this one
+pub record Flies (old new : ServerEnd) (server : Server) : Type 0 where
+  pub script : new.script ≡ old.script
+  pub last : new.last ≡ old.last
+  pub window : new.window ≡ with_frame old.window (old.planner.server.frames + 1) old.last
+  pub planned : new.planner ≡ ready server
+  pub ends : new.ends.items ≡ old.ends.items ++ digest_in server.state ∷ []
+  pub confirmed : new.confirmed ≡ old.confirmed
+  pub closed : new.closed ≡ old.closed
+  pub splitter : new.splitter ≡ old.splitter
+  pub spent : new.spent ≡ old.spent
+
+-- the frame that goes
+abbrev pub frame_due : ServerEnd → List ℕ
+frame_due end = sent (frame_of end.script end.planner.server (due_of end.script end.window))
+
+-- it goes where it can, and whether it did is told; or a front of it is put out
+abbrev pub SendsFrame : Result Bool NoMemory → ServerEnd → ServerEnd → List ℕ → List ℕ → Type 0
+SendsFrame (Ok true) old new before now =
+    (can_go old ≡ true) × Flies old new (after_frame old.script old.planner.server (due_of old.script old.window)) × (now ≡ before ++ frame_due old)
+SendsFrame (Ok false) old new before now = (can_go old ≡ false) × (new ≡ old) × (now ≡ before)
+SendsFrame (Err e) old new before now =
+    (can_go old ≡ true) × (new.script ≡ old.script) × (new.spent ≡ old.spent) × PutsFront before now (frame_due old)

@@ -1,0 +1,51 @@
+-- What the server's end of a session keeps, against what the schedule says of it: past states by their
+-- digests, and of the client's bytes those that aren't a whole message yet.
+use Rattle.std.specs.Prelude.{◌≡◌, ℕ, false, List, drop, length, map, None, is_some}
+use Rattle.gfx_planner.specs.Planned.{ready}
+use Rattle.gfx_report.specs.StateBytes.{digest_of}
+use Rattle.gfx_schedule.specs.Plan.{InPlan}
+use Rattle.gfx_schedule.specs.ServerEnd.{ServerEnd as EndOfSchedule}
+use Rattle.gfx_script.specs.Kinds.{KindedStep, own}
+use Rattle.gfx_script.specs.Script.{IsAccepted}
+use Rattle.gfx_script.specs.Scripted.{Script}
+use Rattle.gfx_segment.specs.Framing.{Short, front, holding}
+use Rattle.gfx_session.specs.declared.server_end.ServerEnd.{ServerEnd}
+use Rattle.gfx_state.specs.State.{State}
+
+-- the digest of a state
+abbrev pub digest_in : State → List ℕ
+digest_in state = digest_of state.shown.surfaces state.cache.slots
+
+-- the steps of a script, each as the kind that it names
+abbrev pub own_steps : Script → List KindedStep
+own_steps script = map own script.steps
+
+-- a server's end that isn't spent stands for one of the schedule's
+pub record Stands (end : ServerEnd) (at : EndOfSchedule) : Type 0 where
+  pub fresh : end.spent ≡ false
+  pub left : at.left ≡ drop at.last (own_steps end.script)
+  pub last : end.last ≡ at.last
+  pub window : end.window ≡ at.window
+  pub planned : end.planner ≡ ready at.server
+  pub ends : end.ends.items ≡ map digest_in at.ends
+  pub even : length at.ends ≡ length at.window.flying
+  pub confirmed : end.confirmed ≡ at.confirmed
+  pub closed : end.closed ≡ is_some at.stopped
+  pub heard : at.stopped ≡ None → end.splitter ≡ holding at.heard
+  pub short : at.stopped ≡ None → front at.heard ≡ Short
+
+-- what the planner of a server's end has is in step with the script
+pub record InStep (end : ServerEnd) : Type 0 where
+  pub at : EndOfSchedule
+  pub gone : List KindedStep
+  pub waiting : List KindedStep
+  pub plan : InPlan end.script (own_steps end.script) at gone waiting
+  pub last : end.last ≡ at.last
+  pub window : end.window ≡ at.window
+  pub planned : end.planner ≡ ready at.server
+
+-- what holds of every server's end that is made, and stays through each of its calls: its script is accepted,
+-- and while it isn't spent it is in step with it
+pub record IsServerEnd (end : ServerEnd) : Type 0 where
+  pub good : IsAccepted end.script
+  pub in_step : end.spent ≡ false → InStep end

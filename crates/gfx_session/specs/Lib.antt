@@ -1,0 +1,6 @@
+pub mod Kept
+pub mod Serving
+pub mod Frames
+pub mod Listening
+pub mod Session
+pub mod Turning

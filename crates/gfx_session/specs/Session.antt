@@ -1,0 +1,58 @@
+-- A session against what the schedule says of it.
+use Rattle.std.specs.Prelude.{◌≡◌, true, false, List, [], ◌∷◌, ◌++◌, map, Result, Ok, Err}
+use Rattle.gfx_base.specs.declared.answer.NoMemory.{NoMemory}
+use Rattle.gfx_client.specs.Standing.{StandsFor, HasBrought, IsDrained}
+use Rattle.gfx_schedule.specs.Schedule.{rounds_for}
+use Rattle.gfx_schedule.specs.World.{World, Acknowledged, world, answer, is_ended, drained}
+use Rattle.gfx_schedule.specs.declared.turned.Turned.{Turned}
+use Rattle.gfx_script.specs.Scripted.{Script}
+use Rattle.gfx_script.specs.declared.turn.Turn.{Turn}
+use Rattle.gfx_session.specs.Kept.{digest_in, own_steps, IsServerEnd}
+use Rattle.gfx_session.specs.Kept as kept
+use Rattle.gfx_session.specs.declared.acked.Acked.{Acked}
+use Rattle.gfx_session.specs.declared.session.Session.{Session}
+use Rattle.gfx_state.specs.History.{history_of}
+
+-- an acknowledgement as it is kept
+abbrev pub acked_of : Acknowledged → Acked
+acked_of ack = record { frame = ack.frame; step = ack.step; client = digest_in ack.client; server = digest_in ack.server }
+
+-- the script of a session
+abbrev pub script_of : Session → Script
+script_of session = session.server.script
+
+-- a session that isn't spent stands for one of the schedule's: its client has taken exactly the bytes that
+-- the other's client has, and has drawn all messages that are whole among them
+pub record Stands (session : Session) (w : World) : Type 0 where
+  pub fresh : session.spent ≡ false
+  pub server : kept.Stands session.server w.server
+  pub client : StandsFor session.client w.taken
+  pub brought : HasBrought session.client w.taken (history_of w.taken)
+  pub drained : IsDrained session.client
+  pub down : session.down ≡ w.down
+  pub up : session.up ≡ w.up
+  pub drawn : session.drawn.items ≡ map digest_in w.drawn
+  pub acks : session.acks ≡ map acked_of w.acks
+
+-- what holds of every session that is made, and stays through each of its calls: while it isn't spent it
+-- stands for that of its script after some turns
+pub record IsSession (session : Session) : Type 0 where
+  pub server : IsServerEnd session.server
+  pub stands : session.spent ≡ false → (turns : List Turn) × Stands session (world (script_of session) (own_steps (script_of session)) turns)
+
+-- what a turn does: that of the schedule, whatever the session stood for. Without memory it is spent
+abbrev pub Turns : Result Turned NoMemory → Session → Session → Turn → Type 0
+Turns (Ok turned) old new turn =
+    (old.spent ≡ false) × (script_of new ≡ script_of old)
+    × ((turns : List Turn) → Stands old (world (script_of old) (own_steps (script_of old)) turns)
+    → Stands new (world (script_of old) (own_steps (script_of old)) (turns ++ turn ∷ [])) × (turned ≡ answer (world (script_of old) (own_steps (script_of old)) turns) turn))
+Turns (Err e) old new turn = (new.spent ≡ true) × (script_of new ≡ script_of old)
+
+-- what draining does: rounds until the session is ended
+abbrev pub Drains : Result (Unit {0}) NoMemory → Session → Session → Type 0
+Drains (Ok done) old new =
+    (old.spent ≡ false) × (script_of new ≡ script_of old)
+    × ((turns : List Turn) → Stands old (world (script_of old) (own_steps (script_of old)) turns)
+    → Stands new (drained (script_of old) (rounds_for (script_of old)) (world (script_of old) (own_steps (script_of old)) turns))
+    × (is_ended (drained (script_of old) (rounds_for (script_of old)) (world (script_of old) (own_steps (script_of old)) turns)) ≡ true))
+Drains (Err e) old new = (new.spent ≡ true) × (script_of new ≡ script_of old)

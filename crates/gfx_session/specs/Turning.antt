@@ -1,0 +1,83 @@
+-- What the parts of a session's turns do: this project's own words.
+use Rattle.std.specs.Prelude.{◌≡◌, ℕ, Bool, true, false, List, [], ◌∷◌, ◌++◌, map, None, Result, Ok, Err}
+use Rattle.gfx_base.specs.declared.answer.NoMemory.{NoMemory}
+use Rattle.gfx_client.specs.Client.{closed_by}
+use Rattle.gfx_client.specs.Replies.{replies}
+use Rattle.gfx_client.specs.Standing.{StandsFor, HasBrought}
+use Rattle.gfx_client.specs.declared.client.Client.{Client}
+use Rattle.gfx_schedule.specs.Hearing.{listening, hears}
+use Rattle.gfx_schedule.specs.ServerEnd.{ServerEnd as EndOfSchedule}
+use Rattle.gfx_schedule.specs.World.{World, world, happens, can_turn, round}
+use Rattle.gfx_schedule.specs.declared.turned.Turned.{Turned}
+use Rattle.gfx_schedule.specs.declared.turned.Turned.TheVariants.{Moved}
+use Rattle.gfx_script.specs.Scripted.{Script}
+use Rattle.gfx_script.specs.declared.turn.Turn.{Turn}
+use Rattle.gfx_state.specs.History.{Effect, end_states}
+use Rattle.gfx_session.specs.Kept.{digest_in, own_steps}
+use Rattle.gfx_session.specs.Kept as kept
+use Rattle.gfx_session.specs.Session.{script_of, Stands}
+use Rattle.gfx_session.specs.declared.acked.Acked.{Acked}
+use Rattle.gfx_session.specs.declared.server_end.ServerEnd.{ServerEnd}
+use Rattle.gfx_session.specs.declared.server_end.listening.Taken.{Taken}
+use Rattle.gfx_session.specs.declared.session.Session.{Session}
+
+-- the session of a script, whose steps go as the kinds that they name, after these turns
+abbrev pub after : Script → List Turn → World
+after script turns = world script (own_steps script) turns
+
+-- what a turn does, whatever the session stood for; the answer is whether it had something to do
+abbrev pub Does : Result Bool NoMemory → Session → Session → Turn → Type 0
+Does (Ok moved) old new turn =
+    (new.spent ≡ false) × (script_of new ≡ script_of old)
+    × ((turns : List Turn) → Stands old (after (script_of old) turns)
+    → Stands new (happens (script_of old) (after (script_of old) turns) turn) × (moved ≡ can_turn (after (script_of old) turns) turn))
+Does (Err e) old new turn = (new.spent ≡ true) × (script_of new ≡ script_of old)
+
+-- the server's end did something in its turn
+abbrev pub has_moved : Turned → Bool
+has_moved Moved = true
+has_moved other = false
+
+-- what a round does
+abbrev pub GoesRound : Result (Unit {0}) NoMemory → Session → Session → Type 0
+GoesRound (Ok done) old new =
+    (new.spent ≡ false) × (script_of new ≡ script_of old)
+    × ((turns : List Turn) → Stands old (after (script_of old) turns)
+    → (more : List Turn) × ((round (script_of old) (after (script_of old) turns) ≡ after (script_of old) more) × Stands new (after (script_of old) more)))
+GoesRound (Err e) old new = (new.spent ≡ true) × (script_of new ≡ script_of old)
+
+-- the client ------------------------------------------------------------------------------------------
+
+-- a client takes bytes
+pub record TakesBytes (old new : Client) (piece : List ℕ) : Type 0 where
+  pub not_closed : closed_by new ≡ None
+  pub stands : (bytes : List ℕ) → StandsFor old bytes → StandsFor new (bytes ++ piece)
+  pub brought : (bytes : List ℕ) (all : List Effect) → StandsFor old bytes → HasBrought old bytes all → HasBrought new (bytes ++ piece) all
+
+-- it has brought these effects about, and then others: what it said of them was put up, and the digests of
+-- its states at the ends of frames were noted
+pub record Drew (client : Client) (bytes : List ℕ) (all : List Effect) (up_before up : List ℕ) (noted_before noted : List (List ℕ)) : Type 0 where
+  pub more : List Effect
+  pub brought : HasBrought client bytes (all ++ more)
+  pub replied : up ≡ up_before ++ replies more
+  pub shown : noted ≡ noted_before ++ map digest_in (end_states more)
+
+-- so of whatever it had brought about
+abbrev pub Draws : Client → Client → List ℕ → List ℕ → List (List ℕ) → List (List ℕ) → Type 0
+Draws old new up_before up noted_before noted =
+    (bytes : List ℕ) (all : List Effect) → HasBrought old bytes all → Drew new bytes all up_before up noted_before noted
+
+-- the server's end ------------------------------------------------------------------------------------
+
+-- a server's end will not refuse these bytes
+pub record WillHear (end : ServerEnd) (piece : List ℕ) : Type 0 where
+  pub at : EndOfSchedule
+  pub stands : kept.Stands end at
+  pub goes_on : at.stopped ≡ None
+  pub will : (hears end.script (listening at) piece).end.stopped ≡ None
+
+-- frames that were acknowledged, with the digests of the client's states right after them
+abbrev pub paired : List Taken → List (List ℕ) → List Acked
+paired (taken ∷ others) (client ∷ clients) =
+    record { frame = taken.frame; step = taken.step; client = client; server = taken.state } ∷ paired others clients
+paired others clients = []

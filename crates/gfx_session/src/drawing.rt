@@ -1,0 +1,83 @@
+//! What the client of a session makes of its bytes.
+ghost use Rattle.std.specs.Prelude.{◌≡◌, ℕ, List, None, Ok, OnOk, IfOk};
+ghost use Rattle.gfx_client.specs.Client.{cursor_of, closed_by, StepsOpen};
+ghost use Rattle.gfx_client.specs.declared.fault.ClientFault.TheVariants.{Memory};
+ghost use Rattle.gfx_client.specs.Standing.{HasBrought, BringsOpen, IsDrained};
+ghost use Rattle.gfx_state.specs.Cursor.{settled};
+ghost use Rattle.gfx_state.specs.History.{Effect};
+ghost use Rattle.gfx_session.specs.Kept.{digest_in};
+ghost use Rattle.gfx_session.specs.Turning.{TakesBytes, Draws};
+
+use crate::queue::Queue;
+use gfx_base::NoMemory;
+use gfx_client::{Client, ClientFault, Stepped};
+use gfx_report::digest;
+use std::collections::VecDeque;
+
+/// The client takes bytes.
+pub fn take_bytes(client: &mut Client, piece: &[u8]) -> Result<(), NoMemory>
+    requires { closed_by client.old ≡ None }
+    ensures { OnOk result (TakesBytes client.old client.new piece.now) }
+{
+    match client.take(piece) {
+        Ok(()) => Ok(()),
+        Err(ClientFault::Memory) => Err(NoMemory),
+        Err(_) => unreachable!(),
+    }
+}
+
+/// The client draws all messages that are whole. What it says of each frame is put up, and the digest of
+/// its state right after the frame is noted.
+pub fn draw_all(
+    client: &mut Client,
+    up: &mut Queue,
+    drawn: &mut VecDeque<[u8; 32]>,
+) -> Result<(), NoMemory>
+    requires open { closed_by client.old ≡ None }
+    requires good { (settled (cursor_of client.old)).refusal ≡ None }
+    ensures run { OnOk result (settled (cursor_of client.new) ≡ settled (cursor_of client.old)) }
+    ensures drained { OnOk result (IsDrained client.new) }
+    ensures draws { OnOk result (Draws client.old client.new up.old up.new drawn.old.items drawn.new.items) }
+{
+    'steps: loop {
+        match next_step(client)? {
+            Stepped::Need => return Ok(()),
+            Stepped::Applied => {}
+            Stepped::Ended { reply, .. } => {
+                up.put(reply)?;
+                let state = digest_of(client);
+                drawn.push_back(state)?;
+            }
+        }
+    }
+}
+
+/// The next step of a client that will not refuse.
+fn next_step(client: &mut Client) -> Result<Stepped, NoMemory>
+    requires open { closed_by client.old ≡ None }
+    requires good { (settled (cursor_of client.old)).refusal ≡ None }
+    ensures steps { IfOk result (λ stepped. StepsOpen (Ok stepped) client.old client.new) }
+    ensures brings { IfOk result (λ stepped. (bytes : List ℕ) (all : List Effect) → HasBrought client.old bytes all → BringsOpen (Ok stepped) client.new bytes all) }
+{
+    match client.step() {
+        Ok(stepped) => Ok(stepped),
+        Err(fault) => Err(only_memory(fault)),
+    }
+}
+
+fn only_memory(fault: ClientFault) -> NoMemory
+    requires { fault ≡ Memory }
+{
+    match fault {
+        ClientFault::Memory => NoMemory,
+        _ => unreachable!(),
+    }
+}
+
+/// The digest of what a client has drawn.
+#[tactic(auto, unfolding(gfx_report::specs::StateBytes::digest_of))]
+fn digest_of(client: &Client) -> [u8; 32]
+    ensures { result ≡ digest_in (cursor_of client.now).state }
+{
+    digest(client.surfaces(), client.cache())
+}

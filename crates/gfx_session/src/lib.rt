@@ -1,0 +1,19 @@
+//! A session: the server's end, which plans a script's steps and joins them into frames, and a client,
+//! joined by two queues of bytes and moved by turns.
+//!
+//! In the pipe it stands above the planner and the window, which make what is sent, the client, which
+//! draws it, and the report, which digests what both have. What a session does is that of `gfx_schedule`,
+//! which has the laws on it: neither end refuses anything, and the ends agree at each acknowledged frame.
+//! Nothing of the past is kept but digests, and no byte that was used.
+#![tactic(auto)]
+
+mod acked;
+mod drawing;
+mod noting;
+mod queue;
+mod server_end;
+mod session;
+
+pub use acked::{Acked, Acks};
+pub use server_end::{ServerEnd, ServerFault};
+pub use session::Session;

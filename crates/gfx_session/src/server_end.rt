@@ -1,0 +1,82 @@
+//! The server's end of a session.
+
+ghost use Rattle.std.specs.Prelude.{◌≡◌, false, IfOk};
+ghost use Rattle.gfx_schedule.specs.ServerEnd.{server_at_start};
+ghost use Rattle.gfx_script.specs.Script.{IsAccepted};
+ghost use Rattle.gfx_session.specs.Kept.{Stands, IsServerEnd, own_steps};
+
+mod listening;
+mod serving;
+
+use gfx_base::{Bytes, NoMemory, Refusal};
+use gfx_planner::Planner;
+use gfx_schedule::Turned;
+use gfx_script::Script;
+use gfx_segment::Splitter;
+use gfx_window::{AckUnknown, Window};
+pub(crate) use listening::Taken;
+use std::alloc::Global;
+use std::collections::VecDeque;
+
+/// Why a server's end takes no more bytes of its client.
+#[derive(Clone, Copy, Debug, PartialEq, Eq)]
+pub enum ServerFault {
+    /// A message is refused: ChannelLength, one of the refusals of a client's message, or CapsVersion where
+    /// no version that is offered can be chosen, or the small cache would be, which the script's own client
+    /// has not.
+    Refused(Refusal),
+    /// An acknowledgement isn't of the oldest frame in flight.
+    Ack(AckUnknown),
+    /// No memory is left.
+    Memory,
+    /// An earlier call answered one of the others.
+    Closed,
+}
+
+/// The server's end: a script whose steps it queues frame by frame, the window, and the planner, whose
+/// state is what it has sent. Of past states it keeps digests, and of its client's bytes those that aren't
+/// a whole message yet.
+#[derive(Drop)]
+pub struct ServerEnd {
+    alloc: Global,
+    script: Script,
+    window: Window,
+    planner: Planner,
+    last: u32,
+    ends: VecDeque<[u8; 32]>,
+    confirmed: bool,
+    splitter: Splitter,
+    spent: bool,
+    closed: bool,
+}
+
+impl ServerEnd {
+    /// A server's end of a script, whose steps go as the kinds that they name. Nothing is queued yet.
+    pub fn new(alloc: Global, script: Script) -> Result<ServerEnd, NoMemory>
+        requires { IsAccepted script }
+        ensures stands { IfOk result (λ end. Stands end (server_at_start script (own_steps script))) }
+        ensures is { IfOk result (λ end. IsServerEnd end × (end.script ≡ script) × (end.closed ≡ false)) }
+    {
+        let planner = Planner::new(alloc, script.small())?;
+        let window = Window::new(alloc, script.window());
+        Ok(ServerEnd {
+            alloc,
+            script,
+            window,
+            planner,
+            last: 0,
+            ends: VecDeque::new(alloc),
+            confirmed: false,
+            splitter: Splitter::new(alloc),
+            spent: false,
+            closed: false,
+        })
+    }
+
+    /// The script.
+    pub fn script(&self) -> &Script
+        ensures { result.now ≡ self.now.script }
+    {
+        &self.script
+    }
+}

@@ -1,0 +1,213 @@
+//! What the server's end makes of its client's messages.
+
+ghost use Rattle.std.specs.Prelude.{◌≡◌, ℕ, ◌++◌, ◌∷◌, [], ◌+◌, ◌≤◌, List, length, false, not, ◌&&◌, OnOk, OnErr};
+ghost use Rattle.gfx_caps.specs.Choice.{choice, has_flag};
+ghost use Rattle.gfx_caps.specs.declared.versions.TheConstants.{SMALL_CACHE};
+ghost use Rattle.gfx_caps.specs.Reading.{client_of};
+ghost use Rattle.gfx_schedule.specs.Hearing.{confirm, confirms, acknowledges, told};
+ghost use Rattle.gfx_state.specs.Sending.{sent};
+ghost use Rattle.gfx_window.specs.Window.{acknowledged};
+ghost use Rattle.gfx_session.specs.declared.server_end.listening.Taken.{Taken};
+ghost use Rattle.gfx_session.specs.Kept.{IsServerEnd};
+ghost use Rattle.gfx_session.specs.Listening.{Beside, Obeys, Hears};
+ghost use Rattle.gfx_session.specs.Serving.{Takes, Listens};
+
+use super::{ServerEnd, ServerFault};
+use gfx_base::{Bytes, Fault, NoMemory, Refusal};
+use gfx_caps::{CapsSets, Chosen, ClientPdu, choose_version, read_client, small_cache};
+use gfx_pdu::{Pdu, write_pdu};
+use gfx_segment::wrap;
+use gfx_window::AckUnknown;
+use std::alloc::{AllocFailed, Global};
+
+/// A frame whose acknowledgement was taken: its recorded step, and the digest of the server's state right
+/// after it.
+#[derive(Clone, Copy, Debug)]
+pub(crate) struct Taken {
+    pub(crate) frame: u32,
+    pub(crate) step: u32,
+    pub(crate) state: [u8; 32],
+}
+
+impl From<NoMemory> for ServerFault {
+    ghost use Rattle.gfx_session.specs.declared.server_end.ServerFault.TheVariants.{Memory};
+
+    ghost from_gives = { λ _ e. e ≡ Memory };
+
+    fn from(_e: NoMemory) -> ServerFault {
+        ServerFault::Memory
+    }
+}
+
+impl<T: Drop> From<AllocFailed<T>> for ServerFault {
+    ghost use Rattle.gfx_session.specs.declared.server_end.ServerFault.TheVariants.{Memory};
+
+    ghost from_gives = { λ _ e. e ≡ Memory };
+
+    fn from(_e: AllocFailed<T>) -> ServerFault {
+        ServerFault::Memory
+    }
+}
+
+impl From<Refusal> for ServerFault {
+    ghost use Rattle.gfx_session.specs.declared.server_end.ServerFault.TheVariants.{Refused};
+
+    ghost from_gives = { λ r e. e ≡ Refused r };
+
+    fn from(refusal: Refusal) -> ServerFault {
+        ServerFault::Refused(refusal)
+    }
+}
+
+impl From<Fault> for ServerFault {
+    ghost use Rattle.gfx_session.specs.Listening.{fault_of};
+
+    ghost from_gives = { λ f e. e ≡ fault_of f };
+
+    fn from(fault: Fault) -> ServerFault {
+        match fault {
+            Fault::Refused(refusal) => ServerFault::Refused(refusal),
+            Fault::Memory => ServerFault::Memory,
+        }
+    }
+}
+
+impl From<AckUnknown> for ServerFault {
+    ghost use Rattle.gfx_session.specs.declared.server_end.ServerFault.TheVariants.{Ack};
+
+    ghost from_gives = { λ u e. e ≡ Ack u };
+
+    fn from(unknown: AckUnknown) -> ServerFault {
+        ServerFault::Ack(unknown)
+    }
+}
+
+impl ServerEnd {
+    /// Takes the next bytes of the client, cut anywhere, and puts out what is answered to them; tells how
+    /// many acknowledgements it took. The first fault closes the server's end, which then takes nothing;
+    /// where memory ran out, no more than a front of what is answered was put out.
+    pub fn take(&mut self, piece: &[u8], out: &mut Bytes) -> Result<u32, ServerFault>
+        ensures takes { Takes self.old.closed result self.old self.new out.old out.new piece.now }
+        ensures is { IsServerEnd self.old → IsServerEnd self.new }
+    {
+        // At most 255, so that the count fits.
+        let most = self.window.in_flight();
+        let mut taken = Vec::new(self.alloc);
+        self.listen(piece, out, &mut taken)?;
+        Ok(taken.len().min(most) as u32)
+    }
+
+    /// The same, and notes the frames whose acknowledgements it took.
+    pub(crate) fn listen(
+        &mut self,
+        piece: &[u8],
+        out: &mut Bytes,
+        taken: &mut Vec<Taken>,
+    ) -> Result<(), ServerFault>
+        ensures listens { Listens self.old.closed result self.old self.new out.old out.new taken.old.items taken.new.items piece.now }
+        ensures is { IsServerEnd self.old → IsServerEnd self.new }
+        ensures few { length taken.new.items + length self.new.window.flying ≤ length taken.old.items + length self.old.window.flying }
+    {
+        if self.closed {
+            return Err(ServerFault::Closed);
+        }
+        match self.hear(piece, out, taken) {
+            Ok(()) => Ok(()),
+            Err(fault) => {
+                self.closed = true;
+                Err(fault)
+            }
+        }
+    }
+
+    /// The same of one that isn't closed, and which isn't closed by it.
+    fn hear(
+        &mut self,
+        piece: &[u8],
+        out: &mut Bytes,
+        taken: &mut Vec<Taken>,
+    ) -> Result<(), ServerFault>
+        requires { self.old.closed ≡ false }
+        ensures hears { Hears result self.old self.new out.old out.new taken.old.items taken.new.items piece.now }
+        ensures beside { Beside self.old self.new taken.old.items taken.new.items }
+        ensures open { self.new.closed ≡ self.old.closed }
+    {
+        self.splitter.feed(piece)?;
+        'messages: loop {
+            let Some(message) = self.splitter.next_raw()? else {
+                return Ok(());
+            };
+            self.obey(message.as_slice(), out, taken)?;
+        }
+    }
+
+    /// Does what a message says.
+    fn obey(
+        &mut self,
+        message: &[u8],
+        out: &mut Bytes,
+        taken: &mut Vec<Taken>,
+    ) -> Result<(), ServerFault>
+        ensures obeys { Obeys result self.old self.new out.old out.new taken.old.items taken.new.items (λ heard. told self.old.script heard (client_of message.now)) }
+        ensures beside { Beside self.old self.new taken.old.items taken.new.items }
+        ensures open { self.new.closed ≡ self.old.closed }
+        ensures held { self.new.splitter ≡ self.old.splitter }
+    {
+        match read_client(self.alloc, message)? {
+            ClientPdu::Advertise { sets } => self.confirm(&sets, out),
+            ClientPdu::Ack { frame, .. } => self.acknowledge(frame, taken),
+        }
+    }
+
+    /// Chooses a version of these sets, and confirms it.
+    fn confirm(&mut self, sets: &CapsSets, out: &mut Bytes) -> Result<(), ServerFault>
+        ensures obeys { (has : List Taken) → Obeys result self.old self.new out.old out.new has has (λ heard. confirms self.old.script heard (choice sets.now)) }
+        ensures beside { (has : List Taken) → Beside self.old self.new has has }
+        ensures open { self.new.closed ≡ self.old.closed }
+        ensures held { self.new.splitter ≡ self.old.splitter }
+    {
+        let chosen = choose_version(sets)?;
+        if self.is_too_small(chosen) {
+            return Err(ServerFault::Refused(Refusal::CapsVersion));
+        }
+        put_confirmation(self.alloc, chosen, out)?;
+        self.confirmed = true;
+        Ok(())
+    }
+
+    /// Whether a version has the small cache, which the script's own client has not.
+    fn is_too_small(&self, chosen: Chosen) -> bool
+        ensures { result ≡ (has_flag chosen.flags SMALL_CACHE && not self.now.script.small) }
+    {
+        small_cache(chosen) && !self.script.small()
+    }
+
+    /// Takes the acknowledgement of a frame.
+    fn acknowledge(&mut self, frame: u32, taken: &mut Vec<Taken>) -> Result<(), ServerFault>
+        ensures obeys { (now : List ℕ) → Obeys result self.old self.new now now taken.old.items taken.new.items
+            (λ heard. acknowledges heard frame (acknowledged heard.end.window heard.end.window.flying frame)) }
+        ensures beside { Beside self.old self.new taken.old.items taken.new.items }
+        ensures open { self.new.closed ≡ self.old.closed }
+        ensures held { self.new.splitter ≡ self.old.splitter }
+    {
+        let step = self.window.acknowledge(frame)?;
+        if let Some(state) = self.ends.pop_front() {
+            taken.push(Taken { frame, step, state })?;
+        }
+        Ok(())
+    }
+}
+
+/// Puts out the confirmation of a version, in a channel message of its own. Without memory nothing is put
+/// out.
+fn put_confirmation(alloc: Global, chosen: Chosen, out: &mut Bytes) -> Result<(), NoMemory>
+    ensures ok { OnOk result (out.new ≡ out.old ++ sent (confirm chosen ∷ [])) }
+    ensures err { OnErr result (out.new ≡ out.old) }
+{
+    let mut payload = Bytes::new(alloc);
+    payload.append(&chosen.flags.to_le_bytes())?;
+    let version = chosen.version;
+    let mut message = Bytes::new(alloc);
+    write_pdu(&Pdu::CapsConfirm { version, payload }, &mut message)?;
+    wrap(message.as_slice(), out)
+}

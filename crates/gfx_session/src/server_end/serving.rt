@@ -1,0 +1,131 @@
+//! A turn of the server's end.
+ghost use Rattle.std.specs.Prelude.{◌≡◌, ◌≤◌, ◌+◌, ◌&&◌, ◌||◌, if◌then◌else◌, true, false, drop, length};
+ghost use Rattle.gfx_schedule.specs.ServerEnd.{is_none};
+ghost use Rattle.gfx_schedule.specs.declared.turned.Turned.TheVariants.{Moved, Waiting};
+ghost use Rattle.gfx_script.specs.declared.TheConstants.{MOST_STEPS};
+ghost use Rattle.gfx_session.specs.Frames.{QueuesFrame, MayFrame, PutsFrame, SendsFrame, due_of, can_go};
+ghost use Rattle.gfx_session.specs.Kept.{IsServerEnd, own_steps};
+ghost use Rattle.gfx_session.specs.Serving.{Serves};
+
+use super::ServerEnd;
+use gfx_base::{Bytes, NoMemory};
+use gfx_planner::Planner;
+use gfx_report::digest;
+use gfx_schedule::Turned;
+use gfx_script::Script;
+use gfx_window::{Queued, Window};
+
+impl ServerEnd {
+    /// A turn: the next frame of the script is queued, where one is left, and then all that waits goes as
+    /// one frame, where the client's version is confirmed and the window has room. Ended is told first,
+    /// Waiting where neither was possible. Without memory the server's end is spent, and answers that from
+    /// then on.
+    pub fn serve(&mut self, out: &mut Bytes) -> Result<Turned, NoMemory>
+        requires { IsServerEnd self.old }
+        ensures serves { Serves result self.old self.new out.old out.new }
+        ensures is { IsServerEnd self.new }
+    {
+        if self.spent {
+            return Err(NoMemory);
+        }
+        if self.has_served() {
+            return Ok(Turned::Ended);
+        }
+        self.spent = true;
+        let last = queue_frame(&self.script, self.last, &mut self.window)?;
+        let queued = last > self.last;
+        self.last = last;
+        let sent = self.send_frame(out)?;
+        self.spent = false;
+        Ok(turned(queued, sent))
+    }
+
+    /// Whether all of the script was queued, sent and acknowledged.
+    pub(crate) fn has_served(&self) -> bool
+        requires within { self.now.last ≤ length self.now.script.steps }
+        requires few { length self.now.script.steps ≤ MOST_STEPS }
+        ensures { result ≡ (is_none (drop self.now.last (own_steps self.now.script)) && (is_none self.now.window.pending && is_none self.now.window.flying)) }
+    {
+        self.script.step(self.last + 1).is_none()
+            && self.window.due() == 0
+            && self.window.in_flight() == 0
+    }
+
+    /// Whether a frame can go.
+    fn can_send(&self) -> bool
+        ensures { result ≡ can_go self.now }
+    {
+        self.confirmed && self.window.due() != 0 && self.window.can_send()
+    }
+
+    /// Sends all that waits as one frame, where a frame can go, and tells whether one went.
+    fn send_frame(&mut self, out: &mut Bytes) -> Result<bool, NoMemory>
+        requires fresh { self.old.planner.spent ≡ false }
+        requires may { can_go self.old ≡ true → MayFrame self.old.script self.old.planner.server self.old.window }
+        ensures { SendsFrame result self.old self.new out.old out.new }
+    {
+        if !self.can_send() {
+            return Ok(false);
+        }
+        let frame = put_frame(&self.script, &self.window, &mut self.planner, out)?;
+        self.window.send(frame, self.last)?;
+        self.ends
+            .push_back(digest(self.planner.surfaces(), self.planner.cache()))?;
+        Ok(true)
+    }
+}
+
+/// What a turn is told as that isn't the last.
+fn turned(queued: bool, sent: bool) -> Turned
+    ensures { result ≡ (if queued || sent then Moved else Waiting) }
+{
+    if queued | sent {
+        Turned::Moved
+    } else {
+        Turned::Waiting
+    }
+}
+
+/// Queues the steps behind this number, up to the next of the word `frame`, and answers the number of the
+/// last of them.
+fn queue_frame(script: &Script, last: u32, window: &mut Window) -> Result<u32, NoMemory>
+    requires within { last ≤ length script.now.steps }
+    requires few { length script.now.steps ≤ MOST_STEPS }
+    ensures { QueuesFrame result script.now last window.old window.new }
+{
+    let mut number = last;
+    'steps: while let Some(step) = script.step(number + 1) {
+        number += 1;
+        window.queue(Queued {
+            step: number,
+            kind: step.kind(),
+        })?;
+        if step.is_frame() {
+            break;
+        }
+    }
+    Ok(number)
+}
+
+/// Puts out a frame of all that waits without what a later step covers, and answers its id.
+fn put_frame(
+    script: &Script,
+    window: &Window,
+    planner: &mut Planner,
+    out: &mut Bytes,
+) -> Result<u32, NoMemory>
+    requires fresh { planner.old.spent ≡ false }
+    requires may { MayFrame script.now planner.old.server window.now }
+    ensures { PutsFrame result script.now (due_of script.now window.now) planner.old.server planner.new out.old out.new }
+{
+    let frame = planner.open_frame(out)?;
+    'places: for place in 0..window.due() {
+        if window.superseded(script, place) {
+            continue;
+        }
+        let item = window.item(place);
+        planner.put(script, item.step, item.kind, out)?;
+    }
+    planner.close_frame(out)?;
+    Ok(frame)
+}

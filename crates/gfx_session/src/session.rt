@@ -1,0 +1,245 @@
+//! Both ends of a session.
+
+ghost use Rattle.std.specs.Prelude.{◌≡◌, ℕ, List, [], ◌++◌, ◌≤◌, length, IfOk, OnOk, false, if◌then◌else◌};
+ghost use Rattle.gfx_schedule.specs.World.{World, begin, is_ended};
+ghost use Rattle.gfx_schedule.specs.Schedule.{rounds_for};
+ghost use Rattle.gfx_schedule.specs.declared.turned.Turned.TheVariants.{Moved, Waiting, Ended};
+ghost use Rattle.gfx_script.specs.Script.{IsAccepted};
+ghost use Rattle.gfx_script.specs.declared.TheConstants.{MOST_STEPS};
+ghost use Rattle.gfx_script.specs.declared.turn.Turn.TheVariants.{Server, Client as ToClient, Answer};
+ghost use Rattle.gfx_session.specs.Kept.{own_steps};
+ghost use Rattle.gfx_session.specs.Session.{Stands, IsSession, Turns, Drains, script_of};
+ghost use Rattle.gfx_session.specs.Turning.{Does, GoesRound, has_moved};
+
+use crate::acked::Acks;
+use crate::drawing::{draw_all, take_bytes};
+use crate::noting::{hear_bytes, note_all};
+use crate::queue::Queue;
+use crate::server_end::ServerEnd;
+use gfx_base::{Bytes, NoMemory};
+use gfx_client::{Client, Offers};
+use gfx_schedule::{Turned, rounds_end};
+use gfx_script::{Script, Turn};
+use std::alloc::Global;
+use std::collections::VecDeque;
+
+/// A session: the server's end of a script, a client that offers what the script says, and the bytes in
+/// flight between the two.
+#[derive(Drop)]
+pub struct Session {
+    alloc: Global,
+    server: ServerEnd,
+    client: Client,
+    down: Queue,
+    up: Queue,
+    drawn: VecDeque<[u8; 32]>,
+    acks: Acks,
+    spent: bool,
+}
+
+impl Session {
+    /// The session of a script, whose steps go as the kinds that they name: the client has said which
+    /// versions it offers.
+    pub fn new(alloc: Global, script: Script) -> Result<Session, NoMemory>
+        requires { IsAccepted script }
+        ensures stands { IfOk result (λ session. Stands session (begin script (own_steps script))) }
+        ensures is { IfOk result (λ session. IsSession session × (script_of session ≡ script)) }
+    {
+        let mut offers = Offers::new(alloc);
+        offers.append(script.offers().as_slice())?;
+        let client = Client::new(alloc, offers)?;
+        let mut up = Queue::new(alloc);
+        up.put(client.hello()?)?;
+        let server = ServerEnd::new(alloc, script)?;
+        Ok(Session {
+            alloc,
+            server,
+            client,
+            down: Queue::new(alloc),
+            up,
+            drawn: VecDeque::new(alloc),
+            acks: Acks::new(alloc),
+            spent: false,
+        })
+    }
+
+    /// One turn. Ended is told where nothing was left to do before it. Without memory the session is
+    /// spent, and answers that from then on.
+    pub fn turn(&mut self, turn: Turn) -> Result<Turned, NoMemory>
+        requires { IsSession self.old }
+        ensures turns { Turns result self.old self.new turn }
+        ensures is { IsSession self.new }
+    {
+        if self.spent {
+            return Err(NoMemory);
+        }
+        let ended = self.has_ended();
+        let moved = self.take_turn(turn)?;
+        Ok(told(ended, moved))
+    }
+
+    /// Rounds until the session is ended: the server's end has a turn, and then all bytes are taken both
+    /// ways.
+    pub fn drain(&mut self) -> Result<(), NoMemory>
+        requires { IsSession self.old }
+        ensures drains { Drains result self.old self.new }
+        ensures is { IsSession self.new }
+    {
+        if self.spent {
+            return Err(NoMemory);
+        }
+        rounds_end();
+        let most = most_rounds(self.script());
+        'rounds: for _ in 0..most {
+            if self.has_ended() {
+                return Ok(());
+            }
+            self.round()?;
+        }
+        Ok(())
+    }
+
+    /// The frames that were acknowledged, in order, with the digests of both ends.
+    pub fn acks(&self) -> &Acks
+        ensures { result.now ≡ self.now.acks }
+    {
+        &self.acks
+    }
+
+    pub fn script(&self) -> &Script
+        ensures { result.now ≡ script_of self.now }
+    {
+        self.server.script()
+    }
+
+    pub fn client(&self) -> &Client
+        ensures { result.now ≡ self.now.client }
+    {
+        &self.client
+    }
+
+    /// Whether all was queued, sent and acknowledged, and no byte is in flight.
+    fn has_ended(&self) -> bool
+        requires is { IsSession self.now }
+        requires fresh { self.now.spent ≡ false }
+        ensures { (w : World) → Stands self.now w → result ≡ is_ended w }
+    {
+        self.server.has_served() && (self.down.is_empty() && self.up.is_empty())
+    }
+
+    fn round(&mut self) -> Result<(), NoMemory>
+        requires is { IsSession self.old }
+        requires fresh { self.old.spent ≡ false }
+        ensures goes { GoesRound result self.old self.new }
+        ensures is { IsSession self.new }
+    {
+        self.serve()?;
+        let coming = self.down.len();
+        self.draw(coming)?;
+        let coming = self.up.len();
+        self.hear(coming)?;
+        Ok(())
+    }
+
+    fn take_turn(&mut self, turn: Turn) -> Result<bool, NoMemory>
+        requires is { IsSession self.old }
+        requires fresh { self.old.spent ≡ false }
+        ensures does { Does result self.old self.new turn }
+        ensures is { IsSession self.new }
+    {
+        match turn {
+            Turn::Server => self.serve(),
+            Turn::Client(most) => self.draw(most as usize),
+            Turn::Answer(most) => self.hear(most as usize),
+        }
+    }
+
+    /// The server's end queues and sends.
+    fn serve(&mut self) -> Result<bool, NoMemory>
+        requires is { IsSession self.old }
+        requires fresh { self.old.spent ≡ false }
+        ensures does { Does result self.old self.new Server }
+        ensures is { IsSession self.new }
+    {
+        self.spent = true;
+        let mut out = Bytes::new(self.alloc);
+        let served = self.server.serve(&mut out)?;
+        self.down.put(out)?;
+        self.spent = false;
+        Ok(has_moved(served))
+    }
+
+    /// The client takes at most so many bytes, and draws and acknowledges what is whole then.
+    fn draw(&mut self, most: usize) -> Result<bool, NoMemory>
+        requires is { IsSession self.old }
+        requires fresh { self.old.spent ≡ false }
+        ensures does { Does result self.old self.new (ToClient most) }
+        ensures is { IsSession self.new }
+    {
+        self.spent = true;
+        let moved = !self.down.is_empty();
+        let piece = self.down.front(most);
+        let count = piece.len();
+        take_bytes(&mut self.client, piece)?;
+        draw_all(&mut self.client, &mut self.up, &mut self.drawn)?;
+        self.down.pass(count)?;
+        self.spent = false;
+        Ok(moved)
+    }
+
+    /// The server's end takes at most so many bytes of the client.
+    fn hear(&mut self, most: usize) -> Result<bool, NoMemory>
+        requires is { IsSession self.old }
+        requires fresh { self.old.spent ≡ false }
+        ensures does { Does result self.old self.new (Answer most) }
+        ensures is { IsSession self.new }
+    {
+        self.spent = true;
+        let moved = !self.up.is_empty();
+        let piece = self.up.front(most);
+        let count = piece.len();
+        let mut out = Bytes::new(self.alloc);
+        let mut taken = Vec::new(self.alloc);
+        hear_bytes(&mut self.server, piece, &mut out, &mut taken)?;
+        self.up.pass(count)?;
+        self.down.put(out)?;
+        note_all(taken.as_slice(), &mut self.drawn, &mut self.acks)?;
+        self.spent = false;
+        Ok(moved)
+    }
+}
+
+/// What is told of a turn.
+fn told(ended: bool, moved: bool) -> Turned
+    ensures { result ≡ (if ended then Ended else (if moved then Moved else Waiting)) }
+{
+    if ended {
+        Turned::Ended
+    } else if moved {
+        Turned::Moved
+    } else {
+        Turned::Waiting
+    }
+}
+
+/// Whether the server's end did something in its turn.
+fn has_moved(turned: Turned) -> bool
+    ensures { result ≡ has_moved turned }
+{
+    match turned {
+        Turned::Moved => true,
+        _ => false,
+    }
+}
+
+/// How many rounds end the session of a script.
+fn most_rounds(script: &Script) -> u32
+    requires { length script.now.steps ≤ MOST_STEPS }
+    ensures { result ≡ rounds_for script.now }
+{
+    let mut count = 0;
+    'steps: while script.step(count + 1).is_some() {
+        count += 1;
+    }
+    count + 4
+}

@@ -4,7 +4,7 @@
 #
 #     tests/by-hand.sh PROGRAM [REFERENCE [SEEDS]]
 #
-# REFERENCE has the same `render` and `encode`. It prints a stream of its own for `--random-stream SEED
+# REFERENCE has the same `render`, `encode` and `session`. It prints a stream of its own for `--random-stream SEED
 # WORDS`, a script for `--random SEED WORDS`, and one with a fault for `--random-fault SEED WORDS`, where
 # WORDS are the steps that may occur. 100 SEEDS are taken where none are named. Each case is a line, `ok` or `FAILED`; the exit number is 1
 # where one failed.
@@ -218,6 +218,15 @@ if [ -n "$reference" ]; then
             beside whole "$seed" encode
         done
         report "$seeds scripts beside the reference, $kind" "" "$different"
+    done
+    for kind in random random-fault; do
+        different=
+        for seed in $(seq "$seeds"); do
+            # shellcheck disable=SC2086
+            "$reference" "--$kind" "$seed" $built turns > "$work/input"
+            beside whole "$seed" session
+        done
+        report "$seeds sessions beside the reference, $kind" "" "$different"
     done
 fi
 

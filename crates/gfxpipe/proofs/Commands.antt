@@ -1,6 +1,6 @@
 -- What the parts of `render` come to, and a command of which nothing was begun.
 use Rattle.std.proofs.Common.{◌≡◌, ℕ, List, [], Option, Some, None, Result, Ok, Err, refl, sym, ap, ◌∙◌, subst, arith}
-use Rattle.gfx_base.specs.Stream.{Change, change, Gains, GainsPart, FailsAfter, Keeps}
+use Rattle.gfx_base.specs.Stream.{Change, change, Gains, FailsAfter}
 use Rattle.gfx_base.proofs.Streams.{Gained_none, Gains_none, Keeps_same}
 use Rattle.gfx_client.specs.declared.client.Client.{Client}
 use Rattle.gfx_client.specs.declared.fault.ClientFault.{ClientFault}
@@ -12,21 +12,25 @@ use Rattle.gfx_input.specs.declared.reading.Read.{Read}
 use Rattle.gfx_input.specs.declared.reading.Read.TheVariants as read
 use Rattle.gfx_input.specs.Reading.{rest_of, Reads, input_of, EndsBy, ReadsInput}
 use Rattle.gfx_input.proofs.Pieces.{Tells_rest}
-use Rattle.gfx_state.specs.Run.{Run, begun, run_of}
+use Rattle.gfx_session.specs.declared.session.Session.{Session}
+use Rattle.gfx_state.specs.Run.{Run, begun}
 use Rattle.gfx_state.specs.State.{State}
 use Rattle.gfx_state.proofs.Runs.{eats-nil}
 use Rattle.gfx_surface_map.specs.Shown.{Shown}
 use Rattle.gfx_words.specs.declared.table.Command.{Command}
 use Rattle.gfx_words.specs.declared.table.Command.TheVariants.{Render, RenderOutput, Encode}
+use Rattle.gfx_words.specs.declared.table.Command.TheVariants as command
 use Rattle.gfxpipe.specs.declared.ending.Ending.{Ending}
 use Rattle.gfxpipe.specs.declared.ending.Ending.TheVariants.{Usage}
+use Rattle.gfxpipe.specs.declared.outcome.Outcome.{Outcome}
 use Rattle.gfxpipe.specs.declared.recording.Player.{Player}
 use Rattle.gfxpipe.specs.declared.render.Dump.{Dump}
 use Rattle.gfxpipe.specs.declared.trouble.Trouble.{Trouble}
 use Rattle.gfxpipe.specs.declared.trouble.Trouble.TheVariants as trouble
-use Rattle.gfxpipe.specs.Did.{IsNotRefused, IsFine, IsReadWhole, WritesOn, Did, Renders, trouble_of}
+use Rattle.gfxpipe.specs.Did.{IsNotRefused, IsFine, IsReadWhole, WritesOn, Did, Answers, Renders, trouble_of}
 use Rattle.gfxpipe.specs.Due.{shown, played}
 use Rattle.gfxpipe.specs.Dump.{dump_of, Prints}
+use Rattle.gfxpipe.specs.Outcome.{ended_of, session_of}
 use Rattle.gfxpipe.specs.Recording.{ending_by}
 use Rattle.gfxpipe.specs.Run.{Limits, limit_of, Executes}
 use Rattle.gfxpipe.proofs.Recordings.{Plays, Refuses, told, tells}
@@ -38,6 +42,7 @@ fine_none : (command : Command) → IsFine command []
 fine_none Render = ap (λ (z : Run). z.refusal) (eats-nil begun)
 fine_none RenderOutput = ap (λ (z : Run). z.refusal) (eats-nil begun)
 fine_none Encode = tt
+fine_none command.Session = tt
 
 reads_none : (command : Command) (limit n : ℕ) (left : Option (List ℕ)) → Reads (IsFine command) limit (change n n left left)
 reads_none command limit n left = record { taken = []; few = omega arith; told = Tells_rest left; early = fine_none command }
@@ -47,29 +52,37 @@ pub writes_none : (command : Command) (m : ℕ) (held : Option (List ℕ)) (text
 writes_none Render m held text = Gains_none m held
 writes_none RenderOutput m held text = Gains_none m held
 writes_none Encode m held text = (refl, record { sent = []; rest = text; cut = refl; gained = Gained_none held })
+writes_none command.Session m held text = Gains_none m held
 
 -- no memory is left before anything is read
 pub not_begun : (command : Command) (limit n m : ℕ) (left held : Option (List ℕ)) → Did (Err trouble.Memory) command limit (change n n left left) (change m m held held)
 not_begun command limit n m left held = (reads_none command limit n left, (refl, writes_none command m held _))
 
-pub memory_first : (command : Option Command) (bounds : Limits) (n m : ℕ) (left held : Option (List ℕ)) → Executes (Err trouble.Memory) command bounds (change n n left left) (change m m held held)
-memory_first None bounds n m left held = record { count = refl; left = Keeps_same left; gains = Gains_none m held }
-memory_first (Some command) bounds n m left held = not_begun command (limit_of bounds command) n m left held
+-- where no memory is left there is no session
+none_answered : (command : Command) (t : Trouble) (bytes : List ℕ) → Answers command (Err t) None bytes
+none_answered Render t bytes = refl
+none_answered RenderOutput t bytes = refl
+none_answered Encode t bytes = refl
+none_answered command.Session t bytes = refl
+
+pub memory_first : (command : Option Command) (bounds : Limits) (n m : ℕ) (left held : Option (List ℕ)) → Executes (Err trouble.Memory) None command bounds (change n n left left) (change m m held held)
+memory_first None bounds n m left held = (record { count = refl; left = Keeps_same left; gains = Gains_none m held }, refl)
+memory_first (Some command) bounds n m left held = (not_begun command (limit_of bounds command) n m left held, none_answered command trouble.Memory _)
 
 -- the words are no command
-pub usage : (bounds : Limits) (n m : ℕ) (left held : Option (List ℕ)) → Executes (Ok Usage) None bounds (change n n left left) (change m m held held)
-usage bounds n m left held = record { count = refl; left = Keeps_same left; gains = Gains_none m held }
+pub usage : (bounds : Limits) (n m : ℕ) (left held : Option (List ℕ)) → Executes (Ok Usage) None None bounds (change n n left left) (change m m held held)
+usage bounds n m left held = (record { count = refl; left = Keeps_same left; gains = Gains_none m held }, refl)
 
 -- the words are another spelling of the same command
-pub by_words : (ended : Result Ending Trouble) (a b : Option Command) (bounds : Limits) (i o : Change) → a ≡ b → Executes ended a bounds i o → Executes ended b bounds i o
-by_words ended a b bounds i o same done = subst (λ (z : Option Command). Executes ended z bounds i o) same done
+pub by_words : (ended : Result Ending Trouble) (answered : Option Session) (a b : Option Command) (bounds : Limits) (i o : Change) → a ≡ b → Executes ended answered a bounds i o
+    → Executes ended answered b bounds i o
+by_words ended answered a b bounds i o same done = subst (λ (z : Option Command). Executes ended answered z bounds i o) same done
 
--- the input could not be read ----------------------------------------------------------------------------
-
-pub not_read : {S : Type 0} (stands stops : S → List ℕ → Type 0) (f : InputFault) (command : Command) (limit m : ℕ) (i : Change) (held : Option (List ℕ)) (taker : S) → ReadsInput stands stops (IsFine command) (Err f) limit i taker
-    → Did (Err (trouble_of f)) command limit i (change m m held held)
-not_read stands stops input.Failed command limit m i held taker (reads, falls, rose) = (reads, (falls, rose, Gains_none m held))
-not_read stands stops input.Memory command limit m i held taker (reads, count) = (reads, (count, writes_none command m held _))
+-- and the outcome has no session
+pub alone : (outcome : Result Outcome Trouble) (ended : Result Ending Trouble) (a b : Option Command) (bounds : Limits) (i o : Change) → a ≡ b → ended_of outcome ≡ ended → session_of outcome ≡ None
+    → Executes ended None a bounds i o → Executes (ended_of outcome) (session_of outcome) b bounds i o
+alone outcome ended a b bounds i o same is none done =
+    by_words (ended_of outcome) (session_of outcome) a b bounds i o same (subst (λ (z : Result Ending Trouble). Executes z (session_of outcome) a bounds i o) (sym is) (subst (λ (z : Option Session). Executes ended z a bounds i o) (sym none) done))
 
 -- a recording ----------------------------------------------------------------------------------------------
 

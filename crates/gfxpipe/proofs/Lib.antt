@@ -1,6 +1,9 @@
 pub mod Recordings
 pub mod Commands
+pub mod ReadingScripts
 pub mod Encoding
+pub mod Sessions
+pub mod Agreeing
 pub mod Planning
 pub mod Shown
 pub mod Numbers

@@ -20,7 +20,7 @@ use Rattle.gfx_script.specs.Scripted.{Script}
 use Rattle.gfx_script.specs.declared.step.Step.{Step}
 use Rattle.gfx_state.specs.Sending.{sent}
 use Rattle.gfx_state.proofs.Sent.{sent-append}
-use Rattle.gfxpipe.specs.Due.{own_steps}
+use Rattle.gfx_session.specs.Kept.{own_steps}
 use Rattle.gfxpipe.specs.Stream.{Plans, steps_before}
 
 slice_get-own : (steps : List Step) (n : ℕ) → slice_get (map own steps) n ≡ option_map own (slice_get steps n)

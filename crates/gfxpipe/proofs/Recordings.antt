@@ -1,5 +1,5 @@
 -- What playing a recording comes to, against what is due.
-use Rattle.std.proofs.Common.{◌≡◌, ℕ, ◌+◌, ◌-◌, ◌≤◌, ◌<◌, ◌==◌, nat_le, Bool, true, false, cond, if◌then◌else◌, List, [], ◌++◌, length, take, Option, Some, None, is_some, inl, inr, refl, sym, ap, ◌∙◌, subst, arith}
+use Rattle.std.proofs.Common.{◌≡◌, ℕ, ◌+◌, ◌-◌, ◌≤◌, ◌<◌, ◌==◌, true, false, cond, List, ◌++◌, length, take, Option, Some, None, is_some, inl, inr, refl, sym, ap, ◌∙◌, subst, arith}
 use Rattle.std.proofs.lemmas.Bool.{cases_lt, le-leb, lt-leb}
 use Rattle.std.proofs.Math.Seq.{take-append-add}
 use Rattle.gfx_base.specs.declared.refusal.Refusal.{Refusal}
@@ -17,7 +17,7 @@ use Rattle.gfx_state.proofs.Runs.{eats-append, eats_refused, stays}
 use Rattle.gfxpipe.specs.declared.ending.Ending.{Ending}
 use Rattle.gfxpipe.specs.declared.ending.Ending.TheVariants.{Done, TooLong, Refused}
 use Rattle.gfxpipe.specs.declared.recording.Player.{Player}
-use Rattle.gfxpipe.specs.Due.{is_within, played, last_of, ending_of}
+use Rattle.gfxpipe.specs.Due.{played, last_of, ending_of}
 use Rattle.gfxpipe.specs.Recording.{HasPlayed, HasRefused, ending_by}
 use Rattle.gfxpipe.specs.Fronts.{run_there}
 

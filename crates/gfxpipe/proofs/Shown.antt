@@ -9,10 +9,10 @@ use Rattle.gfx_script_text.proofs.Accepted.{accepted}
 use Rattle.gfx_state.specs.Run.{Run, end}
 use Rattle.gfx_state.specs.Sending.{standing}
 use Rattle.gfx_state.specs.State.{State}
-use Rattle.gfxpipe.specs.Due.{Due, own_steps, played, last_of, ending_of}
+use Rattle.gfx_session.specs.Kept.{own_steps}
+use Rattle.gfxpipe.specs.Due.{played, last_of, ending_of}
 use Rattle.gfxpipe.specs.Dump.{dump_of}
-use Rattle.gfxpipe.specs.Laws.{EncodeThenRender, wanted_text}
-use Rattle.gfxpipe.specs.declared.ending.Ending.TheVariants.{Done}
+use Rattle.gfxpipe.specs.Laws.{EncodeThenRender}
 use Rattle.gfx_planner.proofs.Fronts.{own_fit}
 use Rattle.gfxpipe.proofs.Recordings.{played_short, last_short}
 

@@ -1,12 +1,12 @@
 -- What is due of the input of a command: the text that is written, and how the run ends. This project's
 -- own rule.
-use Rattle.std.specs.Prelude.{ℕ, List, [], length, take, Bool, nat_le, if◌then◌else◌, Option, Some, None, Result, Ok, Err, map}
+use Rattle.std.specs.Prelude.{ℕ, List, [], length, take, Bool, nat_le, if◌then◌else◌, Option, Some, None, Result, Ok, Err}
 use Rattle.gfx_base.specs.Memory.{next_count}
 use Rattle.gfx_base.specs.declared.refusal.Refusal.{Refusal}
 use Rattle.gfx_planner.specs.Stream.{stream_of}
-use Rattle.gfx_script.specs.Kinds.{KindedStep, own}
 use Rattle.gfx_script.specs.Scripted.{Script}
 use Rattle.gfx_script_text.specs.Text.{Wrong, script_of}
+use Rattle.gfx_session.specs.Kept.{own_steps}
 use Rattle.gfx_state.specs.Run.{Run, run_of, end}
 use Rattle.gfx_surface_map.specs.Shown.{Shown}
 use Rattle.gfx_words.specs.declared.table.Command.{Command}
@@ -15,6 +15,7 @@ use Rattle.gfxpipe.specs.declared.ending.Ending.{Ending}
 use Rattle.gfxpipe.specs.declared.ending.Ending.TheVariants.{Done, TooLong, Refused, Faulty}
 use Rattle.gfxpipe.specs.declared.render.Dump.TheVariants.{Surfaces, Output}
 use Rattle.gfxpipe.specs.Dump.{dump_of}
+use Rattle.gfxpipe.specs.Sessions.{session_text}
 
 pub record Due : Type 0 where
   pub text : List ℕ
@@ -44,20 +45,27 @@ shown text limit bytes = record {
   ending = ending_of (played limit bytes).refusal (played limit bytes).applied (last_of limit bytes);
 }
 
--- the steps of a script, each as the kind that it names
-abbrev pub own_steps : Script → List KindedStep
-own_steps script = map own script.steps
+-- a script that is accepted, or how a run ends whose script isn't
+abbrev pub accepted_or : Result Script Wrong → Result Script Ending
+accepted_or (Ok script) = Ok script
+accepted_or (Err wrong) = Err (Faulty wrong.step wrong.kind)
 
--- the stream of a script; none of one that isn't accepted
-abbrev pub encoded_by : Result Script Wrong → Due
-encoded_by (Ok script) = record { text = stream_of script (own_steps script); ending = Done }
-encoded_by (Err wrong) = record { text = []; ending = Faulty wrong.step wrong.kind }
+-- what an input is found to be that is to be a script
+unfoldable pub found_in : ℕ → List ℕ → Result Script Ending
+found_in limit bytes = if is_within limit bytes then accepted_or (script_of bytes) else Err TooLong
 
-unfoldable pub encoded : ℕ → List ℕ → Due
-encoded limit bytes = if is_within limit bytes then encoded_by (script_of bytes) else record { text = []; ending = TooLong }
+-- what is due of it, where this text is due of a script
+abbrev pub scripted : (Script → List ℕ) → Result Script Ending → Due
+scripted text (Ok script) = record { text = text script; ending = Done }
+scripted text (Err ending) = record { text = []; ending = ending }
+
+-- the stream of a script, each step as the kind that it names
+abbrev pub stream_text : Script → List ℕ
+stream_text script = stream_of script (own_steps script)
 
 -- what is due of a command's input, of which so many bytes at most are taken
 abbrev pub due : Command → ℕ → List ℕ → Due
 due command.Render limit bytes = shown (dump_of Surfaces) limit bytes
 due command.RenderOutput limit bytes = shown (dump_of Output) limit bytes
-due command.Encode limit bytes = encoded limit bytes
+due command.Encode limit bytes = scripted stream_text (found_in limit bytes)
+due command.Session limit bytes = scripted session_text (found_in limit bytes)

@@ -3,7 +3,7 @@ use Rattle.std.specs.Prelude.{◌≡◌, ℕ, List, codes, Result, Ok, Err, ◌�
 use Rattle.gfx_base.specs.Stream.{Change, Gains, FailsAfter}
 use Rattle.gfx_base.specs.declared.answer.Failed.{Failed}
 use Rattle.gfxpipe.specs.declared.status.Status.{Status}
-use Rattle.gfxpipe.specs.declared.status.Status.TheVariants.{Done, Refused, Usage, ReadFault, WriteFault, NoMemory}
+use Rattle.gfxpipe.specs.declared.status.Status.TheVariants.{WriteFault}
 
 -- the status once the output is flushed
 abbrev pub flushed_status : Status → Result (Unit {0}) Failed → Status

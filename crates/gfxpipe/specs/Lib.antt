@@ -1,10 +1,13 @@
 pub mod Dump
+pub mod Sessions
 pub mod Due
 pub mod Did
 pub mod Recording
 pub mod Fronts
+pub mod Scripts
 pub mod Stream
 pub mod Ending
+pub mod Outcome
 pub mod Flushed
 pub mod Run
 pub mod Laws

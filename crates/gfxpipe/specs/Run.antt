@@ -1,14 +1,15 @@
 -- What a run of the program does: this project's own rule.
-use Rattle.std.specs.Prelude.{◌≡◌, ℕ, List, [], Option, Some, None, Result, Ok, Err}
+use Rattle.std.specs.Prelude.{◌≡◌, ℕ, [], Option, Some, None, Result, Ok, Err}
 use Rattle.gfx_base.specs.Stream.{Change, Gains, Keeps}
+use Rattle.gfx_session.specs.declared.session.Session.{Session}
 use Rattle.gfx_words.specs.declared.table.Command.{Command}
-use Rattle.gfx_words.specs.declared.table.Command.TheVariants.{Render, RenderOutput, Encode}
+use Rattle.gfx_words.specs.declared.table.Command.TheVariants as command
 use Rattle.gfxpipe.specs.declared.ending.Ending.{Ending}
 use Rattle.gfxpipe.specs.declared.ending.Ending.TheVariants.{Usage}
-use Rattle.gfxpipe.specs.declared.status.Status.{Status}
+use Rattle.gfxpipe.specs.declared.program.Ran.{Ran}
 use Rattle.gfxpipe.specs.declared.trouble.Trouble.{Trouble}
 use Rattle.gfxpipe.specs.declared.trouble.Trouble.TheVariants as trouble
-use Rattle.gfxpipe.specs.Did.{NoFault, Did}
+use Rattle.gfxpipe.specs.Did.{NoFault, DidAnswer}
 use Rattle.gfxpipe.specs.Ending.{Closes}
 
 -- no input is read further than one byte past its limit: that of a recording, that of a script
@@ -20,9 +21,10 @@ abbrev pub limits : ℕ → ℕ → Limits
 limits stream script = record { stream = stream; script = script }
 
 abbrev pub limit_of : Limits → Command → ℕ
-limit_of limits Render = limits.stream
-limit_of limits RenderOutput = limits.stream
-limit_of limits Encode = limits.script
+limit_of limits command.Render = limits.stream
+limit_of limits command.RenderOutput = limits.stream
+limit_of limits command.Encode = limits.script
+limit_of limits command.Session = limits.script
 
 -- nothing is read, and nothing is written
 pub record IsUntouched (i o : Change) : Type 0 where
@@ -36,13 +38,13 @@ Refuses (Ok Usage) i o = IsUntouched i o
 Refuses (Err trouble.Memory) i o = IsUntouched i o
 Refuses ended i o = ⊥
 
--- how the command of the words ended
-abbrev pub Executes : Result Ending Trouble → Option Command → Limits → Change → Change → Type 0
-Executes ended None limits i o = Refuses ended i o
-Executes ended (Some command) limits i o = Did ended command (limit_of limits command) i o
+-- how the command of the words ended, and what session was answered
+abbrev pub Executes : Result Ending Trouble → Option Session → Option Command → Limits → Change → Change → Type 0
+Executes ended answered None limits i o = Refuses ended i o × (answered ≡ None)
+Executes ended answered (Some command) limits i o = DidAnswer ended answered command (limit_of limits command) i o
 
--- what a run did: how its command ended, and what it said of that
-pub record Runs (answer : Status) (command : Option Command) (limits : Limits) (i o e : Change) : Type 0 where
+-- what a run did: how its command ended, what session it answered, and what it said of the ending
+pub record Runs (answer : Ran) (command : Option Command) (limits : Limits) (i o e : Change) : Type 0 where
   pub ended : Result Ending Trouble
-  pub executes : Executes ended command limits i o
-  pub closes : Closes answer ended e
+  pub executes : Executes ended answer.session command limits i o
+  pub closes : Closes answer.status ended e

@@ -6,18 +6,9 @@ use Rattle.gfx_planner.specs.Planned.{Planned, ready}
 use Rattle.gfx_planner.specs.Stream.{end_after, stream_of}
 use Rattle.gfx_script.specs.Kinds.{KindedStep}
 use Rattle.gfx_script.specs.Scripted.{Script}
-use Rattle.gfx_script_text.specs.declared.error.ScriptError.{ScriptError}
-use Rattle.gfx_script_text.specs.declared.error.ScriptError.TheVariants.{Fault, Memory}
-use Rattle.gfxpipe.specs.Due.{own_steps}
-use Rattle.gfxpipe.specs.declared.ending.Ending.{Ending}
-use Rattle.gfxpipe.specs.declared.ending.Ending.TheVariants.{Faulty}
+use Rattle.gfx_session.specs.Kept.{own_steps}
 use Rattle.gfxpipe.specs.declared.trouble.Trouble.{Trouble}
 use Rattle.gfxpipe.specs.declared.trouble.Trouble.TheVariants as trouble
-
--- what a script comes to that isn't read
-abbrev pub unread : ScriptError → Result Ending Trouble
-unread (Fault step kind) = Ok (Faulty step kind)
-unread Memory = Err trouble.Memory
 
 -- what writing a stream answers
 abbrev pub WritesStream : Result (Unit {0}) Trouble → Change → List ℕ → Type 0

@@ -3,23 +3,28 @@
 //! It stands on the command line and on both ends of the channel, which it joins to the outside. For
 //! `render` the bytes of a recording are given to a client piece by piece, and what the client then
 //! holds is printed. For `encode` a script is read whole, and its stream is written frame by frame.
+//! For `session` a script is read whole, both ends of its session are played, and a line is written for
+//! each acknowledged frame.
 #![tactic(auto)]
 
 mod encode;
 mod ending;
 mod flushed;
 mod laws;
+mod outcome;
 mod program;
 mod recording;
 mod render;
+mod script;
+mod session;
 mod status;
 mod stream;
 mod trouble;
 
 pub use ending::Ending;
 pub use flushed::say_flushed;
-pub use laws::render_shows_what_encode_wrote;
-pub use program::{SCRIPT_LIMIT, STREAM_LIMIT, run};
+pub use laws::{every_line_has_equal_digests, render_shows_what_encode_wrote};
+pub use program::{Ran, SCRIPT_LIMIT, STREAM_LIMIT, run};
 pub use render::Dump;
 pub use status::Status;
 pub use trouble::Trouble;

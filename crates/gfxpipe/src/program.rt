@@ -2,14 +2,18 @@
 ghost use Rattle.std.specs.Prelude.{◌<◌, ◌^◌, map};
 ghost use Rattle.gfx_base.specs.Stream.{change};
 ghost use Rattle.gfx_words.specs.CommandLine.{accepted};
+ghost use Rattle.gfxpipe.specs.Outcome.{ended_of, session_of};
 ghost use Rattle.gfxpipe.specs.Run.{Executes, Runs, limits};
 
 use crate::encode::encode;
 use crate::ending::{Ending, close};
+use crate::outcome::{Outcome, alone, parted};
 use crate::render::{Dump, render};
+use crate::session::session;
 use crate::status::Status;
 use crate::trouble::Trouble;
 use gfx_base::{Sink, Source};
+use gfx_session::Session;
 use gfx_words::{Command, command_of};
 use std::alloc::Global;
 
@@ -19,6 +23,15 @@ pub const STREAM_LIMIT: usize = 1_073_741_824;
 /// No script is read further than one byte past this. This project's own rule.
 pub const SCRIPT_LIMIT: usize = 67_108_864;
 
+/// What a run has come to.
+#[derive(Drop)]
+pub struct Ran {
+    /// How it ended.
+    pub status: Status,
+    /// The session whose lines were written. It is there exactly where the command is `session` and is done.
+    pub session: Option<Session>,
+}
+
 /// Runs the program: the words are those behind its name, `out` gains what the command prints, and
 /// `err` a line of how it ended where it is not done.
 pub fn run<I: Source, O: Sink, E: Sink>(
@@ -27,14 +40,16 @@ pub fn run<I: Source, O: Sink, E: Sink>(
     input: &mut I,
     out: &mut O,
     err: &mut E,
-) -> Status
+) -> Ran
     ensures { Runs result (accepted (map (λ word. word.now) words.now)) (limits STREAM_LIMIT SCRIPT_LIMIT)
         (change (I.faults input.old) (I.faults input.new) (I.left input.old) (I.left input.new))
         (change (O.faults out.old) (O.faults out.new) (O.held out.old) (O.held out.new))
         (change (E.faults err.old) (E.faults err.new) (E.held err.old) (E.held err.new)) }
 {
-    let ended = execute(alloc, words, STREAM_LIMIT, SCRIPT_LIMIT, input, out);
-    close(&ended, err)
+    let outcome = execute(alloc, words, STREAM_LIMIT, SCRIPT_LIMIT, input, out);
+    let (ended, session) = parted(outcome);
+    let status = close(&ended, err);
+    Ran { status, session }
 }
 
 /// Finds the command of the words and carries it out, within the limits on a recording and on a script.
@@ -45,18 +60,19 @@ fn execute<I: Source, O: Sink>(
     script: usize,
     input: &mut I,
     out: &mut O,
-) -> Result<Ending, Trouble>
+) -> Result<Outcome, Trouble>
     requires stream { stream < 2 ^ 63 }
     requires script { script < 2 ^ 63 }
-    ensures { Executes result (accepted (map (λ word. word.now) words.now)) (limits stream script)
+    ensures { Executes (ended_of result) (session_of result) (accepted (map (λ word. word.now) words.now)) (limits stream script)
         (change (I.faults input.old) (I.faults input.new) (I.left input.old) (I.left input.new))
         (change (O.faults out.old) (O.faults out.new) (O.held out.old) (O.held out.new)) }
 {
     match command_of(alloc, words) {
-        Ok(Some(Command::Render)) => render(alloc, Dump::Surfaces, stream, input, out),
-        Ok(Some(Command::RenderOutput)) => render(alloc, Dump::Output, stream, input, out),
-        Ok(Some(Command::Encode)) => encode(alloc, script, input, out),
-        Ok(None) => Ok(Ending::Usage),
+        Ok(Some(Command::Render)) => alone(render(alloc, Dump::Surfaces, stream, input, out)),
+        Ok(Some(Command::RenderOutput)) => alone(render(alloc, Dump::Output, stream, input, out)),
+        Ok(Some(Command::Encode)) => alone(encode(alloc, script, input, out)),
+        Ok(Some(Command::Session)) => session(alloc, script, input, out),
+        Ok(None) => alone(Ok(Ending::Usage)),
         Err(_) => Err(Trouble::Memory),
     }
 }

@@ -4,7 +4,7 @@ ghost use Rattle.gfx_base.specs.Stream.{change};
 ghost use Rattle.gfx_planner.specs.Planned.{ready};
 ghost use Rattle.gfx_planner.specs.Stream.{end_after, stream_of};
 ghost use Rattle.gfx_script.specs.Script.{IsAccepted};
-ghost use Rattle.gfxpipe.specs.Due.{own_steps};
+ghost use Rattle.gfx_session.specs.Kept.{own_steps};
 ghost use Rattle.gfxpipe.specs.Stream.{WritesStream, PlansFrame, steps_before};
 
 use crate::trouble::Trouble;

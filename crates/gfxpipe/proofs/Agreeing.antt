@@ -1,0 +1,61 @@
+-- Each line of `session` has equal digests.
+use Rattle.std.proofs.Common.{◌≡◌, ℕ, zero, suc, Bool, true, false, cond, List, [], ◌∷◌, ◌++◌, length, refl, sym, ap, ◌∙◌, subst}
+use Rattle.std.specs.List.{AllByRecursion}
+use Rattle.std.proofs.lemmas.List.Sums.{fold-append}
+use Rattle.gfx_planner.proofs.Fronts.{own_fit}
+use Rattle.gfx_report.specs.StateBytes.{Slots, digest_of}
+use Rattle.gfx_schedule.specs.Schedule.{IsShown, KeepsWorld, rounds_for}
+use Rattle.gfx_schedule.specs.World.{World, Acknowledged, begin, happens, world, round, drained, is_ended}
+use Rattle.gfx_schedule.proofs.Turns.{every_schedule}
+use Rattle.gfx_script.specs.Kinds.{KindedStep}
+use Rattle.gfx_script.specs.Scripted.{Script}
+use Rattle.gfx_script.specs.declared.turn.Turn.{Turn}
+use Rattle.gfx_script.specs.declared.turn.Turn.TheVariants.{Server, Client, Answer}
+use Rattle.gfx_script_text.proofs.Accepted.{accepted}
+use Rattle.gfx_session.specs.Kept.{own_steps}
+use Rattle.gfx_surface_map.specs.Surfaces.{Surfaces}
+use Rattle.gfxpipe.specs.Laws.{EveryLineHasEqualDigests, HasEqualDigests}
+use Rattle.gfxpipe.specs.Sessions.{whole_session}
+
+-- a round is three turns
+record AreTurns (script : Script) (kinded : List KindedStep) (w : World) : Type 0 where
+  pub turns : List Turn
+  pub is : w ≡ world script kinded turns
+
+round_is : (script : Script) (kinded : List KindedStep) (turns : List Turn) → AreTurns script kinded (round script (world script kinded turns))
+unfolding round
+round_is script kinded turns =
+    let sent = happens script (world script kinded turns) Server in
+    let drawn = happens script sent (Client (length sent.down)) in
+    let more = Server ∷ Client (length sent.down) ∷ Answer (length drawn.up) ∷ [] in
+    record { turns = turns ++ more; is = sym (fold-append (happens script) (begin script kinded) turns more) }
+
+-- so what is drained has taken some turns
+drained_is : (script : Script) (kinded : List KindedStep) (most : ℕ) (turns : List Turn) → AreTurns script kinded (drained script most (world script kinded turns))
+drained_is script kinded zero turns = record { turns = turns; is = refl }
+drained_is script kinded (suc most) turns =
+    let further = round_is script kinded turns in
+    by (is_ended (world script kinded turns)) (subst (λ w. AreTurns script kinded (drained script most w)) (sym further.is) (drained_is script kinded most further.turns))
+  where
+    by : (b : Bool) → AreTurns script kinded (drained script most (round script (world script kinded turns)))
+        → AreTurns script kinded (cond b (world script kinded turns) (drained script most (round script (world script kinded turns))))
+    by true rest = record { turns = turns; is = refl }
+    by false rest = rest
+
+-- states that are the same have equal digests
+equal_digests : (surfaces others : Surfaces) (slots more : Slots) → surfaces ≡ others → slots ≡ more → digest_of others more ≡ digest_of surfaces slots
+equal_digests surfaces others slots more s t = sym (ap (λ z. digest_of z slots) s ∙ ap (digest_of others) t)
+
+equal_each : (script : Script) (kinded : List KindedStep) (acks : List Acknowledged) → AllByRecursion (IsShown script kinded) acks → AllByRecursion HasEqualDigests acks
+equal_each script kinded [] all = tt
+equal_each script kinded (ack ∷ acks) (shown, all) =
+    (equal_digests ack.server.shown.surfaces ack.client.shown.surfaces ack.server.cache.slots ack.client.cache.slots shown.same.surfaces shown.same.slots, equal_each script kinded acks all)
+
+pub every_line : EveryLineHasEqualDigests
+unfolding whole_session
+every_line text script is =
+    let good = accepted text script is in
+    let whole = drained_is script (own_steps script) (rounds_for script) script.turns in
+    let keeps : KeepsWorld script (own_steps script) (whole_session script) =
+    subst (KeepsWorld script (own_steps script)) (sym whole.is) (every_schedule script (own_steps script) whole.turns good (own_fit script good)) in
+    record { keeps = keeps; equal = equal_each script (own_steps script) (whole_session script).acks keeps.shown }

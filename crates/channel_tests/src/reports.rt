@@ -1,8 +1,6 @@
-//! The dumps of known pictures, what a sink holds after a write that failed, and the digests of known
-//! states.
+//! The dumps of known pictures, and what a sink holds after a write that failed.
 use gfx_base::{Failed, Fault, Format, Pixel, Rect, VecSink};
-use gfx_bitmap_cache::Cache;
-use gfx_report::{ReportFault, digest, dump, dump_output};
+use gfx_report::{ReportFault, dump, dump_output};
 use gfx_surface_map::SurfaceMap;
 use std::alloc::Global;
 use std::test::Fail;
@@ -131,38 +129,5 @@ fn a_failed_write_leaves_a_front_of_the_output(rt: HostRuntime) -> Result<(), Fa
         assert_eq!(rt; out.held().len(), count);
         assert!(rt; OUTPUT.as_bytes().starts_with(out.held()));
     }
-    Ok(())
-}
-
-/// A state's digest as text.
-fn digest_text(alloc: Global, surfaces: &SurfaceMap, cache: &Cache) -> Result<String, Fail> {
-    let text = hex::encode(alloc, digest(surfaces, cache))?;
-    Ok(text)
-}
-
-/// That of no surfaces and no slots.
-fn digest_of_nothing(alloc: Global) -> Result<String, Fail> {
-    digest_text(alloc, &SurfaceMap::new(alloc), &Cache::new(alloc))
-}
-
-/// That of one surface of two red pixels.
-fn digest_of_red(alloc: Global) -> Result<String, Fail> {
-    let mut surfaces = SurfaceMap::new(alloc);
-    add(&mut surfaces, alloc, 1, (2, 1), Format::Xrgb, RED)?;
-    digest_text(alloc, &surfaces, &Cache::new(alloc))
-}
-
-#[test]
-fn digests_of_known_states(rt: HostRuntime) -> Result<(), Fail> {
-    let nothing = digest_of_nothing(rt.alloc())?;
-    assert_eq!(rt;
-        nothing.as_str(),
-        "df3f619804a92fdb4057192dc43dd748ea778adc52bc498ce80524c014b81119"
-    );
-    let red = digest_of_red(rt.alloc())?;
-    assert_eq!(rt;
-        red.as_str(),
-        "f14466b86cbcd4a852e050e192f505ba30efaab74eeb3926495354ecf6fd47c5"
-    );
     Ok(())
 }

@@ -13,5 +13,3 @@ mod examples;
 mod render;
 #[cfg(test)]
 mod scripts;
-#[cfg(test)]
-mod session;

@@ -1,5 +1,5 @@
 //! The one public call.
-ghost use Rattle.std.specs.Prelude.{◌<◌, ◌^◌, map};
+ghost use Rattle.std.specs.Prelude.{◌≡◌, ◌<◌, ◌^◌, map};
 ghost use Rattle.gfx_base.specs.Stream.{change};
 ghost use Rattle.gfx_words.specs.CommandLine.{accepted};
 ghost use Rattle.gfxpipe.specs.Outcome.{ended_of, session_of};
@@ -30,6 +30,15 @@ pub struct Ran {
     pub status: Status,
     /// The session whose lines were written. It is there exactly where the command is `session` and is done.
     pub session: Option<Session>,
+}
+
+impl Ran {
+    /// How it ended. The session is let go.
+    pub fn into_status(self) -> Status
+        ensures { result ≡ self.status }
+    {
+        self.status
+    }
 }
 
 /// Runs the program: the words are those behind its name, `out` gains what the command prints, and

@@ -51,7 +51,7 @@ fn run_on_streams(rt: &HostRuntime, words: &[&str]) -> Result<Status, NoMemory> 
     };
     let mut output = StdSink::new(buffered);
     let mut line = VecSink::new(alloc, LINE_ROOM, &[])?;
-    let ran = run(alloc, words, &mut input, &mut output, &mut line);
+    let status = run(alloc, words, &mut input, &mut output, &mut line).into_status();
     let mut err = StdSink::new(rt.stderr());
-    Ok(say_flushed(ran.status, output.flush(), line.held(), &mut err))
+    Ok(say_flushed(status, output.flush(), line.held(), &mut err))
 }

@@ -49,7 +49,7 @@ pub fn run_on<'a>(
     let mut input = SliceSource::new(bytes, reads);
     let mut out = VecSink::new(alloc, 8192, writes)?;
     let mut err = VecSink::new(alloc, 96, &[])?;
-    let status = run(alloc, words, &mut input, &mut out, &mut err).status;
+    let status = run(alloc, words, &mut input, &mut out, &mut err).into_status();
     Ok(Ran {
         status,
         input,

@@ -13,3 +13,5 @@ mod examples;
 mod render;
 #[cfg(test)]
 mod scripts;
+#[cfg(test)]
+mod session;

@@ -126,7 +126,7 @@ fn a_line_that_cannot_be_written(rt: HostRuntime) -> Result<(), Fail> {
     let mut input = SliceSource::new(&[0x11, 0], &[]);
     let mut out = VecSink::new(rt.alloc(), 64, &[])?;
     let mut err = VecSink::new(rt.alloc(), 64, &[1])?;
-    let status = run(rt.alloc(), &["render"], &mut input, &mut out, &mut err).status;
+    let status = run(rt.alloc(), &["render"], &mut input, &mut out, &mut err).into_status();
     assert_eq!(rt; (status, err.held().len()), (Status::WriteFault, 0));
     Ok(())
 }

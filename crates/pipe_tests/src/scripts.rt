@@ -140,7 +140,7 @@ fn a_full_small_cache_drops_its_first_bitmap(rt: HostRuntime) -> Result<(), Fail
         let mut input = SliceSource::new(script.as_bytes(), &[]);
         let mut out = VecSink::new(alloc, 200_000, &[])?;
         let mut err = VecSink::new(alloc, 64, &[])?;
-        let status = run(alloc, &["encode"], &mut input, &mut out, &mut err).status;
+        let status = run(alloc, &["encode"], &mut input, &mut out, &mut err).into_status();
         assert_eq!(rt; status, Status::Done);
         assert!(rt; out.held().ends_with(&KEPT_IN_SLOT_1));
     }

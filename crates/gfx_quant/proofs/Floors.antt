@@ -5,15 +5,15 @@ use Rattle.std.specs.Int.{int_shr}
 use Rattle.gfx_quant.specs.Colour.{channel, clamped, lifted}
 
 -- q is the floor of z / d
-record Floor (d : ℕ) (z q : ℤ) : Type 0 where
-  low : (pos d *ℤ q) ≤ℤ z
-  high : z <ℤ (pos d *ℤ q +ℤ pos d)
+pub record Floor (d : ℕ) (z q : ℤ) : Type 0 where
+  pub low : (pos d *ℤ q) ≤ℤ z
+  pub high : z <ℤ (pos d *ℤ q +ℤ pos d)
 
 floor_32 : (z : ℤ) → Floor 32 z (int_shr z 5)
 floor_32 (pos n) = record { low = omega (arith, ints); high = omega (arith, ints) }
 floor_32 (negsuc n) = record { low = omega (arith, ints); high = omega (arith, ints) }
 
-floor_65536 : (z : ℤ) → Floor 65536 z (int_shr z 16)
+pub floor_65536 : (z : ℤ) → Floor 65536 z (int_shr z 16)
 floor_65536 (pos n) = record { low = omega (arith, ints); high = omega (arith, ints) }
 floor_65536 (negsuc n) = record { low = omega (arith, ints); high = omega (arith, ints) }
 

@@ -9,3 +9,4 @@ pub mod Smaller
 pub mod Nibbles
 pub mod Numbers
 pub mod Accepted
+pub mod Rests

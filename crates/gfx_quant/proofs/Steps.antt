@@ -29,17 +29,11 @@ written P xs i x inside here before = below_more (λ k. P k (at (set xs i x) k))
     (λ k h. let apart : k ≢ i = omega arith in rw get_or-set_other (before k h))
     (rw get_or-set_same here)
 
-slice_get-set_same : (xs : List Pixel) (i : ℕ) (x : Pixel) → i < length xs → slice_get (set xs i x) i ≡ Some x
+pub slice_get-set_same : (xs : List Pixel) (i : ℕ) (x : Pixel) → i < length xs → slice_get (set xs i x) i ≡ Some x
 slice_get-set_same xs i x h = grind (arith, common_steps, gets)
 
-slice_get-set_other : (xs : List Pixel) (i k : ℕ) (x : Pixel) → k ≢ i → slice_get (set xs i x) k ≡ slice_get xs k
+pub slice_get-set_other : (xs : List Pixel) (i k : ℕ) (x : Pixel) → k ≢ i → slice_get (set xs i x) k ≡ slice_get xs k
 slice_get-set_other xs i k x h = grind (arith, common_steps, gets)
-
--- the pixels before a place, and the one that is written there, are as f says
-pub painted : (f : ℕ → Pixel) (xs : List Pixel) (i : ℕ) (x : Pixel) → i < length xs → x ≡ f i → ((k : ℕ) → k < i → slice_get xs k ≡ Some (f k)) → (k : ℕ) → k < i + 1 → slice_get (set xs i x) k ≡ Some (f k)
-painted f xs i x inside here before = below_more (λ k. slice_get (set xs i x) k ≡ Some (f k)) i
-    (λ k h. let apart : k ≢ i = omega arith in slice_get-set_other xs i k x apart ∙ before k h)
-    (slice_get-set_same xs i x inside ∙ ap (λ (p : Pixel). Some p) here)
 
 -- samples are read from a plane as they stand there
 pub colour_read : (b : ℕ) (y cb cr : ℤ) → b < 2 ^ 31 → Within (2 ^ 23) y → Within b cb → Within b cr → colour_of (to_z w32 (of_z w32 y)) (to_z w32 (of_z w32 cb)) (to_z w32 (of_z w32 cr)) ≡ colour_of y cb cr

@@ -12,14 +12,16 @@ mod colours;
 mod dequantising;
 mod quant;
 mod quantising;
+mod rows;
 mod setting;
 
 pub use bands::{band_of, band_size, band_start, nth_band};
 pub use coefficients::{dequantise, quantise, truncate};
 pub use colour::{from_colour, to_colour};
-pub use colours::{from_colours, to_colours};
+pub use colours::from_colours;
 pub use dequantising::{dequantise_band, dequantise_plane};
 pub use gfx_dwt::Band;
 pub use quant::{Component, LEAST_BASE, MOST_BITS, Quant, check_base, quant_from, quant_to};
 pub use quantising::{cut_plane, quantise_plane, truncate_plane};
+pub use rows::to_colours;
 pub use setting::{Level, Levels, MOST_FALL, MOST_LEVELS, Setting};

@@ -1,0 +1,12 @@
+pub mod ByBand
+pub mod Gains
+pub mod Settings
+pub mod InRange
+pub mod Places
+pub mod Records
+pub mod ReadBack
+pub mod Sources
+pub mod Bounds
+pub mod Differing
+pub mod Entering
+pub mod Quantising

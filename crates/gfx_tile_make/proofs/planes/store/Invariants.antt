@@ -1,0 +1,6 @@
+use Rattle.std.proofs.Common.{◌≡◌, ℕ, ◌<◌, length}
+use Rattle.gfx_dwt.specs.Ranges.{at}
+use Rattle.gfx_tile_make.proofs.planes.store.Given as goal
+
+abbrev pub invariant-loop-place : goal.invariant-loop-place
+invariant-loop-place l = (length l.out ≡ 4096) × ((k : ℕ) → k < l.place → at l.out k ≡ at l.plane k)

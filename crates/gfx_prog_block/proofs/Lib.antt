@@ -1,0 +1,7 @@
+pub mod Frames
+pub mod BlockLoops
+pub mod TileLaws
+pub mod RegionLaws
+pub mod BlockLaws
+pub mod WritingLaws
+pub mod StandardFacts

@@ -1,0 +1,10 @@
+use Rattle.std.proofs.Common.{◌≡◌, length}
+use Rattle.gfx_prog_block.specs.Reading.{blocks_within}
+use Rattle.gfx_prog_block.proofs.BlockLoops.{with_rest}
+use Rattle.gfx_prog_block.proofs.reading.read_all.Given as goal
+
+abbrev pub invariant-blocks-2 : goal.invariant-blocks-2
+invariant-blocks-2 l = with_rest l.blocks l.fields ≡ blocks_within (length l.bytes) l.bytes
+
+abbrev pub decreases-blocks-2 : goal.decreases-blocks-2
+decreases-blocks-2 l = length l.fields

@@ -1,0 +1,7 @@
+pub mod Shapes
+pub mod Kinds
+pub mod Layouts
+pub mod Reading
+pub mod Spelling
+pub mod Fitting
+pub mod Laws

@@ -1,0 +1,97 @@
+-- The blocks that bytes are, and which fault is the first ([MS-RDPEGFX] 2.2.4.2; the faults and their order
+-- are this project's own).
+use Rattle.std.specs.Prelude.{ℕ, zero, suc, ◌==◌, not, List, [], ◌∷◌, length, if◌then◌else◌, Result, Ok, Err}
+use Rattle.std.specs.Option.{ok_or}
+use Rattle.gfx_base.specs.Results.{◌>>=◌, check}
+use Rattle.gfx_base.specs.declared.refusal.Refusal.{Refusal}
+use Rattle.gfx_base.specs.declared.refusal.Refusal.TheVariants.{BlockLength, BlockUnknown, TileCount}
+use Rattle.gfx_layout.specs.declared.stop.Stop.{Stop}
+use Rattle.gfx_layout.specs.declared.stop.Stop.TheVariants.{Short, Long, Rule}
+use Rattle.gfx_layout.specs.Reading.{Taken, read, read_whole, take_each}
+use Rattle.gfx_prog_block.specs.declared.block.Block.{Block}
+use Rattle.gfx_prog_block.specs.declared.block.Block.TheVariants as blocks
+use Rattle.gfx_prog_block.specs.declared.kinds.BlockType.{BlockType}
+use Rattle.gfx_prog_block.specs.declared.kinds.BlockType.TheVariants as types
+use Rattle.gfx_prog_block.specs.declared.region.Region.{Region}
+use Rattle.gfx_prog_block.specs.declared.region.TheConstants.{TILE_SIZE}
+use Rattle.gfx_prog_block.specs.declared.tile.Tile.{Tile}
+use Rattle.gfx_prog_block.specs.Kinds.{block_type_of, tile_type_of}
+use Rattle.gfx_prog_block.specs.Layouts.{frame, sync, frame_begin, frame_end, context, region, tile_layout}
+
+-- the tile at the front of a region's tiles: its frame, its type, its body
+unfoldable pub tile_at : List ℕ → Taken Tile
+tile_at bytes = do
+  found ← read frame bytes
+  kind ← ok_or (tile_type_of found.0.kind) (Rule BlockUnknown)
+  tile ← read_whole (tile_layout kind) found.0.body
+  Ok (tile, found.1)
+
+-- a tile that is due
+unfoldable pub due_tile : List ℕ → Taken Tile
+due_tile bytes = do
+  some ← check (Rule TileCount) (not (length bytes == 0))
+  tile_at bytes
+
+-- so many tiles, which are all of these bytes
+unfoldable pub tiles_of : ℕ → List ℕ → Result (List Tile) Stop
+tiles_of count bytes = do
+  found ← take_each due_tile count bytes
+  none ← check (Rule TileCount) (length found.1 == 0)
+  Ok found.0
+
+-- the region with this body: its length, its tile size, its tiles
+unfoldable pub region_of : List ℕ → Result Region Stop
+region_of body = do
+  parts ← read_whole region body
+  right ← check (Rule BlockUnknown) (parts.head.tile_size == TILE_SIZE)
+  tiles ← tiles_of parts.head.tiles parts.tiles
+  Ok (record { flags = parts.head.flags; rects = parts.rects; quants = parts.quants; levels = parts.levels; tiles = tiles })
+
+-- the context with this body
+unfoldable pub context_of : List ℕ → Result Block Stop
+context_of body = do
+  parts ← read_whole context body
+  right ← check (Rule BlockUnknown) (parts.tile_size == TILE_SIZE)
+  Ok (blocks.Context parts.id parts.flags)
+
+-- the block of this type with this body
+unfoldable pub block_of : BlockType → List ℕ → Result Block Stop
+block_of types.Sync body = read_whole sync body
+block_of types.FrameBegin body = read_whole frame_begin body
+block_of types.FrameEnd body = read_whole frame_end body
+block_of types.Context body = context_of body
+block_of types.Region body = do
+  found ← region_of body
+  Ok (blocks.Region found)
+
+-- the block at the front of bytes: its frame, its type, its body
+unfoldable pub block_at : List ℕ → Taken Block
+block_at bytes = do
+  found ← read frame bytes
+  kind ← ok_or (block_type_of found.0.kind) (Rule BlockUnknown)
+  block ← block_of kind found.0.body
+  Ok (block, found.1)
+
+-- the blocks that bytes are, of which there are no more than these
+unfoldable pub blocks_within : ℕ → List ℕ → Result (List Block) Stop
+blocks_within zero bytes = Ok []
+blocks_within (suc most) bytes =
+    if length bytes == 0 then Ok [] else do
+      first ← block_at bytes
+      others ← blocks_within most first.1
+      Ok (first.0 ∷ others)
+
+-- why bytes are refused: a block that doesn't end with its fields is BlockLength
+abbrev pub refusal_of : Stop → Refusal
+refusal_of Short = BlockLength
+refusal_of Long = BlockLength
+refusal_of (Rule refusal) = refusal
+
+-- what was read, or its refusal
+abbrev pub refused : {X : Type 0} → Result X Stop → Result X Refusal
+refused (Ok x) = Ok x
+refused (Err stop) = Err (refusal_of stop)
+
+-- the blocks that bytes are, or the first fault; each block has bytes
+unfoldable pub blocks_of : List ℕ → Result (List Block) Refusal
+blocks_of bytes = refused (blocks_within (length bytes) bytes)

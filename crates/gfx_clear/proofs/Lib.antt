@@ -1,0 +1,12 @@
+pub mod Layers
+pub mod Rows
+pub mod Areas
+pub mod DrawnOver
+pub mod Behind
+pub mod Decoding
+pub mod Few
+pub mod Again
+pub mod Sent
+pub mod Law
+pub mod Step
+pub mod Alone

@@ -1,0 +1,9 @@
+pub mod State
+pub mod Heads
+pub mod Parts
+pub mod Subcodecs
+pub mod Clear
+pub mod Painting
+pub mod Sending
+pub mod Inside
+pub mod Laws

@@ -1,0 +1,315 @@
+//! Tiles made and read: data and pixels at each level are those of an independent program.
+ghost use Rattle.std.specs.Prelude.{◌≡◌, ◌≤◌, IsTrue, length};
+ghost use Rattle.gfx_tile_state.specs.Shape.{are_positions};
+
+use gfx_base::{Pixel, Refusal};
+use gfx_dwt::Transform;
+use gfx_quant::{Component, Level, Levels, Quant, Setting};
+use gfx_rlgr::encode;
+use gfx_tile_make::{Pass, SourceTile};
+use gfx_tile_state::{PassShape, TileState};
+use std::alloc::Global;
+use std::process::Abort;
+use std::test::Fail;
+
+const COMPONENTS: [Component; 3] = [Component::Y, Component::Cb, Component::Cr];
+
+// All bands of all components leave out so much.
+fn level(left_out: u8) -> Level {
+    let quant = match left_out {
+        9 => Quant { values: [9; 10] },
+        7 => Quant { values: [7; 10] },
+        6 => Quant { values: [6; 10] },
+        4 => Quant { values: [4; 10] },
+        2 => Quant { values: [2; 10] },
+        _ => Quant { values: [1; 10] },
+    };
+    Level {
+        y: quant,
+        cb: quant,
+        cr: quant,
+    }
+}
+
+fn setting(transform: Transform, left_out: &[u8]) -> Setting {
+    let mut levels = Levels::new();
+    for number in left_out {
+        if levels.len() < 7 {
+            levels.push(level(*number));
+        }
+    }
+    let base = Quant { values: [6; 10] };
+    Setting {
+        transform,
+        y: base,
+        cb: base,
+        cr: base,
+        levels,
+    }
+}
+
+fn all(transform: Transform, y: [u8; 10]) -> PassShape
+    requires { IsTrue (are_positions y) }
+{
+    PassShape {
+        transform,
+        y,
+        cb: y,
+        cr: y,
+    }
+}
+
+// The bit positions at base 6 where so much is left out.
+fn shape(transform: Transform, left_out: u8) -> PassShape {
+    match left_out {
+        9 => all(transform, [15; 10]),
+        7 => all(transform, [13; 10]),
+        6 => all(transform, [12; 10]),
+        4 => all(transform, [10; 10]),
+        2 => all(transform, [8; 10]),
+        1 => all(transform, [7; 10]),
+        _ => all(transform, [6; 10]),
+    }
+}
+
+// Pixels of all values, and their neighbours unlike.
+fn noise() -> [Pixel; 4096] {
+    let mut pixels = [Pixel::default(); 4096];
+    for place in 0..4096u32 {
+        let hash = (place % 64)
+            .wrapping_mul(2_654_435_761)
+            .wrapping_add((place / 64).wrapping_mul(2_246_822_519))
+            .wrapping_add(3_266_489_917u32.wrapping_mul(7));
+        let [b, g, r, _] = hash.to_be_bytes();
+        pixels[place as usize] = Pixel { b, g, r, a: 255 };
+    }
+    pixels
+}
+
+// Pixels that rise to the right and downward.
+fn ramp() -> [Pixel; 4096] {
+    let mut pixels = [Pixel::default(); 4096];
+    for place in 0..4096usize {
+        let column = (place % 64) as u8;
+        let row = (place / 64) as u8;
+        pixels[place] = Pixel {
+            b: column,
+            g: row,
+            r: column.wrapping_add(row),
+            a: 255,
+        };
+    }
+    pixels
+}
+
+// How many bytes there were, and a sum that tells their places apart.
+#[derive(Clone, Copy)]
+struct Sum {
+    count: u64,
+    total: u64,
+}
+
+impl Sum {
+    fn take(&mut self, bytes: &[u8]) {
+        for byte in bytes {
+            let weight = self.count % 251 + 1;
+            self.total = self
+                .total
+                .saturating_add(u64::from(*byte).saturating_mul(weight));
+            self.count = self.count.saturating_add(1);
+        }
+    }
+}
+
+fn brightness(pixel: Pixel) -> u64 {
+    u64::from(pixel.b) + u64::from(pixel.g) + u64::from(pixel.r)
+}
+
+// Three pixels, and all pixels as such a sum.
+fn shown(tile: &TileState) -> ([u8; 3], u64) {
+    let mut pixels = [Pixel::default(); 4096];
+    tile.pixels(&mut pixels);
+    let mut total = 0u64;
+    for place in 0..4096 {
+        let weight = place as u64 % 251 + 1;
+        total = total.saturating_add(brightness(pixels[place]).saturating_mul(weight));
+    }
+    ([pixels[0].b, pixels[65].b, pixels[4095].b], total)
+}
+
+// A first tile of one component, a difference where the source is one.
+fn taken(
+    source: &SourceTile,
+    tile: &mut TileState,
+    component: Component,
+    bytes: &[u8],
+    shape: &PassShape,
+) -> Result<(), Refusal> {
+    if !source.is_difference() {
+        return tile.first(component, bytes, shape);
+    }
+    match tile.may_add(shape.transform) {
+        Ok(()) => tile.add(component, bytes, shape),
+        Err(refusal) => Err(refusal),
+    }
+}
+
+fn upgraded(
+    tile: &mut TileState,
+    component: Component,
+    pass: &Pass,
+    shape: &PassShape,
+) -> Result<(), Refusal> {
+    match tile.may_upgrade(shape) {
+        Ok(()) => tile.upgrade(component, pass.srl.as_slice(), pass.raw.as_slice(), shape),
+        Err(refusal) => Err(refusal),
+    }
+}
+
+// Sends the first level to a record, and sums up what was sent.
+fn begin(
+    alloc: Global,
+    source: &SourceTile,
+    tile: &mut TileState,
+    shape: &PassShape,
+) -> Option<Sum> {
+    let mut sum = Sum { count: 0, total: 0 };
+    for component in COMPONENTS {
+        let mut values = [0; 4096];
+        source.first_values(component, &mut values);
+        let bytes = encode(alloc, &values).ok()?;
+        sum.take(bytes.as_slice());
+        taken(source, tile, component, bytes.as_slice(), shape).ok()?;
+    }
+    Some(sum)
+}
+
+// Raises a record to a level, and sums up what was sent.
+fn raise(
+    alloc: Global,
+    source: &SourceTile,
+    tile: &mut TileState,
+    level: u8,
+    shape: &PassShape,
+) -> Option<Sum>
+    requires first { 1 ≤ level }
+    requires listed { level ≤ length source.now.setting.levels }
+{
+    let mut sum = Sum { count: 0, total: 0 };
+    for component in COMPONENTS {
+        let pass = source.pass_values(alloc, component, level).ok()?;
+        sum.take(pass.srl.as_slice());
+        sum.take(pass.raw.as_slice());
+        upgraded(tile, component, &pass, shape).ok()?;
+    }
+    Some(sum)
+}
+
+// What is due of each level: the bytes of all data, their sum, and the pixels.
+#[derive(Clone, Copy)]
+struct Due {
+    left_out: u8,
+    count: u64,
+    total: u64,
+    pixels: [u8; 3],
+    brightness: u64,
+}
+
+fn source_of(alloc: Global, pixels: &[Pixel; 4096], setting: &Setting) -> Option<SourceTile> {
+    if setting.is_accepted() {
+        SourceTile::from_pixels(alloc, pixels, setting).ok()
+    } else {
+        None
+    }
+}
+
+// Whether a source gives what is due at each level, and a record shows it.
+fn shows(
+    rt: &impl Abort,
+    alloc: Global,
+    source: &SourceTile,
+    setting: &Setting,
+    tile: &mut TileState,
+    due: &[Due],
+) -> Option<()>
+    requires { source.now.setting ≡ setting.now }
+{
+    let mut level = 0u8;
+    for row in due {
+        let shape = shape(setting.transform, row.left_out);
+        let sum = if level == 0 {
+            begin(alloc, source, tile, &shape)?
+        } else if usize::from(level) <= setting.levels.len() {
+            raise(alloc, source, tile, level, &shape)?
+        } else {
+            return None;
+        };
+        assert_eq!(rt; (sum.count, sum.total), (row.count, row.total));
+        assert_eq!(rt; shown(tile), (row.pixels, row.brightness));
+        level = level.saturating_add(1);
+    }
+    Some(())
+}
+
+// Rows of what is due of a level.
+fn row(left_out: u8, count: u64, total: u64, pixels: [u8; 3], brightness: u64) -> Due {
+    Due {
+        left_out,
+        count,
+        total,
+        pixels,
+        brightness,
+    }
+}
+
+// Through seven levels, one of which changes nothing, with LL3 of both signs, and in one step of six bits.
+#[test]
+fn made_and_read(rt: HostRuntime) -> Result<(), Fail> {
+    let pixels = noise();
+    let plain = setting(Transform::Plain, &[9, 7, 6, 4, 4, 2, 1]);
+    let source = source_of(rt.alloc(), &pixels, &plain).ok_or("no source")?;
+    let mut tile = TileState::new(rt.alloc()).ok().ok_or("no memory")?;
+    let due = [
+        row(9, 80, 289_045, [128, 0, 128], 64_831_843),
+        row(7, 57, 198_510, [128, 50, 128], 74_094_525),
+        row(6, 168, 1_636_729, [78, 120, 128], 112_649_035),
+        row(4, 2_995, 54_847_933, [82, 139, 131], 173_434_171),
+        row(4, 0, 0, [82, 139, 131], 173_434_171),
+        row(2, 3_852, 58_587_870, [91, 124, 60], 188_535_012),
+        row(1, 1_669, 23_722_897, [83, 121, 58], 191_272_652),
+        row(0, 1_592, 22_202_082, [81, 120, 59], 192_613_991),
+    ];
+    shows(&rt, rt.alloc(), &source, &plain, &mut tile, &due).ok_or("refused")?;
+    let reduced = setting(Transform::Reduced, &[7, 1]);
+    let source = source_of(rt.alloc(), &pixels, &reduced).ok_or("no source")?;
+    let due = [
+        row(7, 106, 578_817, [128, 50, 0], 75_273_065),
+        row(1, 16_245, 115_144_879, [83, 121, 52], 191_413_187),
+        row(0, 1_589, 23_258_402, [81, 120, 52], 192_662_572),
+    ];
+    shows(&rt, rt.alloc(), &source, &reduced, &mut tile, &due).ok_or("refused")?;
+    Ok(())
+}
+
+// A difference tile over a record of the last level.
+#[test]
+fn difference(rt: HostRuntime) -> Result<(), Fail> {
+    let setting = setting(Transform::Reduced, &[4]);
+    let first = source_of(rt.alloc(), &noise(), &setting).ok_or("no source")?;
+    let mut tile = TileState::new(rt.alloc()).ok().ok_or("no memory")?;
+    assert_eq!(rt; first.is_difference(), false);
+    let due = [
+        row(4, 3_246, 46_953_662, [82, 139, 43], 174_556_381),
+        row(0, 10_185, 95_582_678, [81, 120, 52], 192_662_572),
+    ];
+    shows(&rt, rt.alloc(), &first, &setting, &mut tile, &due).ok_or("refused")?;
+    let mut second = source_of(rt.alloc(), &ramp(), &setting).ok_or("no source")?;
+    assert_eq!(rt; second.against(&first), true);
+    assert_eq!(rt; second.is_difference(), true);
+    let due = [
+        row(4, 3_238, 46_214_971, [0, 0, 42], 52_213_485),
+        row(0, 10_185, 96_151_014, [0, 0, 62], 62_414_197),
+    ];
+    shows(&rt, rt.alloc(), &second, &setting, &mut tile, &due).ok_or("refused")?;
+    Ok(())
+}

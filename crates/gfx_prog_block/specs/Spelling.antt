@@ -30,43 +30,20 @@ tile_type (tiles.Simple head flags pass) = tile_types.Simple
 tile_type (tiles.First head flags quality pass) = tile_types.First
 tile_type (tiles.Upgrade head quality pass) = tile_types.Upgrade
 
--- the parts of the data of a tile, and of a tile, in the order of its layout
-abbrev pub first_parts : (pass : FirstPass) → Parts (first_pass (λ (p : FirstPass). p))
-first_parts pass = (
-  length pass.y,
-  (
-    length pass.cb,
-    (
-      length pass.cr,
-      (
-        length pass.tail,
-        (pass.y, (pass.cb, (pass.cr, (pass.tail, tt)))),
-      ),
-    ),
-  ),
-)
+-- the parts of the data of a tile: their lengths, then the data
+abbrev pub of_four : (a b c d : List ℕ) → Parts (first_pass (λ (p : FirstPass). p))
+of_four a b c d = (length a, (length b, (length c, (length d, (a, (b, (c, (d, tt))))))))
 
-abbrev pub upgrade_parts : (pass : UpgradePass) → Parts (upgrade_pass (λ (p : UpgradePass). p))
-upgrade_parts pass = (
-  length pass.y_srl,
-  (
-    length pass.y_raw,
-    (
-      length pass.cb_srl,
-      (
-        length pass.cb_raw,
-        (
-          length pass.cr_srl,
-          (
-            length pass.cr_raw,
-            (pass.y_srl, (pass.y_raw, (pass.cb_srl, (pass.cb_raw, (pass.cr_srl, (pass.cr_raw, tt)))))),
-          ),
-        ),
-      ),
-    ),
-  ),
-)
+abbrev pub first_parts : FirstPass → Parts (first_pass (λ (p : FirstPass). p))
+first_parts pass = of_four pass.y pass.cb pass.cr pass.tail
 
+abbrev pub of_six : (a b c d e f : List ℕ) → Parts (upgrade_pass (λ (p : UpgradePass). p))
+of_six a b c d e f = (length a, (length b, (length c, (length d, (length e, (length f, (a, (b, (c, (d, (e, (f, tt))))))))))))
+
+abbrev pub upgrade_parts : UpgradePass → Parts (upgrade_pass (λ (p : UpgradePass). p))
+upgrade_parts pass = of_six pass.y_srl pass.y_raw pass.cb_srl pass.cb_raw pass.cr_srl pass.cr_raw
+
+-- the parts of a tile in the order of its layout
 abbrev pub tile_parts : (tile : Tile) → Parts (tile_layout (tile_type tile))
 tile_parts (tiles.Simple head flags pass) = (head, (flags, first_parts pass))
 tile_parts (tiles.First head flags quality pass) = (head, (flags, (quality, first_parts pass)))

@@ -1,7 +1,7 @@
 //! What stands round every block and every tile: its type, and its length with these six bytes
 //! ([MS-RDPEGFX] 2.2.4.2).
 
-ghost use Rattle.std.specs.Prelude.{◌≡◌, ◌+◌, ◌<◌, ◌^◌, ◌++◌, OnErr};
+ghost use Rattle.std.specs.Prelude.{◌+◌, ◌<◌, ◌^◌, ◌++◌};
 ghost use Rattle.gfx_base.specs.Outcome.{Says};
 ghost use Rattle.gfx_layout.specs.Reading.{read};
 ghost use Rattle.gfx_layout.specs.Shape.{digits, u16 as two_bytes, u32 as four_bytes};

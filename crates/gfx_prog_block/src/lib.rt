@@ -1,4 +1,9 @@
-//! x
+//! The blocks of RemoteFX Progressive ([MS-RDPEGFX] 2.2.4.2), read from the data of a message and
+//! written as such data.
+//!
+//! It is the grammar alone: which bytes are blocks, regions and tiles. In the pipe it stands between
+//! the messages of `gfx_pdu` and the codec: a decoder reads all blocks of a message first and then
+//! applies the regions; a server writes the blocks of what it encoded. What tiles mean is said above.
 #![tactic(auto)]
 
 mod area;

@@ -1,6 +1,6 @@
 //! Reading the data of a message.
 
-ghost use Rattle.std.specs.Prelude.{◌≡◌, length, IfOk};
+ghost use Rattle.std.specs.Prelude.{length, IfOk};
 ghost use Rattle.std.specs.List.{AllByRecursion};
 ghost use Rattle.gfx_base.specs.Outcome.{Gives, Says};
 ghost use Rattle.gfx_layout.specs.Reading.{read_whole};

@@ -1,8 +1,7 @@
 //! Tiles, read from the bytes of a region.
 
-ghost use Rattle.std.specs.Prelude.{◌≡◌};
 ghost use Rattle.gfx_base.specs.Outcome.{Gives, Says};
-ghost use Rattle.gfx_layout.specs.Reading.{read, read_whole, take_each};
+ghost use Rattle.gfx_layout.specs.Reading.{read_whole, take_each};
 ghost use Rattle.gfx_prog_block.specs.Layouts.{simple_tile, first_tile, upgrade_tile, tile_layout};
 ghost use Rattle.gfx_prog_block.specs.Reading.{tile_at, due_tile, tiles_of};
 

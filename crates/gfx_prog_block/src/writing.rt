@@ -1,8 +1,7 @@
 //! Writing the data of a message.
 
-ghost use Rattle.std.specs.Prelude.{◌≡◌, ◌++◌, ◌<◌, ◌^◌, ◌+◌, length, OnOk, OnErr};
-ghost use Rattle.std.specs.List.{AllByRecursion, flat_map, sum_by};
-ghost use Rattle.gfx_layout.specs.Layout.{measured};
+ghost use Rattle.std.specs.Prelude.{◌≡◌, ◌++◌, OnOk, OnErr};
+ghost use Rattle.std.specs.List.{AllByRecursion, sum_by};
 ghost use Rattle.gfx_layout.specs.Writing.{Puts};
 ghost use Rattle.gfx_prog_block.specs.declared.block.Block.TheVariants as blocks;
 ghost use Rattle.gfx_prog_block.specs.Fitting.{IsSpellableRegion, IsSpellable};

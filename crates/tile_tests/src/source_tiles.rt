@@ -1,5 +1,5 @@
 //! Tiles made and read: data and pixels at each level are those of an independent program.
-ghost use Rattle.std.specs.Prelude.{◌≡◌, ◌≤◌, IsTrue, length};
+ghost use Rattle.std.specs.Prelude.{◌≡◌, ◌≤◌, IfSome, IsTrue, length};
 ghost use Rattle.gfx_tile_state.specs.Shape.{are_positions};
 
 use gfx_base::{Pixel, Refusal};
@@ -9,7 +9,6 @@ use gfx_rlgr::encode;
 use gfx_tile_make::{Pass, SourceTile};
 use gfx_tile_state::{PassShape, TileState};
 use std::alloc::Global;
-use std::process::Abort;
 use std::test::Fail;
 
 const COMPONENTS: [Component; 3] = [Component::Y, Component::Cb, Component::Cr];
@@ -172,7 +171,7 @@ fn begin(
     source: &SourceTile,
     tile: &mut TileState,
     shape: &PassShape,
-) -> Option<Sum> {
+) -> Option<(u64, u64)> {
     let mut sum = Sum { count: 0, total: 0 };
     for component in COMPONENTS {
         let mut values = [0; 4096];
@@ -181,7 +180,7 @@ fn begin(
         sum.take(bytes.as_slice());
         taken(source, tile, component, bytes.as_slice(), shape).ok()?;
     }
-    Some(sum)
+    Some((sum.count, sum.total))
 }
 
 // Raises a record to a level, and sums up what was sent.
@@ -191,7 +190,7 @@ fn raise(
     tile: &mut TileState,
     level: u8,
     shape: &PassShape,
-) -> Option<Sum>
+) -> Option<(u64, u64)>
     requires first { 1 ≤ level }
     requires listed { level ≤ length source.now.setting.levels }
 {
@@ -202,20 +201,15 @@ fn raise(
         sum.take(pass.raw.as_slice());
         upgraded(tile, component, &pass, shape).ok()?;
     }
-    Some(sum)
+    Some((sum.count, sum.total))
 }
 
-// What is due of each level: the bytes of all data, their sum, and the pixels.
-#[derive(Clone, Copy)]
-struct Due {
-    left_out: u8,
-    count: u64,
-    total: u64,
-    pixels: [u8; 3],
-    brightness: u64,
-}
+// What is due of a level: what it leaves out, the bytes of all data and their sum, and the pixels.
+type Due = (u8, u64, u64, [u8; 3], u64);
 
-fn source_of(alloc: Global, pixels: &[Pixel; 4096], setting: &Setting) -> Option<SourceTile> {
+fn source_of(alloc: Global, pixels: &[Pixel; 4096], setting: &Setting) -> Option<SourceTile>
+    ensures { IfSome result (λ source. source.setting ≡ setting.now) }
+{
     if setting.is_accepted() {
         SourceTile::from_pixels(alloc, pixels, setting).ok()
     } else {
@@ -225,91 +219,131 @@ fn source_of(alloc: Global, pixels: &[Pixel; 4096], setting: &Setting) -> Option
 
 // Whether a source gives what is due at each level, and a record shows it.
 fn shows(
-    rt: &impl Abort,
     alloc: Global,
     source: &SourceTile,
     setting: &Setting,
     tile: &mut TileState,
     due: &[Due],
-) -> Option<()>
+) -> bool
     requires { source.now.setting ≡ setting.now }
 {
     let mut level = 0u8;
-    for row in due {
-        let shape = shape(setting.transform, row.left_out);
+    for (left_out, count, total, pixels, brightness) in due {
+        let shape = shape(setting.transform, *left_out);
         let sum = if level == 0 {
-            begin(alloc, source, tile, &shape)?
+            begin(alloc, source, tile, &shape)
         } else if usize::from(level) <= setting.levels.len() {
-            raise(alloc, source, tile, level, &shape)?
+            raise(alloc, source, tile, level, &shape)
         } else {
-            return None;
+            None
         };
-        assert_eq!(rt; (sum.count, sum.total), (row.count, row.total));
-        assert_eq!(rt; shown(tile), (row.pixels, row.brightness));
+        if sum != Some((*count, *total)) || shown(tile) != (*pixels, *brightness) {
+            return false;
+        }
         level = level.saturating_add(1);
     }
-    Some(())
+    true
 }
 
-// Rows of what is due of a level.
-fn row(left_out: u8, count: u64, total: u64, pixels: [u8; 3], brightness: u64) -> Due {
-    Due {
-        left_out,
-        count,
-        total,
-        pixels,
-        brightness,
-    }
+const PLAIN: [Due; 8] = [
+    (9, 80, 289_045, [128, 0, 128], 64_831_843),
+    (7, 57, 198_510, [128, 50, 128], 74_094_525),
+    (6, 168, 1_636_729, [78, 120, 128], 112_649_035),
+    (4, 2_995, 54_847_933, [82, 139, 131], 173_434_171),
+    (4, 0, 0, [82, 139, 131], 173_434_171),
+    (2, 3_852, 58_587_870, [91, 124, 60], 188_535_012),
+    (1, 1_669, 23_722_897, [83, 121, 58], 191_272_652),
+    (0, 1_592, 22_202_082, [81, 120, 59], 192_613_991),
+];
+
+const REDUCED: [Due; 3] = [
+    (7, 106, 578_817, [128, 50, 0], 75_273_065),
+    (1, 16_245, 115_144_879, [83, 121, 52], 191_413_187),
+    (0, 1_589, 23_258_402, [81, 120, 52], 192_662_572),
+];
+
+const FIRST: [Due; 2] = [
+    (4, 3_246, 46_953_662, [82, 139, 43], 174_556_381),
+    (0, 10_185, 95_582_678, [81, 120, 52], 192_662_572),
+];
+
+const SECOND: [Due; 2] = [
+    (4, 3_238, 46_214_971, [0, 0, 42], 52_213_485),
+    (0, 10_185, 96_151_014, [0, 0, 62], 62_414_197),
+];
+
+// A tile of these pixels through these levels.
+fn all_shows(
+    alloc: Global,
+    pixels: &[Pixel; 4096],
+    setting: &Setting,
+    due: &[Due],
+) -> Option<bool> {
+    let source = source_of(alloc, pixels, setting)?;
+    let mut tile = TileState::new(alloc).ok()?;
+    Some(shows(alloc, &source, setting, &mut tile, due))
 }
 
-// Through seven levels, one of which changes nothing, with LL3 of both signs, and in one step of six bits.
+// Through seven levels, one of which changes nothing, with LL3 of both signs.
 #[test]
-fn made_and_read(rt: HostRuntime) -> Result<(), Fail> {
-    let pixels = noise();
-    let plain = setting(Transform::Plain, &[9, 7, 6, 4, 4, 2, 1]);
-    let source = source_of(rt.alloc(), &pixels, &plain).ok_or("no source")?;
-    let mut tile = TileState::new(rt.alloc()).ok().ok_or("no memory")?;
-    let due = [
-        row(9, 80, 289_045, [128, 0, 128], 64_831_843),
-        row(7, 57, 198_510, [128, 50, 128], 74_094_525),
-        row(6, 168, 1_636_729, [78, 120, 128], 112_649_035),
-        row(4, 2_995, 54_847_933, [82, 139, 131], 173_434_171),
-        row(4, 0, 0, [82, 139, 131], 173_434_171),
-        row(2, 3_852, 58_587_870, [91, 124, 60], 188_535_012),
-        row(1, 1_669, 23_722_897, [83, 121, 58], 191_272_652),
-        row(0, 1_592, 22_202_082, [81, 120, 59], 192_613_991),
-    ];
-    shows(&rt, rt.alloc(), &source, &plain, &mut tile, &due).ok_or("refused")?;
-    let reduced = setting(Transform::Reduced, &[7, 1]);
-    let source = source_of(rt.alloc(), &pixels, &reduced).ok_or("no source")?;
-    let due = [
-        row(7, 106, 578_817, [128, 50, 0], 75_273_065),
-        row(1, 16_245, 115_144_879, [83, 121, 52], 191_413_187),
-        row(0, 1_589, 23_258_402, [81, 120, 52], 192_662_572),
-    ];
-    shows(&rt, rt.alloc(), &source, &reduced, &mut tile, &due).ok_or("refused")?;
-    Ok(())
+fn plain(rt: HostRuntime) {
+    let setting = setting(Transform::Plain, &[9, 7, 6, 4, 4, 2, 1]);
+    assert_eq!(rt;
+        all_shows(rt.alloc(), &noise(), &setting, &PLAIN),
+        Some(true)
+    );
+}
+
+// With a step of six bits.
+#[test]
+fn reduced(rt: HostRuntime) {
+    let setting = setting(Transform::Reduced, &[7, 1]);
+    assert_eq!(rt;
+        all_shows(rt.alloc(), &noise(), &setting, &REDUCED),
+        Some(true)
+    );
+}
+
+const GREY: [Due; 2] = [
+    (4, 9, 0, [128, 128, 128], 195_554_304),
+    (0, 105, 0, [128, 128, 128], 195_554_304),
+];
+
+// All zeros: three bytes a component at first.
+#[test]
+fn grey(rt: HostRuntime) {
+    let setting = setting(Transform::Plain, &[4]);
+    let pixel = Pixel {
+        b: 128,
+        g: 128,
+        r: 128,
+        a: 255,
+    };
+    assert_eq!(rt;
+        all_shows(rt.alloc(), &[pixel; 4096], &setting, &GREY),
+        Some(true)
+    );
+}
+
+// A tile of a ramp over one of noise at its last level.
+fn ramp_goes_on(alloc: Global, tile: &mut TileState) -> Option<[bool; 4]> {
+    let setting = setting(Transform::Reduced, &[4]);
+    let first = source_of(alloc, &noise(), &setting)?;
+    let mut second = source_of(alloc, &ramp(), &setting)?;
+    let before = shows(alloc, &first, &setting, tile, &FIRST);
+    let alone = second.is_difference();
+    if !second.against(&first) {
+        return None;
+    }
+    let behind = shows(alloc, &second, &setting, tile, &SECOND);
+    Some([before, alone, second.is_difference(), behind])
 }
 
 // A difference tile over a record of the last level.
 #[test]
 fn difference(rt: HostRuntime) -> Result<(), Fail> {
-    let setting = setting(Transform::Reduced, &[4]);
-    let first = source_of(rt.alloc(), &noise(), &setting).ok_or("no source")?;
     let mut tile = TileState::new(rt.alloc()).ok().ok_or("no memory")?;
-    assert_eq!(rt; first.is_difference(), false);
-    let due = [
-        row(4, 3_246, 46_953_662, [82, 139, 43], 174_556_381),
-        row(0, 10_185, 95_582_678, [81, 120, 52], 192_662_572),
-    ];
-    shows(&rt, rt.alloc(), &first, &setting, &mut tile, &due).ok_or("refused")?;
-    let mut second = source_of(rt.alloc(), &ramp(), &setting).ok_or("no source")?;
-    assert_eq!(rt; second.against(&first), true);
-    assert_eq!(rt; second.is_difference(), true);
-    let due = [
-        row(4, 3_238, 46_214_971, [0, 0, 42], 52_213_485),
-        row(0, 10_185, 96_151_014, [0, 0, 62], 62_414_197),
-    ];
-    shows(&rt, rt.alloc(), &second, &setting, &mut tile, &due).ok_or("refused")?;
+    let answers = ramp_goes_on(rt.alloc(), &mut tile);
+    assert_eq!(rt; answers, Some([true, false, true, true]));
     Ok(())
 }

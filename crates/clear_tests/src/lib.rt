@@ -12,3 +12,5 @@ mod clear_runs;
 mod clear_store;
 #[cfg(test)]
 mod glyph;
+#[cfg(test)]
+mod noise;

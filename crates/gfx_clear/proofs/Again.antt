@@ -1,32 +1,30 @@
 -- What is sent is decoded.
-use Rattle.std.proofs.Common.{◌≡◌, ℕ, zero, suc, ◌+◌, ◌-◌, ◌*◌, ◌==◌, ◌^◌, ◌<◌, ◌≤◌, Bool, true, false, cond, nat_le, nat_lt, slice_index, List, [], ◌∷◌, ◌++◌, length, take, drop, replicate, set, Option, Some, None, Result, Ok, Err, refl, sym, ap, ◌∙◌, subst, arith, append_assoc, append-nil, length-append, length-take, length-drop, eq-eqb}
-use Rattle.std.specs.Prelude.{◌&&◌, unwrap_or, IfSome}
+use Rattle.std.proofs.Common.{◌≡◌, ℕ, ◌+◌, ◌-◌, ◌*◌, ◌==◌, ◌^◌, ◌<◌, ◌≤◌, Bool, true, false, nat_le, nat_lt, slice_index, List, [], ◌∷◌, ◌++◌, length, take, drop, Option, Ok, refl, ap, ◌∙◌, arith, eq-eqb}
+use Rattle.std.specs.Prelude.{◌&&◌}
 use Rattle.std.specs.Int.{w16, w32, to_le_bytes}
-use Rattle.std.specs.List.{flat_map}
-use Rattle.std.proofs.lemmas.Bool.{le-leb, lt-leb, lt-ltb}
+use Rattle.std.proofs.lemmas.Bool.{le-leb}
 use Rattle.std.proofs.lemmas.Bool.Decides.{nat_tests}
-use Rattle.std.proofs.lemmas.List.{take_at, drop_at, take_all, drop_all, length-replicate}
+use Rattle.std.proofs.lemmas.List.{take_all, drop_all}
 use Rattle.gfx_base.specs.declared.pixel.Rgb.{Rgb}
-use Rattle.gfx_base.specs.declared.refusal.Refusal.{Refusal}
-use Rattle.gfx_base.specs.declared.refusal.Refusal.TheVariants.{ClearLengths, ClearFlags, ClearSequence, GlyphIndex, GlyphArea, RectOutside, PayloadLength}
+use Rattle.gfx_base.specs.declared.refusal.Refusal.TheVariants.{ClearLengths, ClearSequence, GlyphIndex, GlyphArea, RectOutside}
 use Rattle.gfx_base.specs.Field.{number_at}
-use Rattle.gfx_base.specs.Results.{and_then, check}
+use Rattle.gfx_base.specs.Results.{check}
 use Rattle.gfx_base.proofs.FieldLemmas.{number_at-written_2, number_at-written_4}
 use Rattle.gfx_base.proofs.ResultLemmas.{and_then_at}
-use Rattle.gfx_clear_bands.specs.Bands.{Drawing, drawing}
-use Rattle.gfx_glyph.specs.declared.glyphs.TheConstants.{PLACES, MOST_AREA}
+use Rattle.gfx_clear_bands.specs.Bands.{Drawing}
+use Rattle.gfx_glyph.specs.declared.glyphs.TheConstants.{PLACES}
 use Rattle.gfx_clear.specs.declared.head.Head.{Head}
 use Rattle.gfx_clear.specs.declared.head.GlyphUse.{GlyphUse}
 use Rattle.gfx_clear.specs.declared.head.GlyphUse.TheVariants.{Unused, Stores, Shows}
 use Rattle.gfx_clear.specs.declared.parts.TheConstants.{COUNTS}
 use Rattle.gfx_clear.specs.declared.area.Area.{Area}
-use Rattle.gfx_clear.specs.declared.area.TheConstants.{AREA, RAW, RLEX}
+use Rattle.gfx_clear.specs.declared.area.TheConstants.{AREA}
 use Rattle.gfx_clear.specs.declared.head.TheConstants.{GLYPH_INDEX, CACHE_RESET}
 use Rattle.gfx_clear.specs.Heads.{head, head_size, glyph_use, is_set, is_due, has_place, is_small}
-use Rattle.gfx_clear.specs.Parts.{Parts, parts, cut, covered_by, residual, banded}
-use Rattle.gfx_clear.specs.Subcodecs.{area_of, area_at, is_inside, coded, raw_colours, overwritten, row_drawn, rows_drawn, area_drawn, subcodec, subcodecs, subcodecs_within}
-use Rattle.gfx_clear.proofs.Areas.{within-suc, within_none}
-use Rattle.gfx_clear.specs.Sending.{head_bytes, size_bytes, area_bytes, placed}
+use Rattle.gfx_clear.specs.Parts.{parts, cut}
+use Rattle.gfx_clear.specs.Subcodecs.{area_of, area_at, is_inside, coded, rows_drawn, subcodec, subcodecs}
+use Rattle.gfx_clear.proofs.Areas.{subcodecs_from}
+use Rattle.gfx_clear.specs.Sending.{head_bytes, size_bytes, area_bytes}
 
 passes : {E : Type 0} (e : E) (test : Bool) → test ≡ true → check e test ≡ Ok tt
 passes e true is = refl
@@ -135,11 +133,6 @@ subcodec_read width height codec bytes pixels old wide high small e =
     and_then_at (area_at width height all) area _ (area_again width height (length bytes) codec bytes wide high small (omega arith))
     ∙ and_then_at (coded codec (width * height) (take (length bytes) (drop AREA all))) pixels _ (ap (coded codec (width * height)) own ∙ e)
     ∙ (λ i. Ok (rows_drawn width width (start i) height pixels old, rest i))
-
-subcodecs_from : (most width height : ℕ) (old new : Drawing) (bytes : List ℕ) → length bytes ≡ most → 0 < length bytes → subcodec width height old bytes ≡ Ok (new, []) → subcodecs_within most width height old bytes ≡ Ok new
-subcodecs_from zero width height old new bytes long some e = absurd (omega arith)
-subcodecs_from (suc most) width height old new bytes long some e =
-    within-suc most width height old bytes some ∙ and_then_at (subcodec width height old bytes) (new, []) _ e ∙ within_none most width height new [] refl
 
 pub subcodec_again : (width height codec : ℕ) (bytes : List ℕ) (pixels : List Rgb) (old : Drawing) → width < 2 ^ 16 → height < 2 ^ 16 → length bytes < 2 ^ 32 → coded codec (width * height) bytes ≡ Ok pixels
     → subcodecs width height old (area_bytes width height (length bytes) codec ++ bytes) ≡ Ok (rows_drawn width width 0 height pixels old)

@@ -1,11 +1,11 @@
 -- What subcodecs draw, one after another.
-use Rattle.std.proofs.Common.{◌≡◌, ℕ, zero, suc, ◌+◌, ◌-◌, ◌*◌, ◌<◌, ◌≤◌, true, List, [], ◌∷◌, ◌++◌, length, take, drop, Result, Ok, Err, refl, sym, ap, ◌∙◌, arith}
+use Rattle.std.proofs.Common.{◌≡◌, ℕ, zero, suc, ◌<◌, ◌≤◌, List, [], ◌∷◌, length, Result, Ok, Err, refl, sym, ◌∙◌, arith}
 use Rattle.gfx_base.specs.declared.answer.Cause.{Cause}
 use Rattle.gfx_base.specs.declared.answer.Cause.TheVariants.{Refused, Memory}
 use Rattle.gfx_base.specs.declared.refusal.Refusal.{Refusal}
 use Rattle.gfx_base.specs.Results.{and_then}
 use Rattle.gfx_base.proofs.ResultLemmas.{and_then_at, and_then_refused}
-use Rattle.gfx_clear_bands.specs.Bands.{Drawing, drawing}
+use Rattle.gfx_clear_bands.specs.Bands.{Drawing}
 use Rattle.gfx_clear.specs.Subcodecs.{subcodec, subcodecs_within}
 use Rattle.gfx_clear.proofs.Layers.{Refuses}
 
@@ -49,3 +49,9 @@ within_none most width height old (b ∷ bs) e = absurd (omega arith)
 
 pub due_end : (width height : ℕ) (old : Drawing) (bytes : List ℕ) (due : Result Drawing Refusal) → length bytes ≡ 0 → Due width height old bytes due → due ≡ Ok old
 due_end width height old bytes due none d = sym d.same ∙ within_none d.most width height old bytes none
+
+-- one subcodec with nothing behind it
+pub subcodecs_from : (most width height : ℕ) (old new : Drawing) (bytes : List ℕ) → length bytes ≡ most → 0 < length bytes → subcodec width height old bytes ≡ Ok (new, []) → subcodecs_within most width height old bytes ≡ Ok new
+subcodecs_from zero width height old new bytes long some e = absurd (omega arith)
+subcodecs_from (suc most) width height old new bytes long some e =
+    within-suc most width height old bytes some ∙ and_then_at (subcodec width height old bytes) (new, []) _ e ∙ within_none most width height new [] refl

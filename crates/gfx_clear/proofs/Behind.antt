@@ -1,10 +1,9 @@
 -- What stands behind a head, step by step.
 use Rattle.std.proofs.lemmas.List.{length-map}
-use Rattle.std.proofs.Common.{◌≡◌, ℕ, ◌*◌, ◌==◌, Bool, true, false, List, [], ◌∷◌, length, map, replicate, Result, Ok, Err, refl, sym, ap, ◌∙◌, ◌⊎◌, inl, inr, ◌<◌, ◌+◌, subst, arith, eq-eqb, ne_eqb}
+use Rattle.std.proofs.Common.{◌≡◌, ℕ, ◌*◌, ◌==◌, List, length, map, Result, Ok, Err, refl, sym, ap, ◌∙◌, ◌⊎◌, inl, inr, ◌<◌, ◌+◌, subst, arith, eq-eqb, ne_eqb}
 use Rattle.gfx_base.specs.declared.answer.Cause.{Cause}
 use Rattle.gfx_base.specs.declared.answer.Cause.TheVariants.{Refused, Memory}
 use Rattle.gfx_base.specs.declared.geometry.Rect.{Rect}
-use Rattle.gfx_base.specs.declared.pixel.Pixel.{Pixel}
 use Rattle.gfx_base.specs.declared.pixel.Rgb.{Rgb}
 use Rattle.gfx_base.specs.declared.refusal.Refusal.{Refusal}
 use Rattle.gfx_base.specs.declared.refusal.Refusal.TheVariants.{ClearLengths}
@@ -15,14 +14,14 @@ use Rattle.gfx_base.proofs.ResultLemmas.{and_then_at, and_then_refused}
 use Rattle.gfx_surface.specs.Picture.{Picture, overlaid, rect_of, pixel_at}
 use Rattle.gfx_surface.proofs.PictureLemmas.{length-drawn}
 use Rattle.gfx_clear_store.specs.Rings.{Rings}
-use Rattle.gfx_clear_bands.specs.Bands.{Drawing, drawing, Draws as DrawsBands, bands}
+use Rattle.gfx_clear_bands.specs.Bands.{Drawing, Draws as DrawsBands, bands}
 use Rattle.gfx_glyph.specs.Glyphs.{Slot, shown}
 use Rattle.gfx_clear.specs.declared.head.GlyphUse.{GlyphUse}
 use Rattle.gfx_clear.specs.declared.head.GlyphUse.TheVariants.{Unused, Stores, Shows}
 use Rattle.gfx_clear.specs.Parts.{Parts, parts, covered_by, residual, banded}
 use Rattle.gfx_clear.specs.Subcodecs.{subcodecs}
-use Rattle.gfx_clear.specs.Clear.{layered, drawn_in_layers, drawn_by_index, drawn_as, behind_head, with_glyphs, glyphs_after, undrawn}
-use Rattle.gfx_clear.specs.Painting.{colour_of, opaque, drawn_over}
+use Rattle.gfx_clear.specs.Clear.{layered, drawn_in_layers, drawn_by_index, drawn_as, behind_head, with_glyphs, glyphs_after}
+use Rattle.gfx_clear.specs.Painting.{colour_of, opaque}
 use Rattle.gfx_clear.specs.Inside.{Draws, with_drawn}
 use Rattle.gfx_clear.proofs.DrawnOver.{all_drawn_over}
 use Rattle.gfx_clear.proofs.Layers.{Refuses, refuses_first, refuses_next}
@@ -140,17 +139,6 @@ in_layers_or_not glyph width height glyphs old bytes (inl stores) = λ i. and_th
     at z = drawn_as z width height glyphs old bytes
 in_layers_or_not glyph width height glyphs old bytes (inr unused) = λ i. and_then (drawn_as (sym unused i) width height glyphs old bytes) (with_glyphs glyph width height glyphs)
 
-length-background : (picture : Picture) (rect : Rect) → length (map colour_of (rect_of picture rect)) ≡ width_of rect * height_of rect
+-- a background has a colour for each place
+pub length-background : (picture : Picture) (rect : Rect) → length (map colour_of (rect_of picture rect)) ≡ width_of rect * height_of rect
 length-background picture rect = length-map (rect_of picture rect) colour_of ∙ length-rect_of picture rect
-
--- the background has a colour for each place
-pub length-colours : (picture : Picture) (rect : Rect) (width height : ℕ) (out : List Rgb) → width ≡ width_of rect → height ≡ height_of rect → out ≡ map colour_of (rect_of picture rect) → length out ≡ width * height
-length-colours picture rect width height out wide high same = ap length same ∙ length-background picture rect ∙ (λ i. sym wide i * sym high i)
-
--- layers over the background
-pub layers_over : (picture : Picture) (rect : Rect) (width height : ℕ) (out : List Rgb) (drawn : List Bool) (held : Rings) (ps : Parts) → width ≡ width_of rect → height ≡ height_of rect
-    → out ≡ map colour_of (rect_of picture rect) → drawn ≡ replicate (width_of rect * height_of rect) false
-    → layered width height (drawing out drawn held) ps ≡ layered (width_of rect) (height_of rect) (undrawn (map colour_of (rect_of picture rect)) held) ps
-layers_over picture rect width height out drawn held ps wide high colours flags =
-    let none = flags ∙ ap (λ n. replicate n false) (sym (length-background picture rect)) in
-    λ i. layered (wide i) (high i) (drawing (colours i) (none i) held) ps

@@ -1,5 +1,5 @@
 -- A stream on a surface, step by step.
-use Rattle.std.proofs.Common.{◌≡◌, ℕ, ◌*◌, List, length, map, Some, Result, Ok, Err, refl, sym, ap, ◌∙◌, subst}
+use Rattle.std.proofs.Common.{◌≡◌, ℕ, ◌*◌, List, map, Some, Result, Ok, Err, sym, ap, ◌∙◌, subst}
 use Rattle.gfx_base.specs.declared.answer.Cause.{Cause}
 use Rattle.gfx_base.specs.declared.answer.Cause.TheVariants.{Refused, Memory}
 use Rattle.gfx_base.specs.declared.geometry.Rect.{Rect}
@@ -18,7 +18,7 @@ use Rattle.gfx_clear.specs.Heads.{head}
 use Rattle.gfx_clear.specs.Clear.{behind_head, undrawn, rings_before, clear, cleared}
 use Rattle.gfx_clear.specs.Painting.{colour_of, Scene, scene, decoded}
 use Rattle.gfx_clear.specs.Inside.{Draws, with_drawn}
-use Rattle.gfx_clear.proofs.Layers.{Refuses, refuses_first, refuses_next}
+use Rattle.gfx_clear.proofs.Layers.{Refuses, refuses_first}
 
 -- a head that is refused
 pub decoded_refused : (old : State) (picture : Picture) (rect : Rect) (area : ℕ) (bytes : List ℕ) (refusal : Refusal) → area ≡ width_of rect * height_of rect → head old.expected area bytes ≡ Err refusal

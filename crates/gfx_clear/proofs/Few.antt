@@ -1,6 +1,5 @@
 -- How many bytes are sent at most.
-use Rattle.std.proofs.Common.{◌≡◌, ◌⊎◌, inl, inr, ℕ, zero, suc, ◌+◌, ◌-◌, ◌*◌, ◌/◌, ◌<◌, ◌≤◌, ◌^◌, min, Bool, true, false, ◌&&◌, cond, nat_le, nat_lt, List, [], ◌∷◌, ◌++◌, length, get_or, take, drop, Option, Some, None, refl, sym, ap, ◌∙◌, subst, arith, length-append}
-use Rattle.std.specs.Int.{w16, w32, to_le_bytes}
+use Rattle.std.proofs.Common.{◌≡◌, ◌⊎◌, inl, inr, ℕ, zero, suc, ◌+◌, ◌-◌, ◌*◌, ◌/◌, ◌<◌, ◌≤◌, ◌^◌, min, Bool, true, false, ◌&&◌, cond, nat_le, nat_lt, List, [], ◌∷◌, ◌++◌, length, get_or, Option, Some, None, refl, ap, arith, length-append}
 use Rattle.std.specs.List.{flat_map}
 use Rattle.std.proofs.lemmas.Bool.{lt-ltb, le-ltb, cases_lt}
 use Rattle.std.proofs.lemmas.Bool.Decides.{nat_tests}
@@ -9,12 +8,12 @@ use Rattle.gfx_base.specs.declared.pixel.Rgb.{Rgb}
 use Rattle.gfx_clear_store.specs.Rings.{Rings, least_place, same_colour}
 use Rattle.gfx_clear_store.specs.declared.store.TheConstants.{MOST_BAR}
 use Rattle.gfx_clear_runs.specs.Lengths.{length_spelled}
-use Rattle.gfx_clear_runs.specs.Writing.{Run, run_spelled, runs_written, longest_runs, place_of, entry_spelled, segment_spelled, segments_written, colours_of, rlex_by, rlex_written}
+use Rattle.gfx_clear_runs.specs.Writing.{Run, run_spelled, runs_written, longest_runs, entry_spelled, segment_spelled, segments_written, colours_of, rlex_by, rlex_written}
 use Rattle.gfx_clear_runs.specs.Forms.{pixels_in_run, pixels_of_runs, AreLongest}
 use Rattle.gfx_clear_runs.specs.declared.palette.TheConstants.{PALETTE_MOST}
 use Rattle.gfx_clear_runs.proofs.Writings.{pixels_longest, are_longest}
-use Rattle.gfx_clear_bands.specs.Writing.{black, column, short_of, row_of, without_front, without_end, colour_bytes, Sent, sent, sent_bar, sent_short, Element, put, written, after, head_bytes, columns_of, band_elements, elements_within, elements}
-use Rattle.gfx_clear_bands.specs.Writing.Element.{Head, Column}
+use Rattle.gfx_clear_bands.specs.Writing.{black, column, short_of, row_of, without_front, colour_bytes, sent, sent_bar, sent_short, put, written, after, head_bytes, columns_of, band_elements, elements_within, elements}
+use Rattle.gfx_clear_bands.specs.Writing.Element.{Column}
 use Rattle.gfx_clear_bands.proofs.Shorts.{length-end, front_pass, front_stop, front_none}
 use Rattle.gfx_clear_bands.proofs.Outputs.{written-append}
 use Rattle.gfx_clear.specs.declared.area.TheConstants.{AREA}

@@ -1,14 +1,12 @@
 -- What is sent for a picture is decoded to it, and to the sender's state.
-use Rattle.std.proofs.Common.{◌≡◌, ◌⊎◌, inl, inr, ℕ, ◌+◌, ◌*◌, ◌==◌, ◌^◌, ◌<◌, ◌≤◌, Bool, true, false, cond, nat_eq, nat_le, nat_lt, List, [], ◌∷◌, ◌++◌, length, take, drop, replicate, set, Option, Some, None, Result, Ok, Err, refl, sym, ap, ◌∙◌, subst, arith, append-nil, length-append, eq-eqb, mul-le-mul}
+use Rattle.std.proofs.Common.{◌≡◌, ◌⊎◌, inl, inr, ℕ, ◌+◌, ◌*◌, ◌==◌, ◌^◌, ◌<◌, ◌≤◌, Bool, true, false, nat_eq, List, [], ◌∷◌, ◌++◌, length, take, drop, replicate, set, Option, Some, None, Ok, Err, refl, sym, ap, ◌∙◌, subst, arith, append-nil, length-append, eq-eqb, mul-le-mul}
 use Rattle.std.specs.Prelude.{◌&&◌, unwrap_or, if◌then◌else◌}
-use Rattle.std.specs.Int.{to_le_bytes}
 use Rattle.std.specs.List.{flat_map}
 use Rattle.std.proofs.lemmas.Bool.{le-leb, lt-ltb, le-ltb}
 use Rattle.std.proofs.lemmas.List.{take_all, drop_all, length-replicate}
 use Rattle.gfx_base.specs.declared.pixel.Rgb.{Rgb}
-use Rattle.gfx_base.specs.declared.refusal.Refusal.{Refusal}
 use Rattle.gfx_base.specs.declared.refusal.Refusal.TheVariants.{PayloadLength, GlyphSize}
-use Rattle.gfx_base.specs.Results.{and_then, check}
+use Rattle.gfx_base.specs.Results.{check}
 use Rattle.gfx_base.proofs.ResultLemmas.{and_then_at}
 use Rattle.gfx_clear_store.specs.Rings.{Rings, AreRings}
 use Rattle.gfx_clear_runs.specs.Reading.{covered, runs_of, rlex_of}
@@ -17,12 +15,11 @@ use Rattle.gfx_clear_runs.specs.Forms.{pixels_of_runs}
 use Rattle.gfx_clear_runs.proofs.Writings.{pixels_longest, read_back}
 use Rattle.gfx_clear_runs.proofs.Segmented.{rlex_read_back}
 use Rattle.gfx_clear_bands.specs.Bars.{colours}
-use Rattle.gfx_clear_bands.specs.Bands.{Drawing, drawing, bands}
+use Rattle.gfx_clear_bands.specs.Bands.{Drawing, drawing}
 use Rattle.gfx_clear_bands.specs.Writing.{colour_bytes, elements, written, after}
 use Rattle.gfx_clear_bands.proofs.Again.{colours_again}
 use Rattle.gfx_clear_bands.proofs.Drawings.{within_none as bands_none}
 use Rattle.gfx_clear_bands.proofs.ReadAgain.{reads_back}
-use Rattle.gfx_glyph.specs.declared.glyph.Glyph.{Glyph}
 use Rattle.gfx_glyph.specs.declared.glyphs.TheConstants.{PLACES, MOST_AREA}
 use Rattle.gfx_glyph.specs.Glyphs.{Slot, glyph, slot_at, stands, same_pixels, shown, drawn}
 use Rattle.gfx_glyph.proofs.Same.{same_pixels-Decides}
@@ -31,17 +28,17 @@ use Rattle.gfx_clear.specs.declared.head.GlyphUse.{GlyphUse}
 use Rattle.gfx_clear.specs.declared.head.GlyphUse.TheVariants.{Unused, Stores, Shows}
 use Rattle.gfx_clear.specs.declared.layer.Layer.{Layer}
 use Rattle.gfx_clear.specs.declared.layer.Layer.TheVariants.{Residual, Bands, Palette, Plain}
-use Rattle.gfx_clear.specs.State.{State, state, next_sequence}
+use Rattle.gfx_clear.specs.State.{State}
 use Rattle.gfx_clear.specs.Heads.{head, is_due, has_place, is_small}
-use Rattle.gfx_clear.specs.Parts.{Parts, parts, cut, covered_by, residual}
+use Rattle.gfx_clear.specs.Parts.{Parts, parts, covered_by}
 use Rattle.gfx_clear.specs.Subcodecs.{coded, raw_colours}
 use Rattle.gfx_clear.specs.Clear.{layered, drawn_in_layers, behind_head, glyphs_after, undrawn, clear, cleared}
-use Rattle.gfx_clear.specs.Sending.{MaySend, MayStore, Message, sent, sent_as, use_of, sequence_of, head_bytes, size_bytes, area_bytes, part_as, palette_part, part_bytes, rings_after}
+use Rattle.gfx_clear.specs.Sending.{MaySend, Message, sent, sent_as, use_of, sequence_of, head_bytes, size_bytes, area_bytes, part_as, palette_part, part_bytes, rings_after}
 use Rattle.gfx_clear.specs.Laws.{shows, SentIsDecoded, HeldIsShown}
 use Rattle.gfx_clear.proofs.Layers.{residual_none, residual_drawn}
 use Rattle.gfx_clear.proofs.Rows.{rows_cover}
 use Rattle.gfx_clear.proofs.Areas.{within_none}
-use Rattle.gfx_clear.proofs.Behind.{layered_last, in_layers, in_layers_or_not, glyph_stored, index_drawn}
+use Rattle.gfx_clear.proofs.Behind.{layered_last, in_layers_or_not, glyph_stored, index_drawn}
 use Rattle.gfx_clear.proofs.Again.{plain_head, head_again, sizes_again, subcodec_again}
 use Rattle.gfx_clear.proofs.Few.{length-colours, part_few}
 use Rattle.gfx_clear.proofs.Sent.{stored_fits}

@@ -1,18 +1,16 @@
 -- What the residual layer and the subcodecs draw.
-use Rattle.std.proofs.Common.{◌≡◌, ℕ, zero, suc, ◌+◌, ◌-◌, ◌*◌, ◌<◌, ◌≤◌, ◌==◌, Bool, true, false, cond, List, [], ◌∷◌, ◌++◌, length, take, drop, replicate, Option, Some, None, Result, Ok, Err, refl, sym, ap, ◌∙◌, arith, eqb-true}
+use Rattle.std.proofs.Common.{◌≡◌, ℕ, ◌*◌, ◌<◌, ◌==◌, Bool, true, false, cond, List, [], ◌∷◌, length, Option, Some, None, Result, Ok, Err, refl, sym, ap, ◌∙◌, arith, eqb-true}
 use Rattle.gfx_base.specs.declared.answer.Cause.{Cause}
 use Rattle.gfx_base.specs.declared.answer.Cause.TheVariants.{Refused, Memory}
 use Rattle.gfx_base.specs.declared.pixel.Rgb.{Rgb}
 use Rattle.gfx_base.specs.declared.refusal.Refusal.{Refusal}
 use Rattle.gfx_base.specs.declared.refusal.Refusal.TheVariants.{RunTotal, PayloadLength, SubcodecRefused}
-use Rattle.gfx_base.specs.Outcome.{Gives}
 use Rattle.gfx_base.specs.Results.{and_then, check}
 use Rattle.gfx_base.proofs.ResultLemmas.{and_then_at, and_then_refused, and_then_ok}
 use Rattle.gfx_clear_runs.specs.Elements.{Element}
-use Rattle.gfx_clear_runs.specs.Outcome.{Appends}
 use Rattle.gfx_clear_runs.specs.Reading.{Part, covering, covered, pixels_of, total_of, runs_of, rlex_of}
 use Rattle.gfx_clear_runs.proofs.Writings.{total_pixels}
-use Rattle.gfx_clear_bands.specs.Bands.{Drawing, drawing}
+use Rattle.gfx_clear_bands.specs.Bands.{Drawing}
 use Rattle.gfx_clear_bands.specs.Bars.{colours}
 use Rattle.gfx_clear_bands.proofs.Making.{length-colours}
 use Rattle.gfx_clear.specs.declared.area.TheConstants.{RAW, RLEX}
@@ -60,11 +58,6 @@ residual_some area old (byte ∷ bytes) some = refl
 pub residual_drawn : (area : ℕ) (old new : Drawing) (bytes : List ℕ) (pixels : List Rgb) → 0 < length bytes → covered area (runs_of bytes) ≡ Ok pixels → new ≡ covered_by pixels old
     → residual area old bytes ≡ Ok new
 residual_drawn area old new bytes pixels some e same = residual_some area old bytes some ∙ and_then_at (covered area (runs_of bytes)) pixels _ e ∙ ap Ok (sym same)
-
--- what was appended to nothing covers the area
-pub read_whole : (area : ℕ) (part : Part) (before after shown : List Rgb) → (covered area part ≡ Ok (pixels_of part.elements)) × (after ≡ before ++ pixels_of part.elements) → before ≡ [] → shown ≡ after
-    → covered area part ≡ Ok shown
-read_whole area part before after shown read none same = read.0 ∙ ap Ok (sym (same ∙ read.1 ∙ ap (λ z. z ++ pixels_of part.elements) none))
 
 raw-length : (count : ℕ) (bytes : List ℕ) (pixels : List Rgb) → raw_colours count bytes ≡ Ok pixels → length pixels ≡ count
 unfolding raw_colours

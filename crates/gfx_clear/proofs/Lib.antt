@@ -1,10 +1,12 @@
 pub mod Layers
 pub mod Rows
 pub mod Areas
+pub mod Canvases
 pub mod DrawnOver
 pub mod Behind
 pub mod Decoding
 pub mod Few
+pub mod Keeping
 pub mod Again
 pub mod Sent
 pub mod Law

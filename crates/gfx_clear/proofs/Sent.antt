@@ -1,5 +1,5 @@
 -- What is sent, from its steps.
-use Rattle.std.proofs.Common.{◌≡◌, ℕ, ◌+◌, ◌*◌, ◌<◌, ◌≤◌, List, ◌++◌, length, set, Option, Some, Result, Ok, Err, refl, sym, ap, ◌∙◌, subst, arith}
+use Rattle.std.proofs.Common.{◌≡◌, ℕ, ◌*◌, ◌<◌, ◌≤◌, List, ◌++◌, set, Option, Some, Ok, Err, refl, sym, ap, ◌∙◌, subst}
 use Rattle.std.proofs.lemmas.Bool.{lt-ltb, le-ltb}
 use Rattle.gfx_base.specs.declared.pixel.Rgb.{Rgb}
 use Rattle.gfx_base.specs.declared.refusal.Refusal.{Refusal}
@@ -10,7 +10,7 @@ use Rattle.gfx_clear.specs.declared.head.GlyphUse.{GlyphUse}
 use Rattle.gfx_clear.specs.declared.head.GlyphUse.TheVariants.{Stores}
 use Rattle.gfx_clear.specs.declared.layer.Layer.{Layer}
 use Rattle.gfx_clear.specs.State.{State}
-use Rattle.gfx_clear.specs.Sending.{Message, message, sent, sent_as, use_of, sequence_of, head_bytes, part_as, part_bytes, rings_after, MayUse}
+use Rattle.gfx_clear.specs.Sending.{message, sent, sent_as, use_of, sequence_of, head_bytes, part_as, part_bytes, rings_after, MayUse}
 
 -- a glyph that may be stored is
 pub stored_fits : (index width height : ℕ) (pixels : List Rgb) (slots : List Slot) → index < PLACES → width * height ≤ MOST_AREA

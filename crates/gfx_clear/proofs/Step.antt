@@ -1,5 +1,5 @@
 -- What a server sends and paints is the step of its message.
-use Rattle.std.proofs.Common.{◌≡◌, ℕ, ◌*◌, ◌<◌, ◌^◌, List, length, map, Option, Result, Ok, refl, sym, ap, ◌∙◌, subst}
+use Rattle.std.proofs.Common.{◌≡◌, ℕ, ◌<◌, ◌^◌, List, map, Option, Ok, sym, ap, ◌∙◌, subst}
 use Rattle.std.proofs.lemmas.List.{length-map}
 use Rattle.gfx_base.specs.declared.geometry.Rect.{Rect}
 use Rattle.gfx_base.specs.declared.pixel.Pixel.{Pixel}
@@ -11,8 +11,8 @@ use Rattle.gfx_clear_store.specs.Rings.{AreRings}
 use Rattle.gfx_clear.specs.declared.layer.Layer.{Layer}
 use Rattle.gfx_clear.specs.State.{State}
 use Rattle.gfx_clear.specs.Clear.{clear}
-use Rattle.gfx_clear.specs.Painting.{colour_of, opaque, drawn_over, scene, decoded}
-use Rattle.gfx_clear.specs.Sending.{Message, MaySend, sent}
+use Rattle.gfx_clear.specs.Painting.{colour_of, opaque, scene, decoded}
+use Rattle.gfx_clear.specs.Sending.{MaySend, sent}
 use Rattle.gfx_clear.specs.Laws.{shows}
 use Rattle.gfx_clear.specs.Inside.{sends}
 use Rattle.gfx_clear.proofs.Behind.{length-rect_of}

@@ -1,6 +1,6 @@
 -- A ClearCodec stream as a whole ([MS-RDPEGFX] 2.2.4.1, CLEARCODEC_BITMAP_STREAM). The order of the checks, and that
 -- what isn't drawn is stored in a glyph as it stands, are this project's own rules.
-use Rattle.std.specs.Prelude.{ℕ, ◌*◌, ◌==◌, Bool, true, false, List, length, replicate, Some, Result, Ok, Err, if◌then◌else◌}
+use Rattle.std.specs.Prelude.{ℕ, ◌*◌, ◌==◌, Bool, false, List, length, replicate, Some, Result, Ok, if◌then◌else◌}
 use Rattle.gfx_base.specs.declared.pixel.Rgb.{Rgb}
 use Rattle.gfx_base.specs.declared.refusal.Refusal.{Refusal}
 use Rattle.gfx_base.specs.declared.refusal.Refusal.TheVariants.{ClearLengths}
@@ -8,7 +8,6 @@ use Rattle.gfx_base.specs.Results.{◌>>=◌, check}
 use Rattle.gfx_clear_store.specs.Rings.{Rings, from_start}
 use Rattle.gfx_clear_bands.specs.Bands.{Drawing, drawing, bands}
 use Rattle.gfx_glyph.specs.Glyphs.{Slot, shown, stored}
-use Rattle.gfx_clear.specs.declared.head.Head.{Head}
 use Rattle.gfx_clear.specs.declared.head.GlyphUse.{GlyphUse}
 use Rattle.gfx_clear.specs.declared.head.GlyphUse.TheVariants.{Unused, Stores, Shows}
 use Rattle.gfx_clear.specs.State.{State, state, next_sequence}

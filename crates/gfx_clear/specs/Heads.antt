@@ -1,6 +1,6 @@
 -- The head of a ClearCodec stream ([MS-RDPEGFX] 2.2.4.1, CLEARCODEC_BITMAP_STREAM: flags, seqNumber and glyphIndex).
 -- The order of the checks is this project's own rule.
-use Rattle.std.specs.Prelude.{ℕ, ◌*◌, ◌/◌, ◌%◌, ◌==◌, Bool, true, nat_le, nat_lt, List, length, drop, slice_index, Option, Some, None, Result, Ok, Err, if◌then◌else◌}
+use Rattle.std.specs.Prelude.{ℕ, ◌/◌, ◌%◌, ◌==◌, Bool, true, nat_le, nat_lt, List, length, drop, slice_index, Option, Some, None, Result, Ok, Err, if◌then◌else◌}
 use Rattle.std.specs.Int.{w16}
 use Rattle.gfx_base.specs.declared.refusal.Refusal.{Refusal}
 use Rattle.gfx_base.specs.declared.refusal.Refusal.TheVariants.{ClearLengths, ClearFlags, ClearSequence, GlyphIndex, GlyphArea}

@@ -1,5 +1,5 @@
 -- What the types of the code show, and what the calls between them hand on.
-use Rattle.std.specs.Prelude.{◌≡◌, ℕ, ◌<◌, List, length, Result, Ok, Err}
+use Rattle.std.specs.Prelude.{◌≡◌, ℕ, List, Result, Ok, Err}
 use Rattle.gfx_base.specs.declared.answer.Cause.{Cause}
 use Rattle.gfx_base.specs.declared.answer.Cause.TheVariants.{Refused, Memory}
 use Rattle.gfx_base.specs.declared.geometry.Rect.{Rect}
@@ -20,12 +20,6 @@ state_of a = state a.store.held a.glyphs a.expected
 
 abbrev pub parts_seen : PartsRead → Parts
 parts_seen read = record { residual = read.residual.now; bands = read.bands.now; subcodecs = read.subcodecs.now }
-
--- there is a residual layer, and nothing over it
-pub record HasRunsAlone (ps : Parts) : Type 0 where
-  pub some : 0 < length ps.residual
-  pub no_bands : length ps.bands ≡ 0
-  pub no_subcodecs : length ps.subcodecs ≡ 0
 
 -- bytes that were written, and the state after them
 abbrev pub sends : List ℕ → State → Message

@@ -7,3 +7,5 @@ pub mod Painting
 pub mod Sending
 pub mod Inside
 pub mod Laws
+pub mod Canvas
+pub mod Wholes

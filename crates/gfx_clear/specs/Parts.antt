@@ -8,7 +8,7 @@ use Rattle.gfx_base.specs.declared.refusal.Refusal.TheVariants.{ClearLengths}
 use Rattle.gfx_base.specs.Field.{number_at}
 use Rattle.gfx_base.specs.Results.{◌>>=◌, check}
 use Rattle.gfx_clear_runs.specs.Reading.{covered, runs_of}
-use Rattle.gfx_clear_bands.specs.Bands.{Drawing, drawing, Stop, bands}
+use Rattle.gfx_clear_bands.specs.Bands.{Drawing, drawing, Stop}
 use Rattle.gfx_clear.specs.declared.parts.TheConstants.{COUNTS}
 
 pub record Parts : Type 0 where

@@ -1,6 +1,6 @@
 -- What a server sends for a picture: this project's own choice among the streams that [MS-RDPEGFX] 2.2.4.1 allows.
 -- It is a function of the state and the picture, so that no other bytes are sent.
-use Rattle.std.specs.Prelude.{ℕ, ◌+◌, ◌*◌, ◌<◌, ◌≤◌, ◌≡◌, List, [], ◌∷◌, ◌++◌, length, slice_set, Option, Some, None, unwrap_or, IsSome, if◌then◌else◌}
+use Rattle.std.specs.Prelude.{ℕ, ◌+◌, ◌*◌, ◌<◌, ◌≤◌, ◌≡◌, List, [], ◌∷◌, ◌++◌, length, slice_set, Option, Some, None, unwrap_or, if◌then◌else◌}
 use Rattle.std.specs.List.{flat_map}
 use Rattle.std.specs.Int.{w16, w32, to_le_bytes}
 use Rattle.gfx_base.specs.declared.pixel.Rgb.{Rgb}

@@ -115,7 +115,7 @@ fn colours(alloc: Global, count: usize, bytes: &[u8]) -> Result<Vec<Rgb>, NoMemo
 
 /// The colour of three bytes.
 #[inline(always)]
-fn colour_at(bytes: &[u8], at: usize) -> Rgb
+pub(crate) fn colour_at(bytes: &[u8], at: usize) -> Rgb
     requires { at + 3 ≤ length bytes.now }
     ensures { result ≡ colour_at bytes.now at }
 {

@@ -1,38 +1,54 @@
 //! What a stream is drawn on before the surface is.
-ghost use Rattle.std.specs.Prelude.{◌≡◌, ◌*◌, length, map, replicate, false, IfOk, IsTrue};
-ghost use Rattle.gfx_base.specs.Geometry.{lies_in, width_of, height_of};
-ghost use Rattle.gfx_surface.specs.Picture.{rect_of};
-ghost use Rattle.gfx_clear.specs.Painting.{colour_of};
+ghost use Rattle.std.specs.Prelude.{◌≡◌, ◌≤◌, length, map, OnOk};
+ghost use Rattle.std.specs.Vec.{vec_len};
+ghost use Rattle.gfx_clear.specs.Canvas.{blank};
 
-use crate::pixels::colours_of;
-use gfx_base::{NoMemory, Pixel, Rect, Rgb};
-use gfx_surface::Surface;
+use gfx_base::{NoMemory, Pixel};
 use std::alloc::Global;
 
-/// A rectangle of a surface: its pixels as they stand there, their colours once some of them are drawn, and
-/// which of them are.
+/// Room to draw in, as much as any stream took yet. What stands in it between streams means nothing.
 #[derive(Drop)]
 pub(crate) struct Canvas {
+    /// The pixels that a stream draws; with layers, those that are drawn have alpha 255, and the others 0.
     pub(crate) pixels: Vec<Pixel>,
-    pub(crate) colours: Vec<Rgb>,
-    pub(crate) drawn: Vec<bool>,
+    /// The pixels of the surface under layers.
+    pub(crate) background: Vec<Pixel>,
 }
 
-/// The canvas of a rectangle in which nothing is drawn yet.
-pub(crate) fn canvas_of(alloc: Global, surface: &Surface, rect: Rect) -> Result<Canvas, NoMemory>
-    requires { IsTrue (lies_in surface.now.width surface.now.height rect) }
-    ensures pixels { IfOk result (λ canvas. canvas.pixels.items ≡ rect_of surface.now rect) }
-    ensures colours { IfOk result (λ canvas. canvas.colours.items ≡ map colour_of (rect_of surface.now rect)) }
-    ensures drawn { IfOk result (λ canvas. canvas.drawn.items ≡ replicate (width_of rect * height_of rect) false) }
+impl Canvas {
+    /// No room yet.
+    pub(crate) fn new(alloc: Global) -> Canvas {
+        Canvas {
+            pixels: Vec::new(alloc),
+            background: Vec::new(alloc),
+        }
+    }
+}
+
+/// Makes room for so many pixels. It never gets less.
+pub(crate) fn make_room(pixels: &mut Vec<Pixel>, count: usize) -> Result<(), NoMemory>
+    ensures { OnOk result (count ≤ vec_len pixels.new) }
 {
-    let count = usize::from(rect.width()) * usize::from(rect.height());
-    let mut pixels = vec![in alloc; Pixel::default(); count]?;
-    surface.read(rect, &mut pixels);
-    let colours = colours_of(alloc, &pixels)?;
-    let drawn = vec![in alloc; false; count]?;
-    Ok(Canvas {
-        pixels,
-        colours,
-        drawn,
-    })
+    if pixels.len() < count {
+        pixels.resize(count, Pixel::default())?;
+    }
+    Ok(())
+}
+
+/// Makes a canvas show a background on which nothing is drawn.
+pub(crate) fn begin(background: &[Pixel], canvas: &mut [Pixel])
+    requires { length canvas.old ≡ length background.now }
+    ensures { canvas.new ≡ map blank background.now }
+{
+    'pixels: for i in 0..background.len() {
+        canvas[i] = blank(background[i]);
+    }
+}
+
+/// A pixel that isn't drawn.
+#[inline(always)]
+fn blank(pixel: Pixel) -> Pixel
+    ensures { result ≡ blank pixel }
+{
+    Pixel { a: 0, ..pixel }
 }

@@ -9,6 +9,7 @@ ghost use Rattle.gfx_clear.specs.Painting.{scene, decoded};
 ghost use Rattle.gfx_clear.specs.Sending.{MaySend, sent};
 ghost use Rattle.gfx_clear.specs.Inside.{sends};
 
+use crate::canvas::Canvas;
 use crate::drawing::draw;
 use crate::encoding::{encode_as, use_of};
 use crate::head::read_head;
@@ -30,6 +31,8 @@ pub struct ClearState {
     glyphs: Glyphs,
     /// None where any sequence number may come.
     expected: Option<u8>,
+    /// Contracts don't see it.
+    canvas: Canvas,
 }
 
 impl Model for ClearState {
@@ -56,6 +59,7 @@ impl ClearState {
             store,
             glyphs,
             expected: None,
+            canvas: Canvas::new(alloc),
         })
     }
 
@@ -101,7 +105,10 @@ impl ClearState {
         };
         begin(&mut self.store, head.reset);
         let (store, glyphs) = (&mut self.store, &mut self.glyphs);
-        match draw(self.alloc, store, glyphs, surface, rect, head.glyph, rest) {
+        let canvas = &mut self.canvas;
+        match draw(
+            self.alloc, canvas, store, glyphs, surface, rect, head.glyph, rest,
+        ) {
             Ok(()) => {
                 self.expected = Some(head.sequence.wrapping_add(1));
                 Ok(())

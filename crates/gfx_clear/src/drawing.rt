@@ -1,25 +1,25 @@
 //! What stands behind the head of a stream, drawn in a rectangle of a surface.
-ghost use Rattle.std.specs.Prelude.{◌≡◌, ◌<◌, ◌*◌, length, map, replicate, true, false, IsTrue, OnOk, OnErr};
+ghost use Rattle.std.specs.Prelude.{◌≡◌, ◌*◌, length, map, IsTrue, OnOk, OnErr};
 ghost use Rattle.gfx_base.specs.Geometry.{lies_in, width_of, height_of};
 ghost use Rattle.gfx_base.specs.Outcome.{Applies, Gives};
 ghost use Rattle.gfx_base.specs.Results.{and_then};
 ghost use Rattle.gfx_surface.specs.Picture.{overlaid, rect_of};
 ghost use Rattle.gfx_clear_store.specs.Rings.{Rings};
-ghost use Rattle.gfx_clear_bands.specs.Bands.{drawing};
+ghost use Rattle.gfx_clear_bands.specs.Canvas.{is_drawn, on_canvas};
 ghost use Rattle.gfx_clear.specs.declared.head.GlyphUse.TheVariants.{Shows};
 ghost use Rattle.gfx_clear.specs.Clear.{layered, drawn_in_layers, behind_head, undrawn, glyphs_after, with_glyphs};
-ghost use Rattle.gfx_clear.specs.Inside.{parts_seen, Draws, HasRunsAlone};
-ghost use Rattle.gfx_clear.specs.Parts.{residual};
-ghost use Rattle.gfx_clear.specs.Painting.{colour_of, opaque};
+ghost use Rattle.gfx_clear.specs.Inside.{parts_seen, Draws};
+ghost use Rattle.gfx_clear.specs.Wholes.{covers, whole_pixels};
+ghost use Rattle.gfx_clear.specs.Painting.{colour_of, opaque, drawn_over};
 
-use crate::canvas::canvas_of;
+use crate::canvas::{Canvas, begin, make_room};
 use crate::head::GlyphUse;
 use crate::parts::{Parts, draw_residual, read_parts};
-use crate::pixels::{draw_over, pixels_of};
+use crate::pixels::{colours_of, draw_over, is_all_drawn, pixels_of};
 use crate::subcodecs::draw_subcodecs;
-use gfx_base::{Fault, NoMemory, Pixel, Rect, Refusal, Rgb, Rgbs};
-use gfx_clear_bands::read_bands;
-use gfx_clear_runs::read_runs;
+use crate::whole::{Whole, paint_whole, whole_of};
+use gfx_base::{Fault, NoMemory, Pixel, Rect, Refusal, Rgb};
+use gfx_clear_bands::paint_bands;
 use gfx_clear_store::Store;
 use gfx_glyph::Glyphs;
 use gfx_surface::Surface;
@@ -29,6 +29,7 @@ use std::alloc::Global;
 /// as they were; the caller rolls the rings back.
 pub(crate) fn draw(
     alloc: Global,
+    canvas: &mut Canvas,
     store: &mut Store,
     glyphs: &mut Glyphs,
     surface: &mut Surface,
@@ -44,7 +45,7 @@ pub(crate) fn draw(
     match glyph {
         GlyphUse::Shows { index } => draw_glyph(alloc, glyphs, surface, rect, index, bytes),
         GlyphUse::Stores { .. } | GlyphUse::Unused => draw_parts(
-            alloc, store, glyphs, surface, rect, glyph, bytes,
+            alloc, canvas, store, glyphs, surface, rect, glyph, bytes,
         ),
     }
 }
@@ -94,6 +95,7 @@ pub(crate) fn paint(
 /// Draws the layers of the parts in these bytes.
 fn draw_parts(
     alloc: Global,
+    canvas: &mut Canvas,
     store: &mut Store,
     glyphs: &mut Glyphs,
     surface: &mut Surface,
@@ -111,95 +113,169 @@ fn draw_parts(
         Ok(parts) => parts,
         Err(refusal) => return Err(Fault::Refused(refusal)),
     };
-    if has_runs_alone(&parts) {
-        return draw_runs(alloc, glyphs, surface, rect, glyph, parts.residual);
+    if let Some(whole) = whole_of(&parts, rect.width(), rect.height()) {
+        return draw_whole(alloc, canvas, glyphs, surface, rect, glyph, &whole);
     }
-    let mut canvas = match canvas_of(alloc, surface, rect) {
-        Ok(canvas) => canvas,
-        Err(NoMemory) => return Err(Fault::Memory),
-    };
-    let (pixels, colours) = (&mut canvas.pixels, &mut canvas.colours);
-    let drawn = &mut canvas.drawn;
-    draw_over_background(
-        alloc, store, glyphs, surface, rect, glyph, &parts, pixels, colours, drawn,
-    )
+    draw_layered(alloc, canvas, store, glyphs, surface, rect, glyph, &parts)
 }
 
-/// Whether there is a residual layer, and nothing over it.
-fn has_runs_alone(parts: &Parts<'_>) -> bool
-    ensures { result ≡ true → HasRunsAlone (parts_seen parts.now) }
-{
-    parts.bands.is_empty() && parts.subcodecs.is_empty() && !parts.residual.is_empty()
-}
-
-/// Draws a residual layer over all that stood there, and stores the glyph.
-fn draw_runs(
+/// Draws a part over all that stood there, and stores the glyph.
+fn draw_whole(
     alloc: Global,
+    canvas: &mut Canvas,
     glyphs: &mut Glyphs,
     surface: &mut Surface,
     rect: Rect,
     glyph: GlyphUse,
-    bytes: &[u8],
+    whole: &Whole<'_>,
 ) -> Result<(), Fault>
-    requires inside { IsTrue (lies_in surface.old.width surface.old.height rect) }
-    requires some { 0 < length bytes.now }
+    requires { IsTrue (lies_in surface.old.width surface.old.height rect) }
     ensures { (rings : Rings) → Draws result rect rings glyphs.old glyphs.new surface.old surface.new
-        (and_then (residual (width_of rect * height_of rect) (undrawn (map colour_of (rect_of surface.old rect)) rings) bytes.now)
+        (and_then (covers (whole_pixels whole.now (width_of rect * height_of rect)) (undrawn (map colour_of (rect_of surface.old rect)) rings))
         (with_glyphs glyph (width_of rect) (height_of rect) glyphs.old)) }
 {
-    let (width, height) = (rect.width(), rect.height());
-    let area = u32::from(width) * u32::from(height);
-    let mut colours = Rgbs::new(alloc);
-    match read_runs(bytes, area, &mut colours) {
+    let count = usize::from(rect.width()) * usize::from(rect.height());
+    match make_room(&mut canvas.pixels, count) {
         Ok(()) => {}
-        Err(fault) => return Err(fault),
-    }
-    let pixels = match pixels_of(alloc, colours.as_slice()) {
-        Ok(pixels) => pixels,
         Err(NoMemory) => return Err(Fault::Memory),
-    };
-    match keep(glyphs, glyph, width, height, colours.as_slice()) {
+    }
+    let out = &mut canvas.pixels[..count];
+    paint_over(alloc, out, glyphs, surface, rect, glyph, whole)
+}
+
+/// The same on a canvas of as many pixels as the rectangle has. What stood there means nothing.
+fn paint_over(
+    alloc: Global,
+    canvas: &mut [Pixel],
+    glyphs: &mut Glyphs,
+    surface: &mut Surface,
+    rect: Rect,
+    glyph: GlyphUse,
+    whole: &Whole<'_>,
+) -> Result<(), Fault>
+    requires inside { IsTrue (lies_in surface.old.width surface.old.height rect) }
+    requires canvas { length canvas.old ≡ width_of rect * height_of rect }
+    ensures { (rings : Rings) → Draws result rect rings glyphs.old glyphs.new surface.old surface.new
+        (and_then (covers (whole_pixels whole.now (width_of rect * height_of rect)) (undrawn (map colour_of (rect_of surface.old rect)) rings))
+        (with_glyphs glyph (width_of rect) (height_of rect) glyphs.old)) }
+{
+    match paint_whole(whole, canvas) {
+        Ok(()) => {}
+        Err(refusal) => return Err(Fault::Refused(refusal)),
+    }
+    match keep_painted(alloc, glyphs, glyph, rect.width(), rect.height(), canvas) {
         Ok(()) => {}
         Err(fault) => return Err(fault),
     }
-    surface.put(rect, &pixels);
+    surface.put(rect, canvas);
     Ok(())
 }
 
-/// Draws layers over the pixels of a rectangle, given with their colours, and stores the glyph.
-fn draw_over_background(
+/// Stores the colours of pixels where the stream says so.
+fn keep_painted(
     alloc: Global,
+    glyphs: &mut Glyphs,
+    glyph: GlyphUse,
+    width: u16,
+    height: u16,
+    pixels: &[Pixel],
+) -> Result<(), Fault>
+    requires { length pixels.now ≡ width * height }
+    ensures { Applies result glyphs.old glyphs.new (glyphs_after glyph width height (map colour_of pixels.now) glyphs.old) }
+{
+    match glyph {
+        GlyphUse::Stores { index } => {
+            let colours = match colours_of(alloc, pixels) {
+                Ok(colours) => colours,
+                Err(NoMemory) => return Err(Fault::Memory),
+            };
+            glyphs.store(index, width, height, &colours)
+        }
+        _ => Ok(()),
+    }
+}
+
+/// Draws layers over what stood there, and stores the glyph.
+fn draw_layered(
+    alloc: Global,
+    canvas: &mut Canvas,
     store: &mut Store,
     glyphs: &mut Glyphs,
     surface: &mut Surface,
     rect: Rect,
     glyph: GlyphUse,
     parts: &Parts<'_>,
-    pixels: &mut [Pixel],
-    colours: &mut [Rgb],
-    drawn: &mut [bool],
+) -> Result<(), Fault>
+    requires { IsTrue (lies_in surface.old.width surface.old.height rect) }
+    ensures draws { Draws result rect store.new.held glyphs.old glyphs.new surface.old surface.new
+        (and_then (layered (width_of rect) (height_of rect) (undrawn (map colour_of (rect_of surface.old rect)) store.old.held) (parts_seen parts.now))
+        (with_glyphs glyph (width_of rect) (height_of rect) glyphs.old)) }
+    ensures marked { store.new.marked ≡ store.old.marked }
+{
+    let count = usize::from(rect.width()) * usize::from(rect.height());
+    match make_room(&mut canvas.pixels, count) {
+        Ok(()) => {}
+        Err(NoMemory) => return Err(Fault::Memory),
+    }
+    match make_room(&mut canvas.background, count) {
+        Ok(()) => {}
+        Err(NoMemory) => return Err(Fault::Memory),
+    }
+    let out = &mut canvas.pixels[..count];
+    let background = &mut canvas.background[..count];
+    draw_over_background(
+        alloc, out, background, store, glyphs, surface, rect, glyph, parts,
+    )
+}
+
+/// The same on a canvas of as many pixels as the rectangle has, with as many for the background.
+fn draw_over_background(
+    alloc: Global,
+    canvas: &mut [Pixel],
+    background: &mut [Pixel],
+    store: &mut Store,
+    glyphs: &mut Glyphs,
+    surface: &mut Surface,
+    rect: Rect,
+    glyph: GlyphUse,
+    parts: &Parts<'_>,
 ) -> Result<(), Fault>
     requires inside { IsTrue (lies_in surface.old.width surface.old.height rect) }
-    requires pixels { pixels.old ≡ rect_of surface.old rect }
-    requires colours { colours.old ≡ map colour_of (rect_of surface.old rect) }
-    requires drawn { drawn.old ≡ replicate (width_of rect * height_of rect) false }
+    requires canvas { length canvas.old ≡ width_of rect * height_of rect }
+    requires background { length background.old ≡ width_of rect * height_of rect }
     ensures draws { Draws result rect store.new.held glyphs.old glyphs.new surface.old surface.new
         (and_then (layered (width_of rect) (height_of rect) (undrawn (map colour_of (rect_of surface.old rect)) store.old.held) (parts_seen parts.now))
         (with_glyphs glyph (width_of rect) (height_of rect) glyphs.old)) }
     ensures marked { store.new.marked ≡ store.old.marked }
 {
     let (width, height) = (rect.width(), rect.height());
-    match draw_layers(alloc, store, parts, width, height, colours, drawn) {
+    surface.read(rect, background);
+    begin(background, canvas);
+    match draw_layers(alloc, store, parts, width, height, canvas) {
         Ok(()) => {}
         Err(fault) => return Err(fault),
     }
-    match keep(glyphs, glyph, width, height, colours) {
+    match keep_painted(alloc, glyphs, glyph, width, height, canvas) {
         Ok(()) => {}
         Err(fault) => return Err(fault),
     }
-    draw_over(pixels, colours, drawn);
-    surface.put(rect, pixels);
+    put_canvas(surface, rect, background, canvas);
     Ok(())
+}
+
+/// Puts what is drawn on a canvas into a rectangle, over its pixels.
+fn put_canvas(surface: &mut Surface, rect: Rect, background: &mut [Pixel], canvas: &[Pixel])
+    requires inside { IsTrue (lies_in surface.old.width surface.old.height rect) }
+    requires canvas { length canvas.now ≡ width_of rect * height_of rect }
+    requires background { length background.old ≡ width_of rect * height_of rect }
+    ensures { surface.new ≡ overlaid surface.old rect (drawn_over background.old (map colour_of canvas.now) (map is_drawn canvas.now)) }
+{
+    if is_all_drawn(canvas) {
+        surface.put(rect, canvas);
+    } else {
+        draw_over(background, canvas);
+        surface.put(rect, background);
+    }
 }
 
 /// Draws the layers, one over the other.
@@ -209,39 +285,20 @@ fn draw_layers(
     parts: &Parts<'_>,
     width: u16,
     height: u16,
-    out: &mut [Rgb],
-    drawn: &mut [bool],
+    canvas: &mut [Pixel],
 ) -> Result<(), Fault>
-    requires out { length out.old ≡ width * height }
-    requires drawn { length drawn.old ≡ width * height }
-    ensures layers { Gives (λ _. drawing out.new drawn.new store.new.held) result
-        (layered width height (drawing out.old drawn.old store.old.held) (parts_seen parts.now)) }
+    requires canvas { length canvas.old ≡ width * height }
+    ensures layers { Gives (λ _. on_canvas canvas.new store.new.held) result
+        (layered width height (on_canvas canvas.old store.old.held) (parts_seen parts.now)) }
     ensures marked { store.new.marked ≡ store.old.marked }
 {
-    match draw_residual(alloc, parts.residual, out, drawn) {
+    match draw_residual(parts.residual, canvas) {
         Ok(()) => {}
         Err(fault) => return Err(fault),
     }
-    match read_bands(store, parts.bands, width, height, out, drawn) {
+    match paint_bands(store, parts.bands, width, height, canvas) {
         Ok(()) => {}
         Err(fault) => return Err(fault),
     }
-    draw_subcodecs(alloc, parts.subcodecs, width, height, out, drawn)
-}
-
-/// Stores pixels where the stream says so.
-fn keep(
-    glyphs: &mut Glyphs,
-    glyph: GlyphUse,
-    width: u16,
-    height: u16,
-    pixels: &[Rgb],
-) -> Result<(), Fault>
-    requires { length pixels.now ≡ width * height }
-    ensures { Applies result glyphs.old glyphs.new (glyphs_after glyph width height pixels.now glyphs.old) }
-{
-    match glyph {
-        GlyphUse::Stores { index } => glyphs.store(index, width, height, pixels),
-        _ => Ok(()),
-    }
+    draw_subcodecs(alloc, parts.subcodecs, width, height, canvas)
 }

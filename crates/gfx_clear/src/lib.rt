@@ -17,6 +17,7 @@ mod part;
 mod parts;
 mod pixels;
 mod subcodecs;
+mod whole;
 
 pub use clear_state::ClearState;
 pub use encoding::MOST_PIXELS;

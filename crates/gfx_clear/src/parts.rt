@@ -1,17 +1,15 @@
 //! The parts of a stream, and the first of them.
-ghost use Rattle.std.specs.Prelude.{◌≡◌, ◌<◌, ◌≤◌, ◌+◌, ◌^◌, Bool, List, length};
-ghost use Rattle.gfx_base.specs.declared.pixel.Rgb.{Rgb as AnyRgb};
+ghost use Rattle.std.specs.Prelude.{◌≡◌, ◌≤◌, ◌+◌, length};
 ghost use Rattle.std.specs.Int.{w32};
 ghost use Rattle.gfx_base.specs.Field.{number_at};
 ghost use Rattle.gfx_base.specs.Outcome.{Gives, Says};
 ghost use Rattle.gfx_clear_store.specs.Rings.{Rings};
-ghost use Rattle.gfx_clear_bands.specs.Bands.{drawing};
-ghost use Rattle.gfx_clear.specs.Parts.{parts, covered_by, residual};
+ghost use Rattle.gfx_clear_bands.specs.Canvas.{on_canvas};
+ghost use Rattle.gfx_clear.specs.Parts.{parts, residual};
 ghost use Rattle.gfx_clear.specs.Inside.{parts_seen};
 
-use gfx_base::{Fault, Refusal, Rgb, Rgbs};
-use gfx_clear_runs::read_runs;
-use std::alloc::Global;
+use gfx_base::{Fault, Pixel, Refusal};
+use gfx_clear_runs::paint_runs;
 
 /// How many bytes the sizes of the three parts have.
 pub(crate) const COUNTS: usize = 12;
@@ -56,37 +54,16 @@ pub(crate) fn number_at(bytes: &[u8], at: usize) -> u32
     u32::from_le_bytes([bytes[at], bytes[at + 1], bytes[at + 2], bytes[at + 3]])
 }
 
-/// Draws the residual layer of a picture.
+/// Draws the residual layer on a canvas.
 #[tactic(auto, unfolding(crate::specs::Parts::residual, gfx_base::specs::Results::and_then))]
-pub(crate) fn draw_residual(
-    alloc: Global,
-    bytes: &[u8],
-    out: &mut [Rgb],
-    drawn: &mut [bool],
-) -> Result<(), Fault>
-    requires few { length out.old < 2 ^ 32 }
-    requires drawn { length drawn.old ≡ length out.old }
-    ensures { (held : Rings) → Gives (λ _. drawing out.new drawn.new held) result (residual (length out.old) (drawing out.old drawn.old held) bytes.now) }
+pub(crate) fn draw_residual(bytes: &[u8], canvas: &mut [Pixel]) -> Result<(), Fault>
+    ensures { (held : Rings) → Gives (λ _. on_canvas canvas.new held) result (residual (length canvas.old) (on_canvas canvas.old held) bytes.now) }
 {
     if bytes.is_empty() {
         return Ok(());
     }
-    let mut pixels = Rgbs::new(alloc);
-    match read_runs(bytes, out.len() as u32, &mut pixels) {
-        Ok(()) => {
-            cover(pixels.as_slice(), out, drawn);
-            Ok(())
-        }
-        Err(fault) => Err(fault),
+    match paint_runs(bytes, canvas) {
+        Ok(()) => Ok(()),
+        Err(refusal) => Err(Fault::Refused(refusal)),
     }
-}
-
-/// Makes a picture these pixels, all drawn.
-pub(crate) fn cover(pixels: &[Rgb], out: &mut [Rgb], drawn: &mut [bool])
-    requires out { length out.old ≡ length pixels.now }
-    requires drawn { length drawn.old ≡ length pixels.now }
-    ensures { (colours : List AnyRgb) (flags : List Bool) (held : Rings) → drawing out.new drawn.new held ≡ covered_by pixels.now (drawing colours flags held) }
-{
-    out.copy_from_slice(pixels);
-    drawn.fill(true);
 }

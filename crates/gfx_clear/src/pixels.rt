@@ -1,12 +1,15 @@
 //! Colours of pixels, and pixels of colours.
-ghost use Rattle.std.specs.Prelude.{◌≡◌, length, map, IfOk};
+ghost use Rattle.std.specs.Prelude.{◌≡◌, true, List, length, map, IfOk};
+ghost use Rattle.gfx_base.specs.declared.pixel.Pixel.{Pixel as AnyPixel};
+ghost use Rattle.gfx_clear_bands.specs.Canvas.{is_drawn};
 ghost use Rattle.gfx_clear.specs.Painting.{colour_of, opaque, drawn_over};
 
 use gfx_base::{NoMemory, Pixel, Rgb};
+use gfx_clear_bands::DRAWN;
 use std::alloc::Global;
 
 /// The alpha of what is drawn.
-const OPAQUE: u8 = 255;
+const OPAQUE: u8 = DRAWN;
 
 /// The colours of pixels.
 pub(crate) fn colours_of(alloc: Global, pixels: &[Pixel]) -> Result<Vec<Rgb>, NoMemory>
@@ -34,21 +37,33 @@ pub(crate) fn pixels_of(alloc: Global, colours: &[Rgb]) -> Result<Vec<Pixel>, No
     Ok(pixels)
 }
 
-/// Draws over pixels where something is drawn.
-pub(crate) fn draw_over(pixels: &mut [Pixel], colours: &[Rgb], drawn: &[bool])
-    requires colours { length colours.now ≡ length pixels.old }
-    requires drawn { length drawn.now ≡ length pixels.old }
-    ensures { pixels.new ≡ drawn_over pixels.old colours.now drawn.now }
+/// Draws over pixels where something is drawn on a canvas.
+pub(crate) fn draw_over(pixels: &mut [Pixel], canvas: &[Pixel])
+    requires { length canvas.now ≡ length pixels.old }
+    ensures { pixels.new ≡ drawn_over pixels.old (map colour_of canvas.now) (map is_drawn canvas.now) }
 {
     'pixels: for i in 0..pixels.len() {
-        if drawn[i] {
-            pixels[i] = opaque(colours[i]);
+        if canvas[i].a == DRAWN {
+            pixels[i] = canvas[i];
         }
     }
 }
 
+/// Whether all pixels of a canvas are drawn.
+pub(crate) fn is_all_drawn(canvas: &[Pixel]) -> bool
+    ensures { result ≡ true → (pixels : List AnyPixel) → length pixels ≡ length canvas.now → drawn_over pixels (map colour_of canvas.now) (map is_drawn canvas.now) ≡ canvas.now }
+{
+    'pixels: for pixel in canvas {
+        if pixel.a != DRAWN {
+            return false;
+        }
+    }
+    true
+}
+
+/// A colour that nothing shines through.
 #[inline(always)]
-fn opaque(colour: Rgb) -> Pixel
+pub(crate) fn opaque(colour: Rgb) -> Pixel
     ensures { result ≡ opaque colour }
 {
     Pixel {

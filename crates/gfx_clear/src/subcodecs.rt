@@ -1,12 +1,14 @@
 //! The third layer of a stream: rectangles, each by a subcodec.
-ghost use Rattle.std.specs.Prelude.{◌≡◌, ◌<◌, ◌≤◌, ◌+◌, ◌*◌, ◌^◌, length, IfOk};
+ghost use Rattle.std.specs.Prelude.{◌≡◌, ◌<◌, ◌≤◌, ◌+◌, ◌*◌, ◌^◌, length, map, IfOk};
 ghost use Rattle.gfx_base.specs.Outcome.{Gives};
 ghost use Rattle.gfx_clear_store.specs.Rings.{Rings};
-ghost use Rattle.gfx_clear_bands.specs.Bands.{drawing};
-ghost use Rattle.gfx_clear.specs.Subcodecs.{overwritten, area_drawn, rows_drawn, row_drawn, subcodec, subcodecs};
+ghost use Rattle.gfx_clear_bands.specs.Canvas.{on_canvas};
+ghost use Rattle.gfx_clear.specs.Painting.{opaque};
+ghost use Rattle.gfx_clear.specs.Subcodecs.{overwritten, area_drawn, rows_drawn, subcodec, subcodecs};
 
 use crate::area::{AREA, Area, area_at, decode};
-use gfx_base::{Fault, Rgb};
+use crate::pixels::opaque;
+use gfx_base::{Fault, Pixel, Rgb};
 use std::alloc::Global;
 
 /// Draws subcodecs in a picture of these sides to the end of the bytes.
@@ -15,16 +17,14 @@ pub(crate) fn draw_subcodecs(
     bytes: &[u8],
     width: u16,
     height: u16,
-    out: &mut [Rgb],
-    drawn: &mut [bool],
+    canvas: &mut [Pixel],
 ) -> Result<(), Fault>
-    requires out { length out.old ≡ width * height }
-    requires drawn { length drawn.old ≡ width * height }
-    ensures { (held : Rings) → Gives (λ _. drawing out.new drawn.new held) result (subcodecs width height (drawing out.old drawn.old held) bytes.now) }
+    requires { length canvas.old ≡ width * height }
+    ensures { (held : Rings) → Gives (λ _. on_canvas canvas.new held) result (subcodecs width height (on_canvas canvas.old held) bytes.now) }
 {
     let mut rest = bytes;
     'subcodecs: while !rest.is_empty() {
-        rest = match draw_subcodec(alloc, rest, width, height, out, drawn) {
+        rest = match draw_subcodec(alloc, rest, width, height, canvas) {
             Ok(rest) => rest,
             Err(fault) => return Err(fault),
         };
@@ -39,12 +39,10 @@ fn draw_subcodec<'a>(
     bytes: &'a [u8],
     width: u16,
     height: u16,
-    out: &mut [Rgb],
-    drawn: &mut [bool],
+    canvas: &mut [Pixel],
 ) -> Result<&'a [u8], Fault>
-    requires out { length out.old ≡ width * height }
-    requires drawn { length drawn.old ≡ width * height }
-    ensures subcodec { (held : Rings) → Gives (λ rest. (drawing out.new drawn.new held, rest.now)) result (subcodec width height (drawing out.old drawn.old held) bytes.now) }
+    requires { length canvas.old ≡ width * height }
+    ensures subcodec { (held : Rings) → Gives (λ rest. (on_canvas canvas.new held, rest.now)) result (subcodec width height (on_canvas canvas.old held) bytes.now) }
     ensures shorter { IfOk result (λ rest. length rest.now < length bytes.now) }
 {
     let area = match area_at(bytes, width, height) {
@@ -56,7 +54,7 @@ fn draw_subcodec<'a>(
     let count = u32::from(area.width) * u32::from(area.height);
     match decode(alloc, area.codec, count, own) {
         Ok(pixels) => {
-            draw_area(&area, pixels.as_slice(), width, out, drawn);
+            draw_area(&area, pixels.as_slice(), width, canvas);
             Ok(rest)
         }
         Err(fault) => Err(fault),
@@ -64,31 +62,38 @@ fn draw_subcodec<'a>(
 }
 
 /// Draws pixels in a rectangle of a picture of which each row has so many pixels.
-fn draw_area(area: &Area, pixels: &[Rgb], across: u16, out: &mut [Rgb], drawn: &mut [bool])
+fn draw_area(area: &Area, pixels: &[Rgb], across: u16, canvas: &mut [Pixel])
     requires whole { length pixels.now ≡ area.now.width * area.now.height }
     requires across { area.now.x + area.now.width ≤ across }
-    requires down { across * (area.now.y + area.now.height) ≤ length out.old }
-    requires few { length out.old < 2 ^ 32 }
-    requires drawn { length drawn.old ≡ length out.old }
-    ensures { (held : Rings) → drawing out.new drawn.new held ≡ area_drawn across area.now pixels.now (drawing out.old drawn.old held) }
+    requires down { across * (area.now.y + area.now.height) ≤ length canvas.old }
+    requires few { length canvas.old < 2 ^ 32 }
+    ensures { (held : Rings) → on_canvas canvas.new held ≡ area_drawn across area.now pixels.now (on_canvas canvas.old held) }
 {
     let (across, width) = (usize::from(across), usize::from(area.width));
     let mut at = usize::from(area.y) * across + usize::from(area.x);
     let mut rest = pixels;
     'rows: for _ in 0..area.height {
         let (row, others) = rest.split_at(width);
-        draw_row(at, row, out, drawn);
+        draw_row(at, row, canvas);
         rest = others;
         at += across;
     }
 }
 
 /// Draws a row at a place and those after it.
-fn draw_row(at: usize, row: &[Rgb], out: &mut [Rgb], drawn: &mut [bool])
-    requires within { at + length row.now ≤ length out.old }
-    requires drawn { length drawn.old ≡ length out.old }
-    ensures { (held : Rings) → drawing out.new drawn.new held ≡ row_drawn at row.now (drawing out.old drawn.old held) }
+fn draw_row(at: usize, row: &[Rgb], canvas: &mut [Pixel])
+    requires { at + length row.now ≤ length canvas.old }
+    ensures { canvas.new ≡ overwritten at (map opaque row.now) canvas.old }
 {
-    out[at..at + row.len()].copy_from_slice(row);
-    drawn[at..at + row.len()].fill(true);
+    paint_row(row, &mut canvas[at..at + row.len()]);
+}
+
+/// Makes pixels these colours, opaque.
+fn paint_row(row: &[Rgb], out: &mut [Pixel])
+    requires { length out.old ≡ length row.now }
+    ensures { out.new ≡ map opaque row.now }
+{
+    'pixels: for i in 0..row.len() {
+        out[i] = opaque(row[i]);
+    }
 }

@@ -1,5 +1,6 @@
 pub mod Making
 pub mod Drawings
+pub mod Canvases
 pub mod Shorts
 pub mod Outputs
 pub mod Again

@@ -1,5 +1,6 @@
 pub mod Bars
 pub mod Bands
+pub mod Canvas
 pub mod Reading
 pub mod Writing
 pub mod ReadBack

@@ -1,5 +1,6 @@
 //! One column of a band.
-ghost use Rattle.std.specs.Prelude.{◌≡◌, ◌≤◌, ◌+◌, ◌*◌, ◌<◌, length, ◌++◌, ℕ, replicate, slice_index_or, IfOk, OnErr};
+ghost use Rattle.std.specs.Prelude.{◌≡◌, ◌≤◌, ◌+◌, ◌*◌, ◌<◌, length, ◌++◌, ℕ, replicate, slice_index_or, Ok, IfOk, IfSome, OnErr};
+ghost use Rattle.gfx_base.specs.declared.pixel.Rgb.{Rgb as AnyRgb};
 ghost use Rattle.arrayvec.specs.ArrayVec.{array_vec_len};
 ghost use Rattle.gfx_base.specs.Outcome.{Says};
 ghost use Rattle.gfx_clear_store.specs.Rings.{with_mark, with_bar, with_short};
@@ -43,6 +44,41 @@ pub(crate) fn read_bar<'a>(
         Word::ShortHit { place } => read_short_hit(store, rest, height, background, place),
         Word::Miss { on, off } => read_miss(store, rest, height, background, on, off),
     }
+}
+
+/// A column that stands in the store, and the bytes behind its word.
+#[derive(Clone, Copy)]
+pub(crate) struct Held<'a, 'b> {
+    pub(crate) pixels: &'a [Rgb],
+    pub(crate) rest: &'b [u8],
+}
+
+/// The next column where it is a bar of the store, and of this height; None where it is another, or refused.
+#[tactic(auto, unfolding(crate::specs::Bars::bar, crate::specs::Bars::hit_bar, gfx_base::specs::Results::and_then))]
+pub(crate) fn held_bar<'a, 'b>(
+    store: &'a Store,
+    bytes: &'b [u8],
+    height: u16,
+) -> Option<Held<'a, 'b>>
+    ensures bar { IfSome result (λ held. (background : AnyRgb) → bar store.now.held height background bytes.now ≡ Ok (record { pixels = held.pixels.now; rings = store.now.held; rest = held.rest.now })) }
+    ensures height { IfSome result (λ held. length held.pixels.now ≡ height) }
+    ensures shorter { IfSome result (λ held. length held.rest.now ≤ length bytes.now) }
+{
+    if bytes.len() < 2 {
+        return None;
+    }
+    let number = u16::from_le_bytes([bytes[0], bytes[1]]);
+    let Word::Hit { place } = word_of(number) else {
+        return None;
+    };
+    let pixels = store.bar(place)?;
+    if pixels.len() != usize::from(height) {
+        return None;
+    }
+    Some(Held {
+        pixels,
+        rest: &bytes[2..],
+    })
 }
 
 /// The colour of three bytes.

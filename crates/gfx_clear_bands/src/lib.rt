@@ -9,10 +9,12 @@ mod band;
 mod bar;
 mod column;
 mod laws;
+mod painting;
 mod reading;
 mod word;
 mod writing;
 
 pub use laws::written_is_read;
+pub use painting::{DRAWN, paint_bands};
 pub use reading::read_bands;
 pub use writing::write_bands;

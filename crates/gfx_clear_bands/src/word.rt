@@ -3,6 +3,7 @@ ghost use Rattle.std.specs.Prelude.{◌≡◌};
 ghost use Rattle.gfx_clear_bands.specs.Bars.{word_of};
 
 /// How a column is sent.
+#[derive(Clone, Copy)]
 pub(crate) enum Word {
     /// As a place of the bars.
     Hit { place: u16 },

@@ -27,19 +27,19 @@ pub covering_whole : (area : ℕ) (elements : List Element) → total_of element
 unfolding covering
 covering_whole area elements e = rw (eq-eqb (total_of elements) area e) refl
 
-covering_other : (area : ℕ) (elements : List Element) → total_of elements ≢ area → covering area elements None ≡ Err RunTotal
+pub covering_other : (area : ℕ) (elements : List Element) → total_of elements ≢ area → covering area elements None ≡ Err RunTotal
 unfolding covering
 covering_other area elements e = rw (ne_eqb (total_of elements) area e) refl
 
-covering_refused : (area : ℕ) (elements : List Element) (reason : Refusal) → covering area elements (Some reason) ≡ Err reason
+pub covering_refused : (area : ℕ) (elements : List Element) (reason : Refusal) → covering area elements (Some reason) ≡ Err reason
 unfolding covering
 covering_refused area elements reason = refl
 
-total_more : (element : Element) (elements : List Element) → total_of (element ∷ elements) ≡ area_in element + total_of elements
+pub total_more : (element : Element) (elements : List Element) → total_of (element ∷ elements) ≡ area_in element + total_of elements
 unfolding total_of
 total_more element elements = refl
 
-covered_ok : (element : Element) (less left : ℕ) (elements : List Element) (refusal : Option Refusal) → area_in element + less ≡ left
+pub covered_ok : (element : Element) (less left : ℕ) (elements : List Element) (refusal : Option Refusal) → area_in element + less ≡ left
     → covering less elements refusal ≡ Ok (pixels_of elements) → covering left (element ∷ elements) refusal ≡ Ok (pixels_of (element ∷ elements))
 covered_ok element less left elements (Some reason) e ok =
     let err : covering less elements (Some reason) ≡ Err reason = covering_refused less elements reason in absurd cc
@@ -49,7 +49,7 @@ covered_ok element less left elements None e ok =
       | inr other ↦ let err : covering less elements None ≡ Err RunTotal = covering_other less elements other in absurd cc
     ]
 
-covered_err : (element : Element) (less left : ℕ) (elements : List Element) (refusal : Option Refusal) (reason : Refusal) → area_in element + less ≡ left
+pub covered_err : (element : Element) (less left : ℕ) (elements : List Element) (refusal : Option Refusal) (reason : Refusal) → area_in element + less ≡ left
     → covering less elements refusal ≡ Err reason → covering left (element ∷ elements) refusal ≡ Err reason
 covered_err element less left elements (Some first) reason e err =
     let due : covering less elements (Some first) ≡ Err first = covering_refused less elements first in
@@ -95,7 +95,7 @@ pub ends_refused : (left : ℕ) (part : Part) (reason : Refusal) (now : List Rgb
 unfolding covering
 ends_refused left part reason now e = rw e (refl, begun_none (pixels_of []) now)
 
-over_all : (left : ℕ) (element : Element) (elements : List Element) (refusal : Option Refusal) → left < area_in element
+pub over_all : (left : ℕ) (element : Element) (elements : List Element) (refusal : Option Refusal) → left < area_in element
     → covering left (element ∷ elements) refusal ≡ Err (unwrap_or refusal RunTotal)
 over_all left element elements (Some reason) over = covering_refused left (element ∷ elements) reason
 over_all left element elements None over = covering_other left (element ∷ elements) (λ f. omega (arith, total_more element elements))
@@ -110,11 +110,11 @@ pub ends_memory : (left : ℕ) (part : Part) (element : Element) (behind_it : Pa
 unfolding pixels_of
 ends_memory left part element behind_it now new e some = rw e (begun_front (pixels_in element) (pixels_of behind_it.elements) now new some)
 
-total_none : total_of [] ≡ 0
+pub total_none : total_of [] ≡ 0
 unfolding total_of
 total_none = refl
 
-pixels_none : pixels_of [] ≡ []
+pub pixels_none : pixels_of [] ≡ []
 unfolding pixels_of
 pixels_none = refl
 

@@ -1,5 +1,6 @@
 pub mod Parts
 pub mod Appending
+pub mod Painting
 pub mod Segments
 pub mod Colours
 pub mod Putting

@@ -9,10 +9,12 @@ mod colour;
 mod element;
 mod laws;
 mod length;
+mod paint;
 mod palette;
 mod read;
 mod write;
 
 pub use laws::{one_runs_form, rlex_reads_back, runs_are_longest, runs_read_back};
+pub use paint::{paint_rlex, paint_runs};
 pub use read::{read_rlex, read_runs};
 pub use write::{write_rlex, write_runs};

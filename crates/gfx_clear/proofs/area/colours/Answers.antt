@@ -1,4 +1,4 @@
-use Rattle.std.proofs.Common.{[], ◌∷◌, ◌++◌, sym, ap, ◌∙◌, arith}
+use Rattle.std.proofs.Common.{[], ◌∷◌, ◌++◌, sym, ◌∙◌, arith}
 use Rattle.gfx_clear_bands.proofs.Making.{colours-more, colours-none}
 use Rattle.gfx_clear.proofs.area.colours.Goals as goal
 

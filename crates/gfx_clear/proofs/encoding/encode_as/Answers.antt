@@ -1,4 +1,4 @@
-use Rattle.std.proofs.Common.{◌*◌, ◌∙◌, subst}
+use Rattle.std.proofs.Common.{◌*◌, subst}
 use Rattle.gfx_clear.specs.Sending.{MayUse}
 use Rattle.gfx_clear.proofs.Sent.{stored_never, stores_sent}
 use Rattle.gfx_clear.proofs.encoding.encode_as.Goals as goal

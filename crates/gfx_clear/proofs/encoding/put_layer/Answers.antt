@@ -1,5 +1,5 @@
-use Rattle.std.proofs.Common.{◌+◌, ◌*◌, ◌++◌, length, ap, ◌∙◌, arith, length-append}
-use Rattle.gfx_clear.specs.Sending.{part_as, part_bytes}
+use Rattle.std.proofs.Common.{◌++◌, length, ap, ◌∙◌, arith, length-append}
+use Rattle.gfx_clear.specs.Sending.{part_bytes}
 use Rattle.gfx_clear.proofs.Few.{part_few, placed_few}
 use Rattle.gfx_clear.proofs.encoding.put_layer.Goals as goal
 

@@ -1,5 +1,5 @@
-use Rattle.std.proofs.Common.{◌≡◌, ap, ◌∙◌, subst}
-use Rattle.gfx_clear.specs.Inside.{state_of, sends}
+use Rattle.std.proofs.Common.{ap, ◌∙◌}
+use Rattle.gfx_clear.specs.Inside.{state_of}
 use Rattle.gfx_clear.specs.Sending.{sent}
 use Rattle.gfx_clear.proofs.Sent.{sent_is}
 use Rattle.gfx_clear.proofs.clear_state.ClearState.encode.Goals as goal

@@ -1,4 +1,4 @@
-use Rattle.std.proofs.Common.{◌≡◌, Ok, sym, ap, ◌∙◌, arith}
+use Rattle.std.proofs.Common.{Ok, sym, ap, ◌∙◌, arith}
 use Rattle.gfx_clear.specs.Painting.{scene}
 use Rattle.gfx_clear.specs.Sending.{sent}
 use Rattle.gfx_clear.proofs.Step.{painting_is_step}

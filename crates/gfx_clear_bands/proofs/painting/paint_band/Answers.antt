@@ -1,0 +1,17 @@
+use Rattle.std.proofs.Common.{◌+◌, ◌-◌, sym, ap, ◌∙◌, subst}
+use Rattle.gfx_clear_bands.specs.Canvas.{on_canvas}
+use Rattle.gfx_clear_bands.specs.Bands.{columns}
+use Rattle.gfx_clear_bands.specs.Reading.{DrawsOn}
+use Rattle.gfx_clear_bands.proofs.Drawings.{band_at, band_refused}
+use Rattle.gfx_clear_bands.proofs.painting.paint_band.Goals as goal
+
+pub returns-in-Err-clause-band : goal.returns-in-Err-clause-band
+returns-in-Err-clause-band c = band_refused c.args.width c.args.height _ c.args.bytes.now c.in-Err.refusal (sym c.in-Err.ensures.head)
+
+pub returns-clause-band : goal.returns-clause-band
+returns-clause-band c =
+    let band = c.in-Ok.band in
+    let old = on_canvas c.args.canvas.now c.args.store.now.held in
+    subst (DrawsOn c.paint_columns.result (on_canvas c.paint_columns.new.canvas c.paint_columns.new.store.held))
+    (ap (columns c.args.width band (band.right + 1 - band.left) band.left old) c.split_at.ensures.back ∙ sym (band_at c.args.width c.args.height old c.args.bytes.now band (sym c.in-Ok.ensures.head)))
+    c.paint_columns.ensures.columns

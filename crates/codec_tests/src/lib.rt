@@ -11,4 +11,6 @@ mod quant;
 #[cfg(test)]
 mod rlgr;
 #[cfg(test)]
+mod settings;
+#[cfg(test)]
 mod srl;

@@ -166,14 +166,14 @@ none-some x e = cc
 
 pub first-record : (result : Result (Unit {0}) Refusal) (t : Transform) (base level positions bytes : List ℕ) (kept : List ℤ) (planes : Planes) (old new : Part)
     → length (sent planes) ≡ 4096 → StaysWithin (record_by t base level planes) → Rlgr bytes (Ok (first_values t (truncated_plane t level (sent planes))))
-    → positions ≡ positions_at base level → kept ≡ (record_by t base level planes).kept → length new.sums ≡ 4096 → TakesFirst result t positions bytes kept old new
+    → positions ≡ positions_at base level → kept ≡ (record_by t base level planes).kept → TakesFirst result t positions bytes kept old new
     → IsOk result × (new ≡ record_by t base level planes)
-first-record (Ok done) t base level positions bytes kept planes old new long stays code place due whole took =
+first-record (Ok done) t base level positions bytes kept planes old new long stays code place due took =
     let values : List ℤ = truncated_plane t level (sent planes) in
     let read : summed t took.0 ≡ values = ap (summed t) (same-values bytes took.0 (first_values t values) took.1 code) ∙ summed-first t values (length-by_band t (λ band v. truncated band v (value_of level band)) (sent planes) ∙ long) in
     let sums : Dequantises t (positions_at base level) values new.sums = subst (λ p. Dequantises t p values new.sums) place (subst (λ l. Dequantises t positions l new.sums) read took.2) in
-    (refl, record-is t base level planes new long whole (took.3 ∙ due) (took.4 ∙ place) (λ k h. sums-of t base level planes new.sums k long stays sums h))
-first-record (Err refusal) t base level positions bytes kept planes old new long stays code place due whole took = absurd (by took.1)
+    (refl, record-is t base level planes new long took.5 (took.3 ∙ due) (took.4 ∙ place) (λ k h. sums-of t base level planes new.sums k long stays sums h))
+first-record (Err refusal) t base level positions bytes kept planes old new long stays code place due took = absurd (by took.1)
   where
     values : List ℤ
     values = truncated_plane t level (sent planes)
@@ -217,17 +217,17 @@ abbrev pub Falls : List ℕ → List ℕ → List ℕ → Type 0
 Falls base before behind = (band : Band) → (1 ≤ value_of base band) × (value_of behind band ≤ value_of before band)
 
 pub upgrade-record : (result : Result (Unit {0}) Refusal) (t : Transform) (base before behind : List ℕ) (planes : Planes) (srl raw : List Bool) (old new : Part)
-    → length (sent planes) ≡ 4096 → Falls base before behind → StaysWithin (record_by t base behind planes) → old ≡ record_by t base before planes → length new.sums ≡ 4096
+    → length (sent planes) ≡ 4096 → Falls base before behind → StaysWithin (record_by t base behind planes) → old ≡ record_by t base before planes
     → AreEntries (pass_of t (positions_at base before) (positions_at base behind) (record_by t base before planes).sums srl raw) (entries_of t before behind (sent planes))
     → Upgrades result (pass_of t (positions_at base before) (positions_at base behind) (record_by t base before planes).sums srl raw) (positions_at base behind) old new
     → IsOk result × (new ≡ record_by t base behind planes)
-upgrade-record (Ok done) t base before behind planes srl raw old new long falls stays was whole entries took =
+upgrade-record (Ok done) t base before behind planes srl raw old new long falls stays was entries took =
     let same : took.0 ≡ entries_of t before behind (sent planes) = one-reading _ took.0 _ took.1 entries in (
       refl,
-      record-is t base behind planes new long whole (took.3 ∙ ap (λ (p : Part). p.kept) was) took.4
+      record-is t base behind planes new long took.5 (took.3 ∙ ap (λ (p : Part). p.kept) was) took.4
           (λ k h. took.2 k h ∙ ap (λ l. sum_after (pass_of t (positions_at base before) (positions_at base behind) (record_by t base before planes).sums srl raw) l k) same ∙ sum-behind t base before behind planes srl raw k long h (falls (band_at t k)).0 (falls (band_at t k)).1),
     )
-upgrade-record (Err refusal) t base before behind planes srl raw old new long falls stays was whole entries took =
+upgrade-record (Err refusal) t base before behind planes srl raw old new long falls stays was entries took =
     let same : took.1.0 ≡ entries_of t before behind (sent planes) = one-reading _ took.1.0 _ took.1.1 entries in
     absurd
     (stays-not (record_by t base behind planes) old.kept (sum_after (pass_of t (positions_at base before) (positions_at base behind) (record_by t base before planes).sums srl raw) took.1.0) stays (ap (λ (p : Part). p.kept) was)

@@ -25,7 +25,7 @@ pub fn plain_may_be_sent()
 /// refused and leaves the record of the first level.
 pub fn first_is_shown()
     ensures { (result : Result (Unit {0}) Refusal) (source : Source) (component : Component) (bytes : List ℕ) (shape : PassShape) (kept : List ℤ) (old new : TileState) → MayBeSent source → ShapeIs source 0 shape
-        → Rlgr bytes (Ok (first_values source.setting.transform (values_at source component 0))) → kept ≡ (record_at source component 0).kept → length (part_of new component).sums ≡ 4096
+        → Rlgr bytes (Ok (first_values source.setting.transform (values_at source component 0))) → kept ≡ (record_at source component 0).kept
         → StartsIn result component bytes shape kept old new → IsOk result × (part_of new component ≡ record_at source component 0) }
 {}
 
@@ -38,7 +38,7 @@ pub fn pass_is_read()
 /// Taken by a record of the level before, it is not refused and leaves the record of its level.
 pub fn upgrade_is_shown()
     ensures { (result : Result (Unit {0}) Refusal) (source : Source) (component : Component) (level : ℕ) (srl raw : List ℕ) (shape : PassShape) (old new : TileState) → MayBeSent source → 1 ≤ level → level ≤ length source.setting.levels → ShapeIs source level shape
-        → IsPass source component level srl raw → part_of old component ≡ record_at source component (level - 1) → length (part_of new component).sums ≡ 4096
+        → IsPass source component level srl raw → part_of old component ≡ record_at source component (level - 1)
         → UpgradesIn result component srl raw shape old new → IsOk result × (part_of new component ≡ record_at source component level) }
 {}
 

@@ -52,16 +52,17 @@ FirstRefused t positions bytes kept =
     ⊎ ((values : List ℤ) × Rlgr bytes (Ok values)
     × (LeavesRange t positions (summed t values) ⊎ ((sums : List ℤ) × Dequantises t positions (summed t values) sums × LeavesIt kept (at sums))))
 
--- a first pass over a kept plane: the sums are the coefficients of its values
+-- a first pass over a kept plane: the sums are the coefficients of its values, 4,096 of them
 abbrev pub TakesFirst : Result (Unit {0}) Refusal → Transform → List ℕ → List ℕ → List ℤ → Part → Part → Type 0
 TakesFirst (Ok done) t positions bytes kept old new =
-    (values : List ℤ) × Rlgr bytes (Ok values) × Dequantises t positions (summed t values) new.sums × (new.kept ≡ kept) × (new.positions ≡ positions)
+    (values : List ℤ) × Rlgr bytes (Ok values) × Dequantises t positions (summed t values) new.sums × (new.kept ≡ kept) × (new.positions ≡ positions) × (length new.sums ≡ 4096)
 TakesFirst (Err refusal) t positions bytes kept old new = (refusal ≡ CoefficientRange) × FirstRefused t positions bytes kept × (new ≡ old)
 
--- an upgrade: each sum with what the pass adds to it
+-- an upgrade: each of the 4,096 sums with what the pass adds to it
 abbrev pub Upgrades : Result (Unit {0}) Refusal → Pass → List ℕ → Part → Part → Type 0
 Upgrades (Ok done) pass positions old new =
     (entries : List ℤ) × AreEntries pass entries × ((k : ℕ) → k < 4096 → at new.sums k ≡ sum_after pass entries k) × (new.kept ≡ old.kept) × (new.positions ≡ positions)
+    × (length new.sums ≡ 4096)
 Upgrades (Err refusal) pass positions old new =
     (refusal ≡ CoefficientRange) × ((entries : List ℤ) × AreEntries pass entries × LeavesIt old.kept (sum_after pass entries)) × (new ≡ old)
 

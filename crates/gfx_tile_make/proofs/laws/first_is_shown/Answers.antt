@@ -9,7 +9,7 @@ use Rattle.gfx_tile_make.proofs.Sources.{sent-whole}
 use Rattle.gfx_tile_make.proofs.laws.first_is_shown.Goals as goal
 
 pub returns : goal.returns
-returns c result source component bytes shape kept old new may fits code due whole took =
+returns c result source component bytes shape kept old new may fits code due took =
     first-record result source.setting.transform (base_of component source.setting) (left_out component source.setting.levels 0) (positions_of shape component) bytes kept (planes_of source component) (part_of old component) (part_of new component)
-    (sent-whole source component may) (may.fits component 0 (omega arith)) code (fits.positions_are component) due whole
+    (sent-whole source component may) (may.fits component 0 (omega arith)) code (fits.positions_are component) due
     (subst (λ t. TakesFirst result t (positions_of shape component) bytes kept (part_of old component) (part_of new component)) fits.transform_is took.0)

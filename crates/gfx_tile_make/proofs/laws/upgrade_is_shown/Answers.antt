@@ -14,7 +14,7 @@ use Rattle.gfx_tile_make.proofs.Sources.{falls-at, sent-whole}
 use Rattle.gfx_tile_make.proofs.laws.upgrade_is_shown.Goals as goal
 
 pub returns : goal.returns
-returns c result source component level srl raw shape old new may some listed fits written was whole took =
+returns c result source component level srl raw shape old new may some listed fits written was took =
     let t = source.setting.transform in
     let base = base_of component source.setting in
     let before = left_out component source.setting.levels (level - 1) in
@@ -26,7 +26,7 @@ returns c result source component level srl raw shape old new may some listed fi
     ∙ ap (λ p. pass_of t (part_of old component).positions p (part_of old component).sums (bits_of srl) (bits_of raw)) (fits.positions_are component)
     ∙ ap (λ (p : Part). pass_of t p.positions behind-positions p.sums (bits_of srl) (bits_of raw)) was in
     upgrade-record result t base before behind (planes_of source component) (bits_of srl) (bits_of raw) (part_of old component) (part_of new component)
-    (sent-whole source component may) falls (may.fits component level listed) was whole
+    (sent-whole source component may) falls (may.fits component level listed) was
     (data-read t base before behind (sent (planes_of source component)) srl raw (sent-whole source component may) (λ band. (falls band).1) written)
     (subst (λ p. Upgrades result (upgrade_to source component level (bits_of srl) (bits_of raw)) p (part_of old component) (part_of new component)) (fits.positions_are component)
     (subst (λ p. Upgrades result p (positions_of shape component) (part_of old component) (part_of new component)) same took.0))

@@ -16,11 +16,15 @@ use std::io::Read;
 const PIECE: usize = 16;
 
 fn main(rt: HostRuntime) -> anyhow::Result<()> {
-    let alloc = rt.alloc();
-    let mut client = connect(alloc)?;
+    let mut client = connect(rt.alloc())?;
+    draw_all(&rt, &mut client)
+}
+
+/// Says the client's first words, draws what comes from the standard input until it ends, and shows it.
+fn draw_all(rt: &HostRuntime, client: &mut Client) -> anyhow::Result<()> {
     print!(rt; "to the server:")?;
     let hello = client.hello().ok().context("no memory is left")?;
-    print_bytes(&rt, hello.as_slice())?;
+    print_bytes(rt, hello.as_slice())?;
     let mut input = rt.stdin();
     let mut piece = [0; PIECE];
     for _ in 0..u64::MAX {
@@ -29,9 +33,9 @@ fn main(rt: HostRuntime) -> anyhow::Result<()> {
             break;
         }
         client.take(&piece[..count])?;
-        draw(&rt, &mut client)?;
+        draw(rt, client)?;
     }
-    show(&rt, &client)
+    show(rt, client)
 }
 
 /// A client that offers version 10.

@@ -10,6 +10,7 @@ use crate::stepped::Stepped;
 use gfx_base::{Bytes, Fault, NoMemory, Refusal};
 use gfx_bitmap_cache::Cache;
 use gfx_caps::{MOST_OFFERS, Offers};
+use gfx_clear::ClearState;
 use gfx_pdu::{Pdu, read_pdu};
 use gfx_screen::State;
 use gfx_segment::Splitter;
@@ -33,7 +34,8 @@ pub struct Client {
 impl Client {
     ghost use Rattle.gfx_client.specs.Client.{cursor_of, closed_by, offers_of, Takes, Steps, Advances, TakesMessage, OpensMessage, IsAtPayloadEnd, IsAtEnd, end_of};
 
-    /// A client at the start of a stream, which offers these versions.
+    /// A client at the start of a stream, which offers these versions. It takes the room of the ClearCodec
+    /// stores.
     pub fn new(alloc: Global, offers: Offers) -> Result<Client, NoMemory>
         requires { length offers ≤ MOST_OFFERS }
         ensures stands { IfOk result (λ client. StandsFor client []) }
@@ -41,17 +43,21 @@ impl Client {
         ensures drained { IfOk result IsDrained }
         ensures offers { IfOk result (λ client. offers_of client ≡ offers) }
     {
+        let state = State::new(alloc, false)?;
         Ok(Client {
             alloc,
             offered: Offered::new(offers),
             splitter: Splitter::new(alloc),
             payload: Bytes::new(alloc),
             at: 0,
-            state: State::new(alloc, false),
+            state,
             applied: 0,
             closed: None,
         })
     }
+
+    /// Lets the client go. What this costs to prove is paid here once, and not at each of a caller's exits.
+    pub fn let_go(self) {}
 
     /// What a client says first, for the server to choose a version: the message that offers its
     /// versions ([MS-RDPEGFX] RDPGFX_CAPS_ADVERTISE_PDU), as it is sent. No state of the client bars it.
@@ -153,6 +159,13 @@ impl Client {
         ensures { result.now ≡ (cursor_of self.now).state.cache }
     {
         self.state.cache()
+    }
+
+    /// What the ClearCodec streams so far have left for later ones.
+    pub fn clear(&self) -> &ClearState
+        ensures { result.now ≡ (cursor_of self.now).state.clear }
+    {
+        self.state.clear()
     }
 
     /// How many messages were applied, up to the last value of a count.

@@ -154,6 +154,7 @@ keep_fine script server kind held after id key rect holds numbers checked =
           fits_cache = k.fits_cache;
           sides_fit = sides_fit-kept state server.plan m.next m.kept held.stock.sides key rect m.picture holds.bitmaps.fits_cache holds.bitmaps.sides_fit m.chosen;
         };
+        rings = holds.rings;
       };
       frame = refl;
       agrees = λ wanted agree.
@@ -255,6 +256,7 @@ show_fine script server kind held after key to points holds numbers checked =
           fits_cache = fits_cache-touched server.plan server.state.cache key m.slot holds.bitmaps.fits_cache m.is;
           sides_fit = sides_fit-touched server.plan server.state.cache held.stock.sides key m.slot holds.bitmaps.fits_cache m.is holds.bitmaps.sides_fit;
         };
+        rings = holds.rings;
       };
       frame = refl;
       agrees = λ wanted agree.
@@ -302,6 +304,7 @@ forget_fine script server kind held after key holds numbers checked =
           fits_cache = fits_cache-forgotten server.plan server.state.cache key slot holds.bitmaps.fits_cache is;
           sides_fit = sides_fit-forgotten server.plan server.state.cache held.stock.sides key slot holds.bitmaps.fits_cache is holds.bitmaps.sides_fit;
         };
+        rings = holds.rings;
       };
       frame = refl;
       agrees = λ wanted agree.

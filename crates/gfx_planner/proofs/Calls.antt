@@ -16,7 +16,7 @@ use Rattle.gfx_state.specs.State.{State}
 use Rattle.gfx_state.specs.Step as message
 use Rattle.gfx_state.specs.Sending.{all_steps, sent, IsCarried}
 use Rattle.gfx_planner.specs.Agree.{Agree, Holds, IsInFrame, IsAllowed, IsAllowedStep, kinded_at}
-use Rattle.gfx_planner.specs.Planned.{Planned, PutsFront, SendsMessages, Sends, ShowsStep, PutsStep}
+use Rattle.gfx_planner.specs.Planned.{Planned, PutsFront, SendsMade, SendsMessages, Sends, ShowsStep, PutsStep}
 use Rattle.gfx_planner.specs.Want.{wanted_after}
 use Rattle.gfx_planner.specs.Wire.{Server, Made, made, made_by, frame_start, frame_end, after_open, after_close}
 use Rattle.gfx_planner.specs.declared.planner.TheConstants.{MOST_FRAMES}
@@ -113,11 +113,27 @@ puts script state new plan next frames spent one pdus before now fresh allowed i
       shows_step script server one into new allowed is done.0,
     )
 
+-- what it is made into is put out
+pub puts_made : (script : Script) (state new : State) (plan next : Plan) (frames : ℕ) (spent : Bool) (one : KindedStep) (before now : List ℕ) → spent ≡ false → IsAllowed script (planned state plan frames spent).server one
+    → SendsMade {X = Unit {0}} (Ok tt) state new next before now (made_by script (planned state plan frames spent).server one)
+    → PutsStep script (Ok tt) (planned state plan frames spent) (planned new next frames false) before now (Some one)
+puts_made script state new plan next frames spent one before now fresh allowed done = by (made_by script (planned state plan frames spent).server one) refl done
+  where
+    by : (o : Option Made) → made_by script (planned state plan frames spent).server one ≡ o → SendsMade {X = Unit {0}} (Ok tt) state new next before now o
+        → PutsStep script (Ok tt) (planned state plan frames spent) (planned new next frames false) before now (Some one)
+    by None is sends = absurd sends
+    by (Some into) is sends =
+        puts script state new plan next frames spent one into.pdus before now fresh allowed (is ∙ ap (made into.pdus) (sym sends.1)) sends.0
+
 -- a front of it is
-pub puts_front : (script : Script) (e : NoMemory) (state new : State) (plan next : Plan) (frames : ℕ) (spent : Bool) (one : KindedStep) (pdus : List Pdu) (before now : List ℕ) → spent ≡ false
-    → made_by script (planned state plan frames spent).server one ≡ made pdus next
-    → SendsMessages {X = Unit {0}} (Err e) state new before now pdus → PutsStep script (Err e) (planned state plan frames spent) (planned new next frames true) before now (Some one)
-puts_front script e state new plan next frames spent one pdus before now fresh is done =
-    let server : Server = record { state = state; plan = plan; frames = frames } in
-    let due = messages-is script server one record { pdus = pdus; plan = next } is in
-    ((refl, subst (λ z. PutsFront before now (sent z)) (sym due) done), λ was. unspent spent fresh was)
+pub puts_made_front : (script : Script) (e : NoMemory) (state new : State) (plan next : Plan) (frames : ℕ) (spent : Bool) (one : KindedStep) (before now : List ℕ) → spent ≡ false
+    → SendsMade {X = Unit {0}} (Err e) state new next before now (made_by script (planned state plan frames spent).server one)
+    → PutsStep script (Err e) (planned state plan frames spent) (planned new next frames true) before now (Some one)
+puts_made_front script e state new plan next frames spent one before now fresh done = by (made_by script (planned state plan frames spent).server one) refl done
+  where
+    by : (o : Option Made) → made_by script (planned state plan frames spent).server one ≡ o → SendsMade {X = Unit {0}} (Err e) state new next before now o
+        → PutsStep script (Err e) (planned state plan frames spent) (planned new next frames true) before now (Some one)
+    by None is sends = absurd sends
+    by (Some into) is sends =
+        let due = messages-is script (planned state plan frames spent).server one into is in
+        ((refl, subst (λ z. PutsFront before now (sent z)) (sym due) sends), λ was. unspent spent fresh was)

@@ -4,7 +4,7 @@ use Rattle.std.specs.List.{AllByRecursion}
 use Rattle.std.proofs.lemmas.List.{map-append, length-map}
 use Rattle.std.proofs.lemmas.List.Sums.{fold-append}
 use Rattle.gfx_script.specs.Checks.{Held, held_after}
-use Rattle.gfx_script.specs.Kinds.{KindedStep, HasKind, Fits, own}
+use Rattle.gfx_script.specs.Kinds.{KindedStep, Fits}
 use Rattle.gfx_script.specs.Script.{IsAccepted}
 use Rattle.gfx_script.specs.Scripted.{Script}
 use Rattle.gfx_script.specs.declared.step.Step.{Step}
@@ -15,25 +15,6 @@ use Rattle.gfx_planner.specs.Stream.{stream, sends, served, end_after, stream_of
 use Rattle.gfx_planner.specs.Wire.{Server, at_start}
 use Rattle.gfx_planner.specs.declared.planner.TheConstants.{MOST_FRAMES}
 use Rattle.gfx_planner.proofs.Streams.{bare, along, held_through-cons, stream-nil, stream-cons, stream-append}
-
--- the steps with their own kinds ----------------------------------------------------------------------
-
-bare-own : (steps : List Step) → bare (map own steps) ≡ steps
-bare-own [] = refl
-bare-own (step ∷ steps) = ap (λ z. step ∷ z) (bare-own steps)
-
-own_kinds : (steps : List Step) → AllByRecursion (λ step. HasKind (own step)) steps → AllByRecursion HasKind (map own steps)
-own_kinds [] told = tt
-own_kinds (step ∷ steps) told = (told.0, own_kinds steps told.1)
-
--- the kinds fit that the steps of an accepted script name
-pub own_fit : (script : Script) → IsAccepted script → Fits (map own script.steps) script.steps
-own_fit script good = record { same = bare-own script.steps; kinds = own_kinds script.steps good.told }
-
--- in two parts
-pub own_fit_both : (script : Script) (front rest : List Step) → IsAccepted script → script.steps ≡ front ++ rest → Fits (map own front ++ map own rest) script.steps
-own_fit_both script front rest good cut =
-    subst (λ z. Fits z script.steps) (ap (map own) cut ∙ map-append own front rest) (own_fit script good)
 
 -- one more step ---------------------------------------------------------------------------------------
 

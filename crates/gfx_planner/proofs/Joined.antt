@@ -5,6 +5,7 @@ use Rattle.gfx_base.proofs.ResultLemmas.{and_then_at}
 use Rattle.gfx_base.specs.declared.geometry.Point.{Point}
 use Rattle.gfx_base.specs.declared.geometry.Rect.{Rect}
 use Rattle.gfx_base.specs.declared.refusal.Refusal.{Refusal}
+use Rattle.gfx_clear.specs.State.{State as ClearState}
 use Rattle.gfx_pdu.specs.declared.pdu.Pdu.{Pdu}
 use Rattle.gfx_pdu.specs.declared.pdu.Pdu.TheVariants.{EvictCacheEntry}
 use Rattle.gfx_script.specs.Checks.{Held, held_after, held_through}
@@ -13,7 +14,6 @@ use Rattle.gfx_script.specs.Script.{IsStep}
 use Rattle.gfx_script.specs.Scripted.{Script}
 use Rattle.gfx_script.specs.declared.picture.Picture.{Picture as Source}
 use Rattle.gfx_script.specs.declared.step.Kind.{Kind}
-use Rattle.gfx_script.specs.declared.step.Kind.TheVariants.{Raw}
 use Rattle.gfx_script.specs.declared.step.Step.{Step}
 use Rattle.gfx_script.specs.declared.step.Step.TheVariants.{Surface, Delete, Reset, Map, Fill, Copy, Keep, Show, Forget, Paint, Frame}
 use Rattle.gfx_slot_plan.specs.declared.kept.Kept.{Kept}
@@ -43,10 +43,13 @@ evictions_stay : (slots : List ℕ) → AllByRecursion StaysInside (map EvictCac
 evictions_stay [] = tt
 evictions_stay (slot ∷ slots) = (refl, evictions_stay slots)
 
-painting_stays : (surface : Option Picture) (picture : Option Source) (kind : Option Kind) (id : ℕ) (at : Point) (plan : Plan) → AllByRecursion StaysInside (pdus_of (alone (painting surface picture kind id at) plan))
+painting_stays : (clear : ClearState) (surface : Option Picture) (picture : Option Source) (kind : Option Kind) (glyph : Option ℕ) (id : ℕ) (at : Point) (plan : Plan)
+    → AllByRecursion StaysInside (pdus_of (alone (painting clear surface picture kind glyph id at) plan))
 unfolding painting
-painting_stays (Some surface) (Some picture) (Some Raw) id at plan = (refl, tt)
-painting_stays surface picture kind id at plan = tt
+painting_stays clear (Some surface) (Some picture) (Some kind) glyph id at plan = (refl, tt)
+painting_stays clear None picture kind glyph id at plan = tt
+painting_stays clear (Some surface) None kind glyph id at plan = tt
+painting_stays clear (Some surface) (Some picture) None glyph id at plan = tt
 
 showing_stays : (slot : Option ℕ) (to : ℕ) (points : List Point) (plan : Plan) → AllByRecursion StaysInside (pdus_of (alone (showing_slot slot to points) plan))
 unfolding showing_slot
@@ -74,7 +77,7 @@ made_stays script state plan kind (Copy from to rect points) = (refl, tt)
 made_stays script state plan kind (Keep id key rect) = keeping_stays _ id key rect
 made_stays script state plan kind (Show key to points) = showing_stays _ to points _
 made_stays script state plan kind (Forget key) = emptying_stays _ _
-made_stays script state plan kind (Paint id picture at named) = painting_stays _ _ kind id at plan
+made_stays script state plan kind (Paint id picture at named glyph) = painting_stays state.clear _ _ kind glyph id at plan
 made_stays script state plan kind Frame = tt
 
 pub messages_stay : (script : Script) (server : Server) (one : KindedStep) → AllByRecursion StaysInside (messages script server one)
@@ -182,7 +185,7 @@ after_frame-is script server steps = refl
 -- what a frame word changes of the server's end leaves it in step
 reframed_holds : (script : Script) (held : Held) (server : Server) (frame : Option ℕ) (decoded frames : ℕ) → Holds script held server
     → Holds script held (record server { state = record server.state { frame = frame; decoded = decoded }; frames = frames })
-reframed_holds script held server frame decoded frames holds = record { drawn = holds.drawn; same = holds.same; surfaces = holds.surfaces; bitmaps = holds.bitmaps }
+reframed_holds script held server frame decoded frames holds = record { drawn = holds.drawn; same = holds.same; surfaces = holds.surfaces; bitmaps = holds.bitmaps; rings = holds.rings }
 
 reframed_agrees : (server : Server) (wanted : Wanted) (frame : Option ℕ) (decoded frames : ℕ) → Agree server wanted
     → Agree (record server { state = record server.state { frame = frame; decoded = decoded }; frames = frames }) wanted

@@ -1,17 +1,31 @@
 -- Messages that may be sent, one after another.
-use Rattle.std.proofs.Common.{◌≡◌, ℕ, ◌+◌, ◌<◌, ◌≤◌, true, List, [], ◌∷◌, ◌++◌, take, drop, length, get_or, Result, Ok, Err, refl, sym, ap, ◌∙◌, subst, append_assoc, take-append-drop}
+use Rattle.std.proofs.Common.{◌≡◌, ℕ, ◌+◌, ◌<◌, ◌≤◌, true, List, [], ◌∷◌, ◌++◌, take, drop, length, get_or, Option, Some, Result, Ok, Err, is_some, refl, sym, ap, ◌∙◌, subst, append_assoc, take-append-drop}
+use Rattle.std.specs.Prelude.{IfSome, IsSome, OnOk, OnErr}
 use Rattle.std.specs.Result.{IsOk, is_ok}
 use Rattle.std.proofs.lemmas.List.{append-nil, take_more, drop_more, take_all}
 use Rattle.gfx_base.specs.Results.{and_then}
 use Rattle.gfx_base.specs.declared.answer.NoMemory.{NoMemory}
 use Rattle.gfx_base.proofs.ResultLemmas.{and_then_at}
+use Rattle.gfx_base.specs.Format.{byte_of, format_of}
+use Rattle.gfx_base.specs.Geometry.{width_of, height_of}
+use Rattle.gfx_base.specs.declared.geometry.Rect.{Rect}
+use Rattle.gfx_base.specs.declared.pixel.Rgb.{Rgb}
+use Rattle.gfx_clear.specs.declared.layer.Layer.{Layer}
+use Rattle.gfx_clear.specs.Sending.{sent as stream_sent}
+use Rattle.gfx_pdu.specs.Spelling.{spelling}
 use Rattle.gfx_pdu.specs.declared.pdu.Pdu.{Pdu}
+use Rattle.gfx_pdu.specs.declared.pdu.Pdu.TheVariants.{WireToSurface1}
+use Rattle.gfx_segment.specs.Framing.{wrapped}
+use Rattle.gfx_state.specs.Codecs.{CLEARCODEC}
+use Rattle.gfx_surface.specs.Picture.{Picture}
+use Rattle.gfx_planner.specs.ClearPaints.{clear_message}
 use Rattle.gfx_state.specs.State.{State}
 use Rattle.gfx_state.specs.Step.{step}
 use Rattle.gfx_state.specs.Sending.{all_steps, sent, IsCarried}
 use Rattle.gfx_state.proofs.Sent.{all_steps-append, sent-append}
 use Rattle.gfx_planner.specs.Planned.{MaySend, SendsMessages, PutsFront}
-use Rattle.gfx_planner.proofs.Effects.{all_steps-none, sent-none}
+use Rattle.gfx_planner.proofs.Effects.{all_steps-none, sent-none, sent_and_accepted, sent_nothing}
+use Rattle.gfx_planner.proofs.Paints.{format_back}
 use Rattle.gfx_planner.proofs.Lists.{all_behind}
 
 ok_first : {A B E : Type 0} (r : Result A E) (f : A → Result B E) → is_ok (and_then r f) ≡ true → is_ok r ≡ true
@@ -96,3 +110,23 @@ pub all_sent : (old : State) (before : List ℕ) (pdus : List Pdu) (i : ℕ) (st
 all_sent old before pdus i state now sending past =
     let whole = take_all i pdus past in
     (ap (all_steps old) (sym whole) ∙ sending.accepted, sending.wrote ∙ ap (λ z. before ++ sent z) whole)
+
+-- a paint by ClearCodec ---------------------------------------------------------------------------------
+
+put_sends : (result : Result (Unit {0}) NoMemory) (old new : State) (before now : List ℕ) (pdu : Pdu) → step old pdu ≡ Ok new → OnOk result (now ≡ before ++ wrapped (spelling pdu)) → OnErr result (now ≡ before)
+    → SendsMessages result old new before now (pdu ∷ [])
+put_sends (Ok done) old new before now pdu stepped wrote kept = sent_and_accepted old new before now (spelling pdu) pdu stepped refl wrote
+put_sends (Err e) old new before now pdu stepped wrote kept = subst (λ z. PutsFront before z (sent (pdu ∷ []))) (sym kept) (sent_nothing before (sent (pdu ∷ [])))
+
+-- the message that was put out is the one that is due, and the state is its step
+pub clear_sends : (result : Result (Unit {0}) NoMemory) (old new : State) (id : ℕ) (surface : Picture) (rect : Rect) (pixels : List Rgb) (layer : Layer) (glyph : Option ℕ) (codec byte : ℕ) (payload before now : List ℕ) (o : Option Picture)
+    → o ≡ Some surface → codec ≡ CLEARCODEC → byte ≡ byte_of surface.format → payload ≡ (stream_sent old.clear layer glyph (width_of rect) (height_of rect) pixels).bytes
+    → ((b : ℕ) → IsSome (format_of b) → step old (WireToSurface1 id CLEARCODEC b rect payload) ≡ Ok new)
+    → OnOk result (now ≡ before ++ wrapped (spelling (WireToSurface1 id codec byte rect payload))) → OnErr result (now ≡ before)
+    → IfSome o (λ surface. SendsMessages result old new before now (clear_message old id surface.format rect pixels layer glyph ∷ []))
+clear_sends result old new id surface rect pixels layer glyph codec byte payload before now o there by_codec by_format is steps wrote kept =
+    let same : WireToSurface1 id codec byte rect payload ≡ clear_message old id surface.format rect pixels layer glyph = λ i. WireToSurface1 id (by_codec i) (by_format i) rect (is i) in
+    let stepped : step old (clear_message old id surface.format rect pixels layer glyph) ≡ Ok new =
+    ap (λ z. step old (WireToSurface1 id CLEARCODEC (byte_of surface.format) rect z)) (sym is) ∙ steps (byte_of surface.format) (ap is_some (format_back surface.format)) in
+    subst (λ o. IfSome o (λ surface. SendsMessages result old new before now (clear_message old id surface.format rect pixels layer glyph ∷ []))) (sym there)
+    (put_sends result old new before now _ stepped (subst (λ z. OnOk result (now ≡ before ++ wrapped (spelling z))) same wrote) kept)

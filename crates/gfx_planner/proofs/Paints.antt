@@ -1,8 +1,9 @@
 -- Uncompressed data of a picture, and what they paint.
-use Rattle.std.proofs.Common.{◌≡◌, ℕ, zero, suc, ◌+◌, ◌-◌, ◌*◌, ◌==◌, true, if◌then◌else◌, List, [], ◌∷◌, map, length, Some, Ok, refl, sym, ap, ◌∙◌, arith, eq-eqb}
+use Rattle.std.proofs.Common.{◌≡◌, ℕ, zero, suc, ◌+◌, ◌-◌, ◌*◌, ◌==◌, ◌<◌, ◌^◌, true, if◌then◌else◌, List, [], ◌∷◌, map, length, Option, Some, None, Ok, refl, sym, ap, ◌∙◌, subst, arith, eq-eqb}
 use Rattle.std.specs.List.{slice_index_or}
 use Rattle.std.specs.Option.{ok_or}
 use Rattle.std.specs.FinMap.{get}
+use Rattle.std.proofs.lemmas.List.{length-map}
 use Rattle.gfx_base.specs.Format.{byte_of, format_of}
 use Rattle.gfx_base.specs.Geometry.{holds, lies_in, width_of, height_of}
 use Rattle.gfx_base.specs.Results.{check}
@@ -13,6 +14,12 @@ use Rattle.gfx_base.specs.declared.geometry.Point.{Point}
 use Rattle.gfx_base.specs.declared.geometry.Rect.{Rect}
 use Rattle.gfx_base.specs.declared.pixel.Pixel.{Pixel}
 use Rattle.gfx_base.specs.declared.refusal.Refusal.TheVariants as refusal
+use Rattle.gfx_clear_store.specs.Rings.{AreRings}
+use Rattle.gfx_clear.specs.declared.layer.Layer.{Layer}
+use Rattle.gfx_clear.specs.State.{State as ClearState}
+use Rattle.gfx_clear.specs.Painting.{colour_of, opaque, scene, decoded}
+use Rattle.gfx_clear.specs.Sending.{MaySend as MaySendStream, sent as stream_sent}
+use Rattle.gfx_clear.proofs.Step.{painting_is_step}
 use Rattle.gfx_pdu.specs.declared.pdu.Pdu.TheVariants.{WireToSurface1}
 use Rattle.gfx_surface.specs.Picture.{Picture, shade, redrawn, pixel_at, overlaid, raw_pixels, no_pixel}
 use Rattle.gfx_surface.proofs.PictureLemmas.{length-drawn}
@@ -22,9 +29,11 @@ use Rattle.gfx_script.specs.Patterns.{pixel_of}
 use Rattle.gfx_script.specs.Writes.{place_of}
 use Rattle.gfx_state.specs.State.{State}
 use Rattle.gfx_state.specs.Step as message
-use Rattle.gfx_state.specs.Step.{UNCOMPRESSED, data_painted}
-use Rattle.gfx_planner.specs.Want.{pixels_in}
-use Rattle.gfx_planner.specs.Wire.{raw_bytes}
+use Rattle.gfx_state.specs.Codecs.{UNCOMPRESSED, CLEARCODEC, codec_of}
+use Rattle.gfx_state.specs.declared.codec.Codec.TheVariants.{Uncompressed, ClearCodec}
+use Rattle.gfx_state.specs.Step.{data_painted, bytes_painted, stream_painted}
+use Rattle.gfx_planner.specs.Want.{pixels_in, colours_in, shown_by}
+use Rattle.gfx_planner.specs.Wire.{raw_bytes, paint_message}
 
 -- data that are read back as a format keeps them
 raw_back : (format : Format) (pixels : List Pixel) → raw_pixels format (raw_bytes pixels) ≡ map (shade format) pixels
@@ -74,12 +83,45 @@ pub painted_raw : (state : State) (id : ℕ) (surface : Picture) (picture : Sour
     → lies_in surface.width surface.height (place_of picture at) ≡ true
     → message.step state (WireToSurface1 id UNCOMPRESSED (byte_of surface.format) (place_of picture at) (raw_bytes (pixels_in picture)))
     ≡ Ok (record state { shown = with_picture state.shown id (overlaid surface (place_of picture at) (pixels_in picture)) })
-unfolding message.step data_painted
+unfolding message.step data_painted bytes_painted codec_of
 painted_raw state id surface picture at there inside =
     and_then_at (ok_or (get state.shown.surfaces id) refusal.NoSurface) surface _ (ap (λ o. ok_or o refusal.NoSurface) there)
-    ∙ and_then_at (check refusal.CodecRefused (UNCOMPRESSED == UNCOMPRESSED)) tt _ (ap (check refusal.CodecRefused) (eq-eqb UNCOMPRESSED UNCOMPRESSED refl))
+    ∙ and_then_at (ok_or (codec_of UNCOMPRESSED) refusal.CodecRefused) Uncompressed _ refl
     ∙ and_then_at (ok_or (format_of (byte_of surface.format)) refusal.PixelFormat) surface.format _ (ap (λ o. ok_or o refusal.PixelFormat) (format_back surface.format))
     ∙ and_then_at (check refusal.RectOutside (lies_in surface.width surface.height (place_of picture at))) tt _ (ap (check refusal.RectOutside) inside)
     ∙ and_then_at (check refusal.PayloadLength (length (raw_bytes (pixels_in picture)) == 4 * (width_of (place_of picture at) * height_of (place_of picture at)))) tt _
     (ap (check refusal.PayloadLength) (eq-eqb _ _ (payload_whole picture at)))
     ∙ ap (λ z. Ok (record state { shown = with_picture state.shown id z })) (overlaid-raw surface (place_of picture at) (pixels_in picture))
+
+-- by ClearCodec ----------------------------------------------------------------------------------------
+
+-- the ClearCodec state once a picture is sent
+abbrev pub clear_by : Option Layer → ClearState → Option ℕ → Source → ClearState
+clear_by None clear glyph picture = clear
+clear_by (Some layer) clear glyph picture = (stream_sent clear layer glyph picture.width picture.height (colours_in picture)).state
+
+pub length-colours_in : (picture : Source) → length (colours_in picture) ≡ picture.width * picture.height
+unfolding colours_in
+length-colours_in picture = length-map (pixels_in picture) colour_of ∙ length-pixels_in picture
+
+-- a picture that goes by a layer is drawn as it shows, and leaves the server's own stores
+pub painted_clear : (state : State) (id : ℕ) (surface : Picture) (picture : Source) (at : Point) (layer : Layer) (glyph : Option ℕ) → get state.shown.surfaces id ≡ Some surface
+    → lies_in surface.width surface.height (place_of picture at) ≡ true → AreRings state.clear.rings → MaySendStream picture.width picture.height (colours_in picture) glyph
+    → picture.width < 2 ^ 16 → picture.height < 2 ^ 16
+    → message.step state (paint_message (Some layer) state.clear glyph surface picture id at)
+    ≡ Ok (record state { shown = with_picture state.shown id (overlaid surface (place_of picture at) (shown_by (Some layer) picture)); clear = clear_by (Some layer) state.clear glyph picture })
+unfolding message.step data_painted stream_painted codec_of
+painted_clear state id surface picture at layer glyph there inside are may wide high =
+    let rect = place_of picture at in
+    let colours = colours_in picture in
+    let across : width_of rect ≡ picture.width = omega arith in
+    let down : height_of rect ≡ picture.height = omega arith in
+    let may_there = subst (λ w. MaySendStream w (height_of rect) colours glyph) (sym across) (subst (λ h. MaySendStream picture.width h colours glyph) (sym down) may) in
+    let due = stream_sent state.clear layer glyph picture.width picture.height colours in
+    and_then_at (ok_or (get state.shown.surfaces id) refusal.NoSurface) surface _ (ap (λ o. ok_or o refusal.NoSurface) there)
+    ∙ and_then_at (ok_or (codec_of CLEARCODEC) refusal.CodecRefused) ClearCodec _ refl
+    ∙ and_then_at (ok_or (format_of (byte_of surface.format)) refusal.PixelFormat) surface.format _ (ap (λ o. ok_or o refusal.PixelFormat) (format_back surface.format))
+    ∙ and_then_at (check refusal.RectOutside (lies_in surface.width surface.height rect)) tt _ (ap (check refusal.RectOutside) inside)
+    ∙ and_then_at (decoded (scene state.clear surface) rect due.bytes) (scene due.state (overlaid surface rect (map opaque colours))) _
+    (painting_is_step state.clear due.state surface rect layer glyph colours due.bytes (map opaque colours) are may_there (omega (arith, across, wide)) (omega (arith, down, high))
+    (λ i. stream_sent state.clear layer glyph (sym across i) (sym down i) colours) refl)

@@ -1,24 +1,27 @@
 -- The messages of steps that can be sent: what has to be there is there.
-use Rattle.std.proofs.Common.{◌≡◌, ℕ, ◌+◌, ◌-◌, ◌<◌, ◌^◌, List, Option, Some, None, Result, Ok, Err, option_map, refl, sym, ap, ◌∙◌, subst, arith}
-use Rattle.std.specs.Prelude.{IfSome, IsSome, IsOk}
+use Rattle.std.proofs.Common.{◌≡◌, ℕ, ◌+◌, ◌-◌, ◌<◌, ◌^◌, List, [], ◌∷◌, Option, Some, None, Result, Ok, Err, option_map, refl, sym, ap, ◌∙◌, subst, arith}
+use Rattle.std.specs.Prelude.{IfOk, IfSome, IsSome, IsOk}
 use Rattle.gfx_base.specs.Format.{byte_of}
 use Rattle.gfx_base.specs.declared.geometry.Point.{Point}
 use Rattle.gfx_base.specs.declared.geometry.Rect.{Rect}
 use Rattle.gfx_base.specs.declared.refusal.Refusal.{Refusal}
+use Rattle.gfx_clear.specs.State.{State as ClearState}
 use Rattle.gfx_pdu.specs.declared.pdu.Pdu.{Pdu}
 use Rattle.gfx_pdu.specs.declared.pdu.Pdu.TheVariants.{WireToSurface1}
 use Rattle.gfx_script.specs.declared.picture.Picture.{Picture as Source}
 use Rattle.gfx_script.specs.declared.step.Kind.{Kind}
-use Rattle.gfx_script.specs.declared.step.Kind.TheVariants.{Raw}
-use Rattle.gfx_script.specs.Writes.{place_of}
+use Rattle.gfx_script.specs.declared.step.Kind.TheVariants.{Raw, Residual, Bands, Palette, Plain}
+use Rattle.gfx_script.specs.declared.step.Step.TheVariants.{Paint}
 use Rattle.gfx_slot_plan.specs.declared.kept.Kept.{Kept}
 use Rattle.gfx_slot_plan.specs.Plan.{Plan}
 use Rattle.gfx_state.specs.Sending.{IsCarried}
-use Rattle.gfx_state.specs.Step.{UNCOMPRESSED}
+use Rattle.gfx_state.specs.Codecs.{UNCOMPRESSED}
 use Rattle.gfx_surface.specs.Picture.{Picture}
+use Rattle.gfx_planner.specs.ClearPaints.{clear_paint_of}
 use Rattle.gfx_planner.specs.Want.{pixels_in}
-use Rattle.gfx_planner.specs.Wire.{CanBeSent, alone, painting, keeping, showing_slot, emptying, raw_bytes}
+use Rattle.gfx_planner.specs.Wire.{CanBeSent, alone, made, painting, keeping, showing_slot, emptying, raw_bytes}
 use Rattle.gfx_planner.proofs.Payloads.{sides}
+use Rattle.gfx_planner.proofs.PaintSteps.{painting_there}
 
 -- slots --------------------------------------------------------------------------------------------
 
@@ -43,58 +46,94 @@ none_there : {X : Type 0} (o : Option X) → o ≡ None → IsSome o → ⊥
 none_there None none some = absurd cc
 none_there (Some x) none some = absurd cc
 
-pub no_surface : (surface : Option Picture) (source : Option Source) (kind : Option Kind) (id : ℕ) (at : Point) → surface ≡ None → IsSome (painting surface source kind id at) → ⊥
+pub no_surface : (clear : ClearState) (surface : Option Picture) (source : Option Source) (kind : Option Kind) (glyph : Option ℕ) (id : ℕ) (at : Point) → surface ≡ None
+    → IsSome (painting clear surface source kind glyph id at) → ⊥
 unfolding painting
-no_surface surface source kind id at none some = none_there (painting surface source kind id at) (ap (λ s. painting s source kind id at) none) some
+no_surface clear surface source kind glyph id at none some = none_there (painting clear surface source kind glyph id at) (ap (λ s. painting clear s source kind glyph id at) none) some
 
-painting_no_picture : (surface : Option Picture) (kind : Option Kind) (id : ℕ) (at : Point) → painting surface None kind id at ≡ None
+painting_no_picture : (clear : ClearState) (surface : Option Picture) (kind : Option Kind) (glyph : Option ℕ) (id : ℕ) (at : Point) → painting clear surface None kind glyph id at ≡ None
 unfolding painting
-painting_no_picture None kind id at = refl
-painting_no_picture (Some surface) kind id at = refl
+painting_no_picture clear None kind glyph id at = refl
+painting_no_picture clear (Some surface) kind glyph id at = refl
 
-pub no_picture : (surface : Option Picture) (source : Option Source) (kind : Option Kind) (id : ℕ) (at : Point) → source ≡ None → IsSome (painting surface source kind id at) → ⊥
-no_picture surface source kind id at none some =
-    none_there (painting surface source kind id at) (ap (λ s. painting surface s kind id at) none ∙ painting_no_picture surface kind id at) some
+pub no_picture : (clear : ClearState) (surface : Option Picture) (source : Option Source) (kind : Option Kind) (glyph : Option ℕ) (id : ℕ) (at : Point) → source ≡ None
+    → IsSome (painting clear surface source kind glyph id at) → ⊥
+no_picture clear surface source kind glyph id at none some =
+    none_there (painting clear surface source kind glyph id at) (ap (λ s. painting clear surface s kind glyph id at) none ∙ painting_no_picture clear surface kind glyph id at) some
 
-painting_no_kind : (surface : Option Picture) (source : Option Source) (id : ℕ) (at : Point) → painting surface source None id at ≡ None
+painting_no_kind : (clear : ClearState) (surface : Option Picture) (source : Option Source) (glyph : Option ℕ) (id : ℕ) (at : Point) → painting clear surface source None glyph id at ≡ None
 unfolding painting
-painting_no_kind None source id at = refl
-painting_no_kind (Some surface) None id at = refl
-painting_no_kind (Some surface) (Some source) id at = refl
+painting_no_kind clear None source glyph id at = refl
+painting_no_kind clear (Some surface) None glyph id at = refl
+painting_no_kind clear (Some surface) (Some source) glyph id at = refl
 
-pub no_kind : (surface : Option Picture) (source : Option Source) (kind : Option Kind) (id : ℕ) (at : Point) → kind ≡ None → IsSome (painting surface source kind id at) → ⊥
-no_kind surface source kind id at none some =
-    none_there (painting surface source kind id at) (ap (λ k. painting surface source k id at) none ∙ painting_no_kind surface source id at) some
+pub is_painted : (o : Option Pdu) (next : Plan) → CanBeSent (alone o next) → IsSome o × IfSome o IsCarried
+is_painted None next possible = absurd possible
+is_painted (Some pdu) next possible = (refl, possible.0)
 
-painting_raw : (surface : Option Picture) (source : Option Source) (kind : Option Kind) (a : Picture) (b : Source) (id : ℕ) (at : Point) → surface ≡ Some a → source ≡ Some b → kind ≡ Some Raw
-    → painting surface source kind id at ≡ Some (WireToSurface1 id UNCOMPRESSED (byte_of a.format) (place_of b at) (raw_bytes (pixels_in b)))
+-- what is painted and isn't a paint by ClearCodec goes as raw
+pub goes_raw : (clear : ClearState) (surface : Option Picture) (source : Option Source) (kind named : Option Kind) (glyph : Option ℕ) (id number : ℕ) (at : Point) → IsSome (painting clear surface source kind glyph id at)
+    → clear_paint_of (Paint id number at named glyph) kind ≡ None → kind ≡ Some Raw
+goes_raw clear surface source None named glyph id number at some none = absurd (none_there _ (painting_no_kind clear surface source glyph id at) some)
+goes_raw clear surface source (Some Raw) named glyph id number at some none = refl
+goes_raw clear surface source (Some Residual) named glyph id number at some none = absurd cc
+goes_raw clear surface source (Some Bands) named glyph id number at some none = absurd cc
+goes_raw clear surface source (Some Palette) named glyph id number at some none = absurd cc
+goes_raw clear surface source (Some Plain) named glyph id number at some none = absurd cc
+
+-- no glyph stands in the message of what goes as raw
+pub raw_alike : (clear : ClearState) (surface : Option Picture) (source : Option Source) (glyph : Option ℕ) (id : ℕ) (at : Point)
+    → painting clear surface source (Some Raw) glyph id at ≡ painting clear surface source (Some Raw) None id at
 unfolding painting
-painting_raw surface source kind a b id at there is raw = rw (there, is, raw) refl
+raw_alike clear None source glyph id at = refl
+raw_alike clear (Some surface) None glyph id at = refl
+raw_alike clear (Some surface) (Some source) glyph id at = refl
+
+-- what goes by no layer of ClearCodec, and can be sent, goes as raw, and its message is that of no glyph
+pub record GoesRaw (clear : ClearState) (surface : Option Picture) (source : Option Source) (kind : Option Kind) (glyph : Option ℕ) (id : ℕ) (at : Point) : Type 0 where
+  pub raw : kind ≡ Some Raw
+  pub same : painting clear surface source kind glyph id at ≡ painting clear surface source (Some Raw) None id at
+  pub there : IsSome (painting clear surface source (Some Raw) None id at)
+  pub fits : IfSome (painting clear surface source (Some Raw) None id at) IsCarried
+
+pub raw_painted : (clear : ClearState) (surface : Option Picture) (source : Option Source) (kind named : Option Kind) (glyph : Option ℕ) (id number : ℕ) (at : Point) (plan : Plan)
+    → CanBeSent (alone (painting clear surface source kind glyph id at) plan) → clear_paint_of (Paint id number at named glyph) kind ≡ None → GoesRaw clear surface source kind glyph id at
+raw_painted clear surface source kind named glyph id number at plan possible none =
+    let is = is_painted (painting clear surface source kind glyph id at) plan possible in
+    let raw = goes_raw clear surface source kind named glyph id number at is.0 none in
+    let same = ap (λ k. painting clear surface source k glyph id at) raw ∙ raw_alike clear surface source glyph id at in
+    record { raw = raw; same = same; there = subst IsSome same is.0; fits = subst (λ o. IfSome o IsCarried) same is.1 }
+
+-- it is made
+pub alone_made : {V E : Type 0} (result : Result V E) (items : V → List Pdu) (o : Option Pdu) (pdu : Pdu) (plan : Plan) → o ≡ Some pdu → IfOk result (λ v. items v ≡ pdu ∷ [])
+    → IfOk result (λ v. alone o plan ≡ made (items v) plan)
+alone_made (Ok v) items o pdu plan is e = ap (λ z. alone z plan) is ∙ ap (λ z. made z plan) (sym e)
+alone_made (Err e) items o pdu plan is _ = tt
 
 -- the message, from its parts
-pub painting_is : (surface : Option Picture) (source : Option Source) (kind : Option Kind) (a : Picture) (width height byte id : ℕ) (at : Point) (payload : List ℕ)
-    → surface ≡ Some a → option_map sides source ≡ Some (width, height) → kind ≡ Some Raw → byte ≡ byte_of a.format → IfSome source (λ one. payload ≡ raw_bytes (pixels_in one))
-    → painting surface source kind id at ≡ Some (WireToSurface1 id UNCOMPRESSED byte (record { left = at.x; top = at.y; right = at.x + width; bottom = at.y + height }) payload)
-painting_is surface None kind a width height byte id at payload there sized raw format spelled = absurd (let no : None ≡ Some (width, height) = sized in cc)
-painting_is surface (Some b) kind a width height byte id at payload there sized raw format spelled =
+pub painting_is : (clear : ClearState) (surface : Option Picture) (source : Option Source) (a : Picture) (width height codec byte id : ℕ) (at : Point) (payload : List ℕ)
+    → surface ≡ Some a → option_map sides source ≡ Some (width, height) → codec ≡ UNCOMPRESSED → byte ≡ byte_of a.format → IfSome source (λ one. payload ≡ raw_bytes (pixels_in one))
+    → painting clear surface source (Some Raw) None id at ≡ Some (WireToSurface1 id codec byte (record { left = at.x; top = at.y; right = at.x + width; bottom = at.y + height }) payload)
+painting_is clear surface None a width height codec byte id at payload there sized raw format spelled = absurd (let no : None ≡ Some (width, height) = sized in cc)
+painting_is clear surface (Some b) a width height codec byte id at payload there sized raw format spelled =
     let both : sides b ≡ (width, height) = cc in
     let wide : b.width - 0 ≡ width = omega (arith, ap (λ p. p.0) both) in
     let high : b.height - 0 ≡ height = omega (arith, ap (λ p. p.1) both) in
-    painting_raw surface (Some b) kind a b id at there refl raw
-    ∙ (λ i. Some (WireToSurface1 id UNCOMPRESSED (sym format i) (record { left = at.x; top = at.y; right = at.x + wide i; bottom = at.y + high i }) (sym spelled i)))
+    painting_there clear surface (Some b) Raw None a b id at there refl
+    ∙ (λ i. Some (WireToSurface1 id (sym raw i) (sym format i) (record { left = at.x; top = at.y; right = at.x + wide i; bottom = at.y + high i }) (sym spelled i)))
 
 carried_there : (o : Option Pdu) (pdu : Pdu) → o ≡ Some pdu → IfSome o IsCarried → IsCarried pdu
 carried_there o pdu is fits = subst (λ o. IfSome o IsCarried) is fits
 
 -- its rectangle fits its fields
-pub painting_fits : (surface : Option Picture) (source : Option Source) (kind : Option Kind) (a : Picture) (width height id : ℕ) (at : Point)
-    → surface ≡ Some a → option_map sides source ≡ Some (width, height) → kind ≡ Some Raw → IfSome (painting surface source kind id at) IsCarried → (at.x + width < 2 ^ 16) × (at.y + height < 2 ^ 16)
-painting_fits surface None kind a width height id at there sized raw fits = absurd (let no : None ≡ Some (width, height) = sized in cc)
-painting_fits surface (Some b) kind a width height id at there sized raw fits =
+pub painting_fits : (clear : ClearState) (surface : Option Picture) (source : Option Source) (a : Picture) (width height id : ℕ) (at : Point)
+    → surface ≡ Some a → option_map sides source ≡ Some (width, height) → IfSome (painting clear surface source (Some Raw) None id at) IsCarried → (at.x + width < 2 ^ 16) × (at.y + height < 2 ^ 16)
+painting_fits clear surface None a width height id at there sized fits = absurd (let no : None ≡ Some (width, height) = sized in cc)
+painting_fits clear surface (Some b) a width height id at there sized fits =
     let both : sides b ≡ (width, height) = cc in
     let wide : b.width ≡ width = ap (λ p. p.0) both in
     let high : b.height ≡ height = ap (λ p. p.1) both in
-    let carried = carried_there _ _ (painting_raw surface (Some b) kind a b id at there refl raw) fits in
+    let carried = carried_there _ _ (painting_there clear surface (Some b) Raw None a b id at there refl) fits in
     let right : at.x + (b.width - 0) < 2 ^ 16 = carried.fits.numbers.2.right in
     let bottom : at.y + (b.height - 0) < 2 ^ 16 = carried.fits.numbers.2.bottom in
     (omega (arith, right, wide), omega (arith, bottom, high))

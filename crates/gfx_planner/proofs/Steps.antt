@@ -1,5 +1,6 @@
 -- The messages of allowed steps are accepted by the server's own state, and show what is wanted.
 use Rattle.std.proofs.Common.{◌≡◌, Option, Ok, Some, sym, ap, ◌∙◌, subst}
+use Rattle.std.specs.Prelude.{IfSome}
 use Rattle.gfx_script.specs.Checks.{Held, held_after}
 use Rattle.gfx_script.specs.Kinds.{KindedStep, as_kind, GoesAs}
 use Rattle.gfx_script.specs.Script.{IsStep}
@@ -13,7 +14,8 @@ use Rattle.gfx_planner.specs.Agree.{Holds, IsAllowed}
 use Rattle.gfx_planner.specs.Planned.{MaySend}
 use Rattle.gfx_planner.specs.Wire.{Server, Made, made_by, CanBeSent, pdus_of, messages, after_made, after_put}
 use Rattle.gfx_planner.proofs.Effects.{accepted_ok, after_messages-is}
-use Rattle.gfx_planner.proofs.SurfaceSteps.{Fine, going, copy_fine, delete_fine, fill_fine, frame_fine, map_fine, paint_fine, reset_fine, surface_fine}
+use Rattle.gfx_planner.proofs.SurfaceSteps.{Fine, going, copy_fine, delete_fine, fill_fine, frame_fine, map_fine, reset_fine, surface_fine}
+use Rattle.gfx_planner.proofs.PaintSteps.{paint_fine}
 use Rattle.gfx_planner.proofs.BitmapSteps.{forget_fine, keep_fine, show_fine}
 
 pub step_fine : (script : Script) (server : Server) (kind : Option Kind) (held after : Held) (step : Step) → Holds script held server → IsStep step → GoesAs kind step → held_after held step ≡ Ok after
@@ -27,7 +29,7 @@ step_fine script server kind held after (Fill id colour rects) holds numbers goe
 step_fine script server kind held after (Keep id key rect) holds numbers goes checked = keep_fine script server kind held after id key rect holds numbers checked
 step_fine script server kind held after (Show key to points) holds numbers goes checked = show_fine script server kind held after key to points holds numbers checked
 step_fine script server kind held after (Forget key) holds numbers goes checked = forget_fine script server kind held after key holds numbers checked
-step_fine script server kind held after (Paint id picture at named) holds numbers goes checked = paint_fine script server kind held after id picture at named holds numbers goes checked
+step_fine script server kind held after (Paint id picture at named glyph) holds numbers goes checked = paint_fine script server kind held after id picture at named glyph holds numbers goes checked
 step_fine script server kind held after Frame holds numbers goes checked = frame_fine script server kind held after holds checked
 
 pub allowed_fine : (script : Script) (server : Server) (one : KindedStep) (allowed : IsAllowed script server one) → Fine script server one allowed.after
@@ -52,8 +54,8 @@ can_be_sent script server one allowed = let fine = allowed_fine script server on
 pub same_made : (o : Option Made) (a b : Made) → o ≡ Some a → o ≡ Some b → a ≡ b
 same_made o a b first second = cc
 
--- those that a step was made into may be sent
-pub may_send : (script : Script) (server : Server) (one : KindedStep) (into : Made) → IsAllowed script server one → made_by script server one ≡ Some into → MaySend server.state into.pdus
-may_send script server one into allowed is =
+-- those that a step is made into may be sent
+pub may_send_made : (script : Script) (server : Server) (one : KindedStep) → IsAllowed script server one → IfSome (made_by script server one) (λ into. MaySend server.state into.pdus)
+may_send_made script server one allowed =
     let fine = allowed_fine script server one allowed in
-    subst (λ (z : Made). MaySend server.state z.pdus) (same_made _ fine.into into fine.is is) record { carried = fine.carried; accepted = accepted_ok server.state fine.next fine.into.pdus fine.accepted }
+    subst (λ o. IfSome o (λ into. MaySend server.state into.pdus)) (sym fine.is) record { carried = fine.carried; accepted = accepted_ok server.state fine.next fine.into.pdus fine.accepted }

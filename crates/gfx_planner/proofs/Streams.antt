@@ -4,6 +4,8 @@ use Rattle.std.proofs.lemmas.List.{map-append, length-map}
 use Rattle.std.specs.List.{AllByRecursion}
 use Rattle.gfx_base.specs.Results.{and_then}
 use Rattle.gfx_base.proofs.ResultLemmas.{and_then_at, and_then_ok}
+use Rattle.gfx_clear_store.specs.Rings.{AreRings}
+use Rattle.gfx_clear.proofs.Keeping.{rings_fresh}
 use Rattle.gfx_pdu.specs.declared.pdu.Pdu.{Pdu}
 use Rattle.gfx_script.specs.Checks.{Held, held_first, sides_of_all, held_after, held_through}
 use Rattle.gfx_script.specs.Kinds.{KindedStep, HasKind, Fits}
@@ -39,6 +41,7 @@ pub record Passed (server after : Server) (pdus : List Pdu) : Type 0 where
   pub carried : AllByRecursion IsCarried pdus
   pub shown : after.state.shown ≡ server.state.shown
   pub cache : after.state.cache ≡ server.state.cache
+  pub clear : after.state.clear ≡ server.state.clear
   pub plan : after.plan ≡ server.plan
 
 pub opens_frame : (server : Server) → server.frames + 1 < 2 ^ 32 → server.state.frame ≡ None
@@ -62,6 +65,7 @@ opened_fine server few (inl none) =
         carried = subst (AllByRecursion IsCarried) (sym pdus) (accepts.carried, tt);
         shown = ap (λ z. z.state.shown) is;
         cache = ap (λ z. z.state.cache) is;
+        clear = ap (λ z. z.state.clear) is;
         plan = ap (λ z. z.plan) is;
       },
       ap (λ z. z.state.frame) is ∙ ap (λ z. Some z.frames) (sym is),
@@ -75,6 +79,7 @@ opened_fine server few (inr within) =
         carried = subst (AllByRecursion IsCarried) (sym pdus) tt;
         shown = ap (λ z. z.state.shown) now;
         cache = ap (λ z. z.state.cache) now;
+        clear = ap (λ z. z.state.clear) now;
         plan = ap (λ z. z.plan) now;
       },
       ap (λ z. z.state.frame) now ∙ within ∙ ap (λ z. Some z.frames) (sym now),
@@ -98,13 +103,14 @@ closed_fine server Frame few within =
         carried = (accepts.carried, tt);
         shown = ap (λ z. z.state.shown) is;
         cache = ap (λ z. z.state.cache) is;
+        clear = ap (λ z. z.state.clear) is;
         plan = ap (λ z. z.plan) is;
       },
       inl (ap (λ z. z.state.frame) is),
       ap (λ z. z.frames) is,
     )
 closed_fine server step few within =
-    (record { accepted = all_steps-none server.state; carried = tt; shown = refl; cache = refl; plan = refl }, inr within, refl)
+    (record { accepted = all_steps-none server.state; carried = tt; shown = refl; cache = refl; clear = refl; plan = refl }, inr within, refl)
 
 -- a step of a script --------------------------------------------------------------------------------
 
@@ -128,6 +134,7 @@ holds_passed script held server after pdus passed holds = record {
   same = holds.same;
   surfaces = subst (λ z. HoldsSurfaces held.sides held.cells z.surfaces) (sym passed.shown) holds.surfaces;
   bitmaps = subst (λ p. HoldsBitmaps held.stock p after.state.cache) (sym passed.plan) (subst (HoldsBitmaps held.stock server.plan) (sym passed.cache) holds.bitmaps);
+  rings = subst (λ z. AreRings z.rings) (sym passed.clear) holds.rings;
 }
 
 agree_passed : (server after : Server) (wanted : Wanted) (pdus : List Pdu) → Passed server after pdus → Agree server wanted → Agree after wanted
@@ -250,6 +257,7 @@ stands_at_start script good = record {
     same = refl;
     surfaces = holds-nothing;
     bitmaps = record { same = refl; limits = refl; fits_cache = fits_cache-start script.small; sides_fit = tt };
+    rings = rings_fresh;
   };
   agrees = record { shown = refl; slots = refl; plan = refl };
   frame = inl refl;

@@ -47,9 +47,10 @@ use Rattle.gfx_script.specs.Writes.{place_of}
 use Rattle.gfx_script.specs.declared.error.ScriptKind.{ScriptKind}
 use Rattle.gfx_script.specs.declared.error.ScriptKind.TheVariants as fault
 use Rattle.gfx_script.specs.declared.step.Step.TheVariants.{Surface, Delete, Reset, Map, Fill, Copy, Paint, Frame}
+use Rattle.gfx_clear.specs.State.{without_sequence}
 use Rattle.gfx_state.specs.State.{State}
 use Rattle.gfx_state.specs.Step as message
-use Rattle.gfx_state.specs.Step.{UNCOMPRESSED, frame_started, frame_ended, is_open, surface_created, showing}
+use Rattle.gfx_state.specs.Step.{graphics_reset, frame_started, frame_ended, is_open, surface_created, showing}
 use Rattle.gfx_state.specs.Sending.{all_steps, IsCarried}
 use Rattle.gfx_planner.specs.Agree.{Agree, sides_of, HoldsSurfaces, Holds}
 use Rattle.gfx_planner.specs.Want.{Wanted, drawn_on, drawing, without_surface, with_map, with_copy, pixels_in, with_painting, wanted_as, wanted_after}
@@ -191,7 +192,7 @@ shows server shown = record server { state = record server.state { shown = shown
 
 holds_shown : (script : Script) (held : Held) (server : Server) (sides : FinMap nat_cmp Sides) (count : ℕ) (shown : Shown) → Holds script held server
     → HoldsSurfaces sides count shown.surfaces → Holds script (record held { sides = sides; cells = count }) (shows server shown)
-holds_shown script held server sides count shown holds new = record { drawn = holds.drawn; same = holds.same; surfaces = new; bitmaps = holds.bitmaps }
+holds_shown script held server sides count shown holds new = record { drawn = holds.drawn; same = holds.same; surfaces = new; bitmaps = holds.bitmaps; rings = holds.rings }
 
 agree_shown : (server : Server) (wanted : Wanted) (shown wants : Shown) → Agree server wanted → shown ≡ wants → Agree (shows server shown) (record wanted { shown = wants })
 agree_shown server wanted shown wants agree same = record { shown = same; slots = agree.slots; plan = agree.plan }
@@ -309,10 +310,10 @@ pub both_true : (a b : Bool) → a ≡ true → b ≡ true → (a && b) ≡ true
 both_true a b p q = rw (p, q) refl
 
 pub was_reset : (state : State) (width height : ℕ) (monitors : List Monitor) → (is_output_side width && is_output_side height) ≡ true
-    → message.step state (ResetGraphics width height monitors) ≡ Ok (record state { shown = record state.shown { output = record { width = width; height = height } } })
-unfolding message.step showing output_reset
+    → message.step state (ResetGraphics width height monitors) ≡ Ok (record state { shown = record state.shown { output = record { width = width; height = height } }; clear = without_sequence state.clear })
+unfolding message.step graphics_reset output_reset
 was_reset state width height monitors sides =
-    and_then_at (output_reset state.shown width height) (record state.shown { output = record { width = width; height = height } }) (λ shown. Ok (record state { shown = shown }))
+    and_then_at (output_reset state.shown width height) (record state.shown { output = record { width = width; height = height } }) (λ shown. Ok (record state { shown = shown; clear = without_sequence state.clear }))
     (and_then_at (check refusal.OutputSize (is_output_side width && is_output_side height)) tt (λ _. Ok (record state.shown { output = record { width = width; height = height } })) (ap (check refusal.OutputSize) sides))
 
 pub reset_fine : (script : Script) (server : Server) (kind : Option Kind) (held after : Held) (width height : ℕ) → Holds script held server → IsStep (Reset width height) → held_after held (Reset width height) ≡ Ok after → Fine script server (as_kind kind (Reset width height)) after
@@ -320,19 +321,25 @@ unfolding made_as wanted_as held_after
 reset_fine script server kind held after width height holds numbers checked =
     let sides = both_true _ _ (output_side width numbers.0 numbers.1) (output_side height numbers.2 numbers.3) in
     let shown : Shown = record server.state.shown { output = record { width = width; height = height } } in
+    let next : State = record server.state { shown = shown; clear = without_sequence server.state.clear } in
     record {
       into = record { pdus = ResetGraphics width height (one_monitor width height ∷ []) ∷ []; plan = server.plan };
       is = refl;
-      next = record server.state { shown = shown };
+      next = next;
       accepted = all_steps-one server.state _ _ (was_reset server.state width height (one_monitor width height ∷ []) sides);
       carried = (
         carried-reset width height (one_monitor width height) (omega (arith, numbers.1)) (omega (arith, numbers.3))
             (record { left = omega arith; top = omega arith; right = omega (arith, numbers.1); bottom = omega (arith, numbers.3); flags = omega arith }),
         tt,
       );
-      holds = (let same : held ≡ after = cc in subst (λ h. Holds script h (shows server shown)) same (holds_shown script held server held.sides held.cells shown holds holds.surfaces));
+      holds = (let same : held ≡ after = cc in subst (λ h. Holds script h (going server next server.plan)) same
+          record { drawn = holds.drawn; same = holds.same; surfaces = holds.surfaces; bitmaps = holds.bitmaps; rings = holds.rings });
       frame = refl;
-      agrees = λ wanted agree. agree_shown server wanted shown _ agree (ap (λ (z : Shown). record z { output = record { width = width; height = height } }) agree.shown);
+      agrees = λ wanted agree. record {
+        shown = ap (λ (z : Shown). record z { output = record { width = width; height = height } }) agree.shown;
+        slots = agree.slots;
+        plan = agree.plan;
+      };
     }
 
 mapped : (state : State) (id x y : ℕ) → contains_key state.shown.surfaces id ≡ true
@@ -432,115 +439,3 @@ frame_fine script server kind held after holds checked = record {
   frame = refl;
   agrees = λ wanted agree. agree;
 }
-
--- painting ------------------------------------------------------------------------------------------
-
--- a picture whose sides are held
-source_there : (pictures : List Source) (at : ℕ) (sides : Sides) → slice_get (sides_of_all pictures) at ≡ Some sides
-    → (picture : Source) × (slice_get pictures at ≡ Some picture) × (record { width = picture.width; height = picture.height } ≡ sides)
-source_there pictures at sides is = by (slice_get pictures at) (sym (slice_get-map source_sides pictures at) ∙ is) refl
-  where
-    source_sides : Source → Sides
-    source_sides picture = record { width = picture.width; height = picture.height }
-
-    by : (o : Option Source) → option_map source_sides (slice_get pictures at) ≡ Some sides → slice_get pictures at ≡ o
-        → (picture : Source) × (slice_get pictures at ≡ Some picture) × (source_sides picture ≡ sides)
-    by None found none = absurd (let no : None ≡ Some sides = sym (ap (option_map source_sides) none) ∙ found in cc)
-    by (Some picture) found some = (picture, some, (let same : Some (source_sides picture) ≡ Some sides = sym (ap (option_map source_sides) some) ∙ found in cc))
-
-drawn_at : (pictures : List Source) (at : ℕ) (picture : Source) → AllByRecursion IsDrawn pictures → slice_get pictures at ≡ Some picture → IsDrawn picture
-drawn_at [] at picture all is = absurd cc
-drawn_at (first ∷ others) zero picture all is = subst IsDrawn (let same : first ≡ picture = cc in same) all.0
-drawn_at (first ∷ others) (suc at) picture all is = drawn_at others at picture all.1 is
-
--- what a script's checks of a paint say
-pub record MayPaint (script : Script) (server : Server) (id number : ℕ) (at : Point) : Type 0 where
-  pub surface : Picture
-  pub there : get server.state.shown.surfaces id ≡ Some surface
-  pub picture : Source
-  pub drawn : slice_get script.pictures number ≡ Some picture
-  pub inside : lies_in surface.width surface.height (place_of picture at) ≡ true
-  pub place : IsRect (place_of picture at)
-  pub short : picture.width * picture.height ≤ MOST_AREA
-
-narrow_there : (held : Held) (surfaces : Surfaces) (id : ℕ) (sides : Sides) → HoldsSurfaces held.sides held.cells surfaces → get held.sides id ≡ Some sides → (sides.width < 2 ^ 16) × (sides.height < 2 ^ 16)
-narrow_there held surfaces id sides holds there = subst (λ o. IfSome o (λ s. (s.width < 2 ^ 16) × (s.height < 2 ^ 16))) there (holds.narrow id)
-
-rect_fits : (width height : ℕ) (picture : Source) (at : Point) → width < 2 ^ 16 → height < 2 ^ 16 → IsPoint at → lies_in width height (place_of picture at) ≡ true → IsRect (place_of picture at)
-rect_fits width height picture at wide high point inside =
-    let right : at.x + picture.width ≤ width = grind (arith, nat_tests) in
-    let bottom : at.y + picture.height ≤ height = grind (arith, nat_tests) in
-    record { left = point.x; top = point.y; right = omega arith; bottom = omega arith }
-
-pub may_paint : (script : Script) (server : Server) (held after : Held) (id number : ℕ) (at : Point) → Holds script held server → IsPoint at
-    → picture_painted held id number at ≡ Ok after → MayPaint script server id number at × (held ≡ after)
-unfolding picture_painted
-may_paint script server held after id number at holds point checked =
-    let surfaces = server.state.shown.surfaces in
-    let first = and_then_ok (ok_or (get held.sides id) fault.SurfaceAbsent) _ after checked in
-    let sides : Sides = first.0 in
-    let surface = found_there held surfaces id sides holds.surfaces first.1 in
-    let second = and_then_ok (ok_or (slice_get held.pictures number) fault.Name) _ after first.2 in
-    let named = ok_or_some (slice_get held.pictures number) fault.Name second.0 second.1 in
-    let source = source_there script.pictures number second.0 (ap (λ ps. slice_get ps number) (sym holds.same) ∙ named) in
-    let third = and_then_ok (check fault.Outside (lies_in sides.width sides.height (moved (sized second.0.width second.0.height) at))) _ after second.2 in
-    let checked_inside = check_ok fault.Outside (lies_in sides.width sides.height (moved (sized second.0.width second.0.height) at)) third.1 in
-    let inside_held : lies_in sides.width sides.height (place_of source.0 at) ≡ true = ap (λ (s : Sides). lies_in sides.width sides.height (moved (sized s.width s.height) at)) source.2 ∙ checked_inside in
-    let narrow = narrow_there held surfaces id sides holds.surfaces (ok_or_some (get held.sides id) fault.SurfaceAbsent sides first.1) in (
-      record {
-        surface = surface.picture;
-        there = surface.there;
-        picture = source.0;
-        drawn = source.1;
-        inside = ap (λ (s : Sides). lies_in s.width s.height (place_of source.0 at)) surface.same ∙ inside_held;
-        place = rect_fits sides.width sides.height source.0 at narrow.0 narrow.1 point inside_held;
-        short = (drawn_at script.pictures number source.0 holds.drawn source.1).area;
-      },
-      (let end = third.2 in cc),
-    )
-
-sides_overlaid : (picture : Picture) (rect : Rect) (pixels : List Pixel) → sides_of (overlaid picture rect pixels) ≡ sides_of picture
-sides_overlaid picture rect pixels =
-    let w = overlaid-width picture rect pixels in
-    let h = overlaid-height picture rect pixels in
-    λ i. record { width = w i; height = h i }
-
-with_painting_there : (wanted : Wanted) (o : Option Source) (picture : Source) (id : ℕ) (at : Point) → o ≡ Some picture
-    → with_painting wanted o (Some Raw) id at ≡ drawing wanted id (λ surface. overlaid surface (place_of picture at) (pixels_in picture))
-unfolding with_painting
-with_painting_there wanted o picture id at there = rw there refl
-
--- the message of a picture that goes as raw
-painting_there : (surface : Option Picture) (source : Option Source) (a : Picture) (b : Source) (id : ℕ) (at : Point) → surface ≡ Some a → source ≡ Some b
-    → painting surface source (Some Raw) id at ≡ Some (WireToSurface1 id UNCOMPRESSED (byte_of a.format) (place_of b at) (raw_bytes (pixels_in b)))
-unfolding painting
-painting_there surface source a b id at there is = rw (there, is) refl
-
-raw_fine : (script : Script) (server : Server) (held after : Held) (id number : ℕ) (at : Point) (named : Option Kind) → Holds script held server → IsStep (Paint id number at named)
-    → held_after held (Paint id number at named) ≡ Ok after → Fine script server (as_kind (Some Raw) (Paint id number at named)) after
-unfolding made_as wanted_as held_after
-raw_fine script server held after id number at named holds numbers checked =
-    let may = may_paint script server held after id number at holds numbers.1 checked in
-    let m = may.0 in
-    let rect = place_of m.picture at in
-    let pixels = pixels_in m.picture in
-    let shown = with_picture server.state.shown id (overlaid m.surface rect pixels) in
-    let length_is : length (raw_bytes pixels) ≡ 4 * (m.picture.width * m.picture.height) = length-raw_bytes pixels ∙ ap (λ n. 4 * n) (length-pixels_in m.picture) in
-    record {
-      into = record { pdus = WireToSurface1 id UNCOMPRESSED (byte_of m.surface.format) rect (raw_bytes pixels) ∷ []; plan = server.plan };
-      is = ap (λ o. alone o server.plan) (painting_there (get server.state.shown.surfaces id) (slice_get script.pictures number) m.surface m.picture id at m.there m.drawn);
-      next = record server.state { shown = shown };
-      accepted = all_steps-one server.state _ _ (painted_raw server.state id m.surface m.picture at m.there m.inside);
-      carried = (carried-wire id UNCOMPRESSED (byte_of m.surface.format) rect (raw_bytes pixels) numbers.0 (omega arith) m.place (omega (arith, length_is, m.short)), tt);
-      holds = subst (λ h. Holds script h (shows server shown)) may.1
-          (holds_shown script held server _ _ shown holds
-          (holds-drawn held.sides held.cells server.state.shown.surfaces id m.surface _ holds.surfaces m.there (sides_overlaid m.surface rect pixels)));
-      frame = refl;
-      agrees = λ wanted agree. subst (Agree (shows server shown)) (sym (with_painting_there wanted (slice_get script.pictures number) m.picture id at m.drawn))
-          (drawing_agrees server wanted id m.surface (λ z. overlaid z rect pixels) m.there agree);
-    }
-
-pub paint_fine : (script : Script) (server : Server) (kind : Option Kind) (held after : Held) (id number : ℕ) (at : Point) (named : Option Kind) → Holds script held server → IsStep (Paint id number at named)
-    → GoesAs kind (Paint id number at named) → held_after held (Paint id number at named) ≡ Ok after → Fine script server (as_kind kind (Paint id number at named)) after
-paint_fine script server None held after id number at named holds numbers goes checked = absurd (let none : false ≡ true = goes.0 in cc)
-paint_fine script server (Some Raw) held after id number at named holds numbers goes checked = raw_fine script server held after id number at named holds numbers checked

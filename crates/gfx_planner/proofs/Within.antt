@@ -22,7 +22,6 @@ use Rattle.gfx_script.specs.Writes.{Area, area, at_each, place_of, writes, write
 use Rattle.gfx_script.specs.declared.error.ScriptKind.TheVariants.{KeyAbsent}
 use Rattle.gfx_script.specs.declared.picture.Picture.{Picture as Source}
 use Rattle.gfx_script.specs.declared.step.Kind.{Kind}
-use Rattle.gfx_script.specs.declared.step.Kind.TheVariants.{Raw}
 use Rattle.gfx_script.specs.declared.step.Step.{Step}
 use Rattle.gfx_script.specs.declared.step.Step.TheVariants.{Surface, Delete, Reset, Map, Fill, Copy, Keep, Show, Forget, Paint, Frame}
 use Rattle.gfx_slot_plan.specs.declared.kept.Kept.{Kept}
@@ -33,7 +32,8 @@ use Rattle.gfx_surface_map.specs.Shown.{Shown, copied_to, stamped}
 use Rattle.gfx_surface_map.specs.Surfaces.{Surfaces, painted}
 use Rattle.gfx_planner.specs.Agree.{Agree, Holds}
 use Rattle.gfx_planner.specs.Slots.{sides_in}
-use Rattle.gfx_planner.specs.Want.{Wanted, drawn_on, drawing, with_bitmap, with_copy, with_painting, with_stamps, bitmap_in, pixels_in, wanted_as}
+use Rattle.gfx_planner.specs.Layers.{layer_of}
+use Rattle.gfx_planner.specs.Want.{Wanted, drawn_on, drawing, with_bitmap, with_copy, with_painting, with_stamps, bitmap_in, shown_by, wanted_as}
 use Rattle.gfx_planner.specs.Wire.{Server}
 use Rattle.gfx_planner.specs.Within.{IsOutside, ChangesWithin, StepsWriteWithin}
 use Rattle.gfx_planner.proofs.Slots.{fits_cache-shows, sides_fit-shows}
@@ -184,9 +184,9 @@ within_paint : (wanted : Wanted) (o : Option Source) (kind : Option Kind) (id : 
 unfolding with_painting
 within_paint wanted None kind id at = within_same _ _ _ refl
 within_paint wanted (Some source) None id at = within_same _ _ _ refl
-within_paint wanted (Some source) (Some Raw) id at =
-    within_drawn wanted.shown id (place_of source at ∷ []) (λ surface. overlaid surface (place_of source at) (pixels_in source))
-    (λ x y picture beside. overlaid_alike x y picture (place_of source at) (pixels_in source) beside.0)
+within_paint wanted (Some source) (Some one) id at =
+    within_drawn wanted.shown id (place_of source at ∷ []) (λ surface. overlaid surface (place_of source at) (shown_by (layer_of one) source))
+    (λ x y picture beside. overlaid_alike x y picture (place_of source at) (shown_by (layer_of one) source) beside.0)
 
 within_keep : (wanted : Wanted) (o : Option Picture) (found : Result (Plan × Kept) Refusal) (key : ℕ) (rect : Rect)
     → ChangesWithin None wanted.shown.surfaces (with_bitmap wanted o found key rect).shown.surfaces
@@ -247,14 +247,14 @@ step_within script held server wanted kind (Keep id key rect) tied agree = withi
 step_within script held server wanted kind (Show key to points) tied agree =
     within_stamps wanted _ (bitmap_in wanted.slots (slot_of key wanted.plan.places)) to points (shown_area held script server wanted key to points tied agree)
 step_within script held server wanted kind (Forget key) tied agree = within_same None _ _ refl
-step_within script held server wanted kind (Paint id picture at named) tied agree = within_paint wanted (slice_get script.pictures picture) kind id at
+step_within script held server wanted kind (Paint id picture at named glyph) tied agree = within_paint wanted (slice_get script.pictures picture) kind id at
 step_within script held server wanted kind Frame tied agree = within_same None _ _ refl
 
 plain_is_written : (script : Script) (stock : Stock) (kind : Option Kind) (step : Step) (plain : Area) → writes_plainly script kind step ≡ Some plain → writes script stock step ≡ Some plain
 unfolding writes writes_plainly
 plain_is_written script stock kind (Fill id colour rects) plain is = is
-plain_is_written script stock None (Paint id picture at named) plain is = absurd cc
-plain_is_written script stock (Some Raw) (Paint id picture at named) plain is = is
+plain_is_written script stock None (Paint id picture at named glyph) plain is = absurd cc
+plain_is_written script stock (Some one) (Paint id picture at named glyph) plain is = is
 plain_is_written script stock kind (Surface id width height format) plain is = absurd cc
 plain_is_written script stock kind (Delete id) plain is = absurd cc
 plain_is_written script stock kind (Reset width height) plain is = absurd cc

@@ -5,6 +5,7 @@ use Rattle.std.specs.FinMap.{FinMap}
 use Rattle.std.specs.List.{AllByRecursion}
 use Rattle.std.specs.Ordering.{nat_cmp}
 use Rattle.gfx_bitmap_cache.specs.Slots.{Cached}
+use Rattle.gfx_clear_store.specs.Rings.{AreRings}
 use Rattle.gfx_slot_plan.specs.Plan.{Plan}
 use Rattle.gfx_surface.specs.Picture.{Picture}
 use Rattle.gfx_surface_map.specs.Surfaces.{Surfaces, cells_of}
@@ -52,6 +53,8 @@ pub record Holds (script : Script) (held : Held) (server : Server) : Type 0 wher
   pub same : held.pictures ≡ sides_of_all script.pictures
   pub surfaces : HoldsSurfaces held.sides held.cells server.state.shown.surfaces
   pub bitmaps : HoldsBitmaps held.stock server.plan server.state.cache
+  -- and its rings are some that a store can hold
+  pub rings : AreRings server.state.clear.rings
 
 -- the frame that was opened last is open
 abbrev pub IsInFrame : Server → Type 0

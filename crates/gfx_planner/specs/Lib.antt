@@ -1,9 +1,12 @@
 pub mod Slots
+pub mod Layers
 pub mod Want
 pub mod Wire
+pub mod ClearPaints
 pub mod Agree
 pub mod Planned
 pub mod Stream
 pub mod Joined
 pub mod Shows
 pub mod Within
+pub mod Sources

@@ -14,7 +14,7 @@ use Rattle.gfx_state.specs.State.{State}
 use Rattle.gfx_state.specs.Sending.{all_steps, sent, IsCarried}
 use Rattle.gfx_planner.specs.Agree.{Agree, Holds}
 use Rattle.gfx_planner.specs.Want.{Wanted, wanted_after}
-use Rattle.gfx_planner.specs.Wire.{Server, made, made_by, messages, after_put}
+use Rattle.gfx_planner.specs.Wire.{Server, Made, made, made_by, messages, after_put}
 
 -- the server's end, and whether memory ran out: such a planner is spent
 pub record Planned : Type 0 where
@@ -47,6 +47,13 @@ pub record MaySend (state : State) (pdus : List Pdu) : Type 0 where
 abbrev pub SendsMessages : {X : Type 0} → Result X NoMemory → State → State → List ℕ → List ℕ → List Pdu → Type 0
 SendsMessages (Ok x) old new before now pdus = (all_steps old pdus ≡ Ok new) × (now ≡ before ++ sent pdus)
 SendsMessages (Err e) old new before now pdus = PutsFront before now (sent pdus)
+
+-- what sending what a step is made into does: all of it is accepted and put out, and the choice of slots goes on; or a
+-- front of it is put out
+abbrev pub SendsMade : {X : Type 0} → Result X NoMemory → State → State → Plan → List ℕ → List ℕ → Option Made → Type 0
+SendsMade (Ok x) old new plan before now (Some into) = SendsMessages (Ok x) old new before now into.pdus × (plan ≡ into.plan)
+SendsMade (Err e) old new plan before now (Some into) = PutsFront before now (sent into.pdus)
+SendsMade result old new plan before now None = ⊥
 
 -- all of these messages were put out, and the server's end has gone on
 abbrev pub AllSent : Planned → List ℕ → List ℕ → List Pdu → Server → Type 0

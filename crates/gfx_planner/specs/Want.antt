@@ -1,7 +1,7 @@
 -- What a script wants to be seen, in the script's own words: no message is named here. A step's effect
 -- is the formula of the surfaces ([MS-RDPEGFX] 3.3.5 leaves to the server what it draws; the steps are
 -- this project's own).
-use Rattle.std.specs.Prelude.{ℕ, Bool, nat_eq, List, [], fold, Option, Some, None, Result, Ok}
+use Rattle.std.specs.Prelude.{ℕ, Bool, nat_eq, List, [], fold, map, Option, Some, None, Result, Ok}
 use Rattle.std.specs.List.{slice_get}
 use Rattle.std.specs.Ordering.{nat_cmp}
 use Rattle.std.specs.FinMap.{FinMap, empty, get, insert, remove}
@@ -10,9 +10,12 @@ use Rattle.indexmap.specs.IndexMap.{insert_entry}
 use Rattle.gfx_base.specs.declared.geometry.Point.{Point}
 use Rattle.gfx_base.specs.declared.geometry.Rect.{Rect}
 use Rattle.gfx_base.specs.declared.pixel.Pixel.{Pixel}
+use Rattle.gfx_base.specs.declared.pixel.Rgb.{Rgb}
 use Rattle.gfx_base.specs.declared.refusal.Refusal.{Refusal}
 use Rattle.gfx_base.specs.Geometry.{width_of, height_of, sized}
 use Rattle.gfx_bitmap_cache.specs.Slots.{Entry, entry}
+use Rattle.gfx_clear.specs.declared.layer.Layer.{Layer}
+use Rattle.gfx_clear.specs.Painting.{colour_of, opaque}
 use Rattle.gfx_slot_plan.specs.declared.kept.Kept.{Kept}
 use Rattle.gfx_slot_plan.specs.Plan.{Plan, plan, keeps, slot_of, touched, forgotten}
 use Rattle.gfx_state.specs.Step.{image_in}
@@ -22,13 +25,13 @@ use Rattle.gfx_surface_map.specs.declared.place.Place.{Place}
 use Rattle.gfx_surface_map.specs.Surfaces.{painted}
 use Rattle.gfx_script.specs.declared.picture.Picture.{Picture as Source}
 use Rattle.gfx_script.specs.declared.step.Kind.{Kind}
-use Rattle.gfx_script.specs.declared.step.Kind.TheVariants.{Raw}
 use Rattle.gfx_script.specs.declared.step.Step.{Step}
 use Rattle.gfx_script.specs.declared.step.Step.TheVariants.{Surface, Delete, Reset, Map, Fill, Copy, Keep, Show, Forget, Paint, Frame}
 use Rattle.gfx_script.specs.Kinds.{KindedStep}
 use Rattle.gfx_script.specs.Patterns.{pixel_of}
 use Rattle.gfx_script.specs.Scripted.{Script}
 use Rattle.gfx_script.specs.Writes.{place_of}
+use Rattle.gfx_planner.specs.Layers.{layer_of}
 use Rattle.gfx_planner.specs.Slots.{emptied}
 
 pub record Wanted : Type 0 where
@@ -74,10 +77,20 @@ with_copy wanted (Some source) to rect points = drawing wanted to (copied_to sou
 unfoldable pub pixels_in : Source → List Pixel
 pixels_in picture = drawn picture.width picture.height (pixel_of picture)
 
--- a picture lies on a surface, its top left corner at a place, as it is where it goes as raw
+-- their colours
+unfoldable pub colours_in : Source → List Rgb
+colours_in picture = map colour_of (pixels_in picture)
+
+-- a picture as it shows: as it is, or opaque in its colours where it goes by a layer of ClearCodec, which has no
+-- alpha
+abbrev pub shown_by : Option Layer → Source → List Pixel
+shown_by None picture = pixels_in picture
+shown_by (Some layer) picture = map opaque (colours_in picture)
+
+-- a picture lies on a surface, its top left corner at a place, as a picture of its kind shows
 unfoldable pub with_painting : Wanted → Option Source → Option Kind → ℕ → Point → Wanted
-with_painting wanted (Some picture) (Some Raw) id at =
-    drawing wanted id (λ surface. overlaid surface (place_of picture at) (pixels_in picture))
+with_painting wanted (Some picture) (Some kind) id at =
+    drawing wanted id (λ surface. overlaid surface (place_of picture at) (shown_by (layer_of kind) picture))
 with_painting wanted picture kind id at = wanted
 
 -- a rectangle of a surface, as it stands, is kept as the bitmap of a key, in the slot that is chosen
@@ -122,7 +135,7 @@ wanted_as script wanted kind (Forget key) = record wanted {
   plan = forgotten wanted.plan key;
   slots = without_slot wanted.slots (slot_of key wanted.plan.places);
 }
-wanted_as script wanted kind (Paint id picture at named) = with_painting wanted (slice_get script.pictures picture) kind id at
+wanted_as script wanted kind (Paint id picture at named glyph) = with_painting wanted (slice_get script.pictures picture) kind id at
 wanted_as script wanted kind Frame = wanted
 
 abbrev pub wanted_after : Script → Wanted → KindedStep → Wanted

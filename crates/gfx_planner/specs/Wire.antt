@@ -9,13 +9,15 @@ use Rattle.gfx_base.specs.declared.geometry.Rect.{Rect}
 use Rattle.gfx_base.specs.declared.pixel.Pixel.{Pixel}
 use Rattle.gfx_base.specs.declared.refusal.Refusal.{Refusal}
 use Rattle.gfx_base.specs.Geometry.{width_of, height_of}
+use Rattle.gfx_clear.specs.declared.layer.Layer.{Layer}
+use Rattle.gfx_clear.specs.State.{State as ClearState}
+use Rattle.gfx_clear.specs.Sending.{sent as stream_sent}
 use Rattle.gfx_pdu.specs.declared.pdu.Pdu.{Pdu}
 use Rattle.gfx_pdu.specs.declared.pdu.Pdu.TheVariants.{WireToSurface1, SolidFill, SurfaceToSurface, SurfaceToCache, CacheToSurface, EvictCacheEntry, CreateSurface, DeleteSurface, StartFrame, EndFrame, ResetGraphics, MapSurfaceToOutput}
 use Rattle.gfx_pdu.specs.declared.pdu.Monitor.{Monitor}
 use Rattle.gfx_planner.specs.declared.messages.TheConstants.{PRIMARY}
 use Rattle.gfx_script.specs.declared.picture.Picture.{Picture as Source}
 use Rattle.gfx_script.specs.declared.step.Kind.{Kind}
-use Rattle.gfx_script.specs.declared.step.Kind.TheVariants.{Raw}
 use Rattle.gfx_script.specs.declared.step.Step.{Step}
 use Rattle.gfx_script.specs.declared.step.Step.TheVariants.{Surface, Delete, Reset, Map, Fill, Copy, Keep, Show, Forget, Paint, Frame}
 use Rattle.gfx_script.specs.Kinds.{KindedStep}
@@ -25,9 +27,10 @@ use Rattle.gfx_slot_plan.specs.declared.kept.Kept.{Kept}
 use Rattle.gfx_slot_plan.specs.Plan.{Plan, plan, keeps, slot_of, touched, forgotten}
 use Rattle.gfx_state.specs.State.{State, started}
 use Rattle.gfx_state.specs.Sending.{all_steps, IsCarried}
-use Rattle.gfx_state.specs.Step.{UNCOMPRESSED}
+use Rattle.gfx_state.specs.Codecs.{id_of}
 use Rattle.gfx_surface.specs.Picture.{Picture}
-use Rattle.gfx_planner.specs.Want.{pixels_in}
+use Rattle.gfx_planner.specs.Layers.{layer_of, codec_by}
+use Rattle.gfx_planner.specs.Want.{pixels_in, colours_in}
 
 -- what the server's end keeps: the state that its messages so far give, which keys have which slots, and
 -- how many frames were opened
@@ -62,11 +65,21 @@ abbrev pub alone : Option Pdu → Plan → Option Made
 alone None next = None
 alone (Some pdu) next = made (pdu ∷ []) next
 
--- the message that paints a picture on a surface as a kind, in the surface's format
-unfoldable pub painting : Option Picture → Option Source → Option Kind → ℕ → Point → Option Pdu
-painting (Some surface) (Some picture) (Some Raw) id at =
-    Some (WireToSurface1 id UNCOMPRESSED (byte_of surface.format) (place_of picture at) (raw_bytes (pixels_in picture)))
-painting surface picture kind id at = None
+-- the data of a picture: uncompressed, or a ClearCodec stream by a layer, which goes on from the streams before it,
+-- with the index of a glyph if it has one
+abbrev pub data_by : Option Layer → ClearState → Option ℕ → Source → List ℕ
+data_by None clear glyph picture = raw_bytes (pixels_in picture)
+data_by (Some layer) clear glyph picture = (stream_sent clear layer glyph picture.width picture.height (colours_in picture)).bytes
+
+-- the message that paints a picture on a surface by a layer, or uncompressed, in the surface's format
+abbrev pub paint_message : Option Layer → ClearState → Option ℕ → Picture → Source → ℕ → Point → Pdu
+paint_message layer clear glyph surface picture id at =
+    WireToSurface1 id (id_of (codec_by layer)) (byte_of surface.format) (place_of picture at) (data_by layer clear glyph picture)
+
+-- the same, where there are a surface, a picture and a kind
+unfoldable pub painting : ClearState → Option Picture → Option Source → Option Kind → Option ℕ → ℕ → Point → Option Pdu
+painting clear (Some surface) (Some picture) (Some kind) glyph id at = Some (paint_message (layer_of kind) clear glyph surface picture id at)
+painting clear surface picture kind glyph id at = None
 
 -- the message that puts a slot's bitmap at points
 unfoldable pub showing_slot : Option ℕ → ℕ → List Point → Option Pdu
@@ -95,8 +108,8 @@ made_as script state old kind (Copy from to rect points) = made (SurfaceToSurfac
 made_as script state old kind (Keep id key rect) = keeping (keeps old key (width_of rect) (height_of rect)) id key rect
 made_as script state old kind (Show key to points) = alone (showing_slot (slot_of key old.places) to points) (touched old key)
 made_as script state old kind (Forget key) = alone (emptying (slot_of key old.places)) (forgotten old key)
-made_as script state old kind (Paint id picture at named) =
-    alone (painting (get state.shown.surfaces id) (slice_get script.pictures picture) kind id at) old
+made_as script state old kind (Paint id picture at named glyph) =
+    alone (painting state.clear (get state.shown.surfaces id) (slice_get script.pictures picture) kind glyph id at) old
 made_as script state old kind Frame = made [] old
 
 -- the same by the server's end

@@ -1,5 +1,6 @@
 ghost use Rattle.gfx_planner.specs.Joined.{JoinedFramesAreShown};
 ghost use Rattle.gfx_planner.specs.Shows.{ScriptsAreShown};
+ghost use Rattle.gfx_planner.specs.Sources.{ClearPaintsShowTheirSource};
 ghost use Rattle.gfx_planner.specs.Within.{StepsWriteWithin};
 
 /// The stream of an accepted script is accepted whole, and after each of its steps, its frames among
@@ -17,4 +18,9 @@ pub fn steps_write_within()
 /// shows what the steps want.
 pub fn joined_frames_are_shown()
     ensures { JoinedFramesAreShown }
+{}
+
+/// A paint by ClearCodec shows its picture, in each pixel, until a later step writes there.
+pub fn clear_paints_show_their_source()
+    ensures { ClearPaintsShowTheirSource }
 {}

@@ -5,13 +5,18 @@
 //! In the pipe it stands between the script and the bytes of the stream.
 #![tactic(auto)]
 
+mod clear_paint;
 mod laws;
 mod messages;
 mod paint;
 mod planner;
 mod sender;
+mod step_sending;
 mod streaming;
 
-pub use laws::{joined_frames_are_shown, steps_write_within, streams_show_their_scripts};
+pub use laws::{
+    clear_paints_show_their_source, joined_frames_are_shown, steps_write_within,
+    streams_show_their_scripts,
+};
 pub use planner::{MOST_FRAMES, Planner};
 pub use streaming::put_in_frame;

@@ -1,5 +1,5 @@
 //! The messages that a step is made into.
-ghost use Rattle.std.specs.Prelude.{◌≡◌, ◌≤◌, [], ◌∷◌, IfOk, IsOk, IsSome, IfSome, Some, map};
+ghost use Rattle.std.specs.Prelude.{◌≡◌, ◌≤◌, [], ◌∷◌, IfOk, IsOk, IsSome, IfSome, Some, None, map};
 ghost use Rattle.std.specs.FinMap.{get};
 ghost use Rattle.std.specs.List.{slice_get};
 ghost use Rattle.gfx_base.specs.Format.{byte_of};
@@ -8,22 +8,25 @@ ghost use Rattle.gfx_slot_plan.specs.Plan.{keeps, slot_of, touched, forgotten};
 ghost use Rattle.gfx_script.specs.Script.{IsStep};
 ghost use Rattle.gfx_state.specs.Sending.{IsCarried};
 ghost use Rattle.gfx_pdu.specs.declared.pdu.Pdu.TheVariants.{CreateSurface, SolidFill, SurfaceToSurface, ResetGraphics, MapSurfaceToOutput, EvictCacheEntry};
+ghost use Rattle.gfx_planner.specs.ClearPaints.{clear_paint_of};
+ghost use Rattle.gfx_script.specs.declared.step.Kind.TheVariants.{Raw};
 ghost use Rattle.gfx_planner.specs.Wire.{CanBeSent, made, made_as, one_monitor, painting, keeping, showing_slot, emptying};
 
 use crate::paint::raw_payload;
 use gfx_base::{Fault, Format, NoMemory, Pixel, Point, Points, Rect, Rects};
-use gfx_pdu::{Monitor, Monitors, Pdu, UNCOMPRESSED};
+use gfx_pdu::{Monitor, Monitors, Pdu};
 use gfx_screen::State;
 use gfx_script::{Kind, Script, Step};
 use gfx_slot_plan::SlotPlan;
+use gfx_state::Codec;
 use gfx_surface_map::MOST_OUTPUT_SIDE;
 use std::alloc::Global;
 
 /// The flag of the primary monitor ([MS-RDPBCGR] TS_MONITOR_PRIMARY).
 pub const PRIMARY: u32 = 1;
 
-/// The messages of a step that goes as a kind, in the state before it. The choice of slots goes on by
-/// the step.
+/// The messages of a step that goes as a kind other than those of ClearCodec, in the state before it. The choice of
+/// slots goes on by the step.
 #[tactic(auto, unfolding(crate::specs::Wire::made_as))]
 pub fn step_messages(
     alloc: Global,
@@ -35,6 +38,7 @@ pub fn step_messages(
 ) -> Result<Vec<Pdu>, NoMemory>
     requires numbers { IsStep step.now }
     requires possible { CanBeSent (made_as script.now state.now plan.old kind step.now) }
+    requires messages { clear_paint_of step.now kind ≡ None }
     ensures { IfOk result (λ pdus. made_as script.now state.now plan.old kind step.now ≡ made pdus.items plan.new) }
 {
     match step {
@@ -62,10 +66,15 @@ pub fn step_messages(
             picture,
             at,
             ..
-        } => alone(
-            alloc,
-            paint_picture(alloc, script, state, *id, *picture, *at, kind)?,
-        ),
+        } => {
+            // What goes by ClearCodec isn't made into messages here.
+            let is_raw = kind == Some(Kind::Raw);
+            prove!(is_raw);
+            alone(
+                alloc,
+                paint_picture(alloc, script, state, *id, *picture, *at)?,
+            )
+        }
         Step::Frame => Ok(Vec::new(alloc)),
     }
 }
@@ -240,11 +249,10 @@ fn paint_picture(
     id: u16,
     picture: u32,
     at: Point,
-    kind: Option<Kind>,
 ) -> Result<Pdu, NoMemory>
-    requires there { IsSome (painting (get state.now.shown.surfaces id) (slice_get script.now.pictures picture) kind id at) }
-    requires fits { IfSome (painting (get state.now.shown.surfaces id) (slice_get script.now.pictures picture) kind id at) IsCarried }
-    ensures { IfOk result (λ pdu. painting (get state.now.shown.surfaces id) (slice_get script.now.pictures picture) kind id at ≡ Some pdu) }
+    requires there { IsSome (painting state.now.clear (get state.now.shown.surfaces id) (slice_get script.now.pictures picture) (Some Raw) None id at) }
+    requires fits { IfSome (painting state.now.clear (get state.now.shown.surfaces id) (slice_get script.now.pictures picture) (Some Raw) None id at) IsCarried }
+    ensures { IfOk result (λ pdu. painting state.now.clear (get state.now.shown.surfaces id) (slice_get script.now.pictures picture) (Some Raw) None id at ≡ Some pdu) }
 {
     let Some(surface) = state.surfaces().get(id) else {
         unreachable!()
@@ -252,12 +260,9 @@ fn paint_picture(
     let Some((width, height)) = script.picture_size(picture) else {
         unreachable!()
     };
-    let Some(Kind::Raw) = kind else {
-        unreachable!()
-    };
     Ok(Pdu::WireToSurface1 {
         surface: id,
-        codec: UNCOMPRESSED,
+        codec: Codec::Uncompressed.id(),
         format: surface.format().byte(),
         rect: Rect {
             left: at.x,

@@ -1,10 +1,11 @@
 //! The data of paints.
 ghost use Rattle.std.specs.Prelude.{◌≡◌, ℕ, ◌<◌, ◌+◌, ◌*◌, ◌∷◌, [], ◌++◌, IfSome, IfOk, Some, OnOk, option_map};
 ghost use Rattle.std.specs.List.{slice_get};
-ghost use Rattle.gfx_planner.specs.Want.{pixels_in};
+ghost use Rattle.gfx_clear.specs.Painting.{colour_of};
+ghost use Rattle.gfx_planner.specs.Want.{pixels_in, colours_in};
 ghost use Rattle.gfx_planner.specs.Wire.{raw_bytes};
 
-use gfx_base::{Bytes, NoMemory, Pixel};
+use gfx_base::{Bytes, NoMemory, Pixel, Rgb};
 use gfx_script::Script;
 use std::alloc::Global;
 
@@ -27,6 +28,39 @@ pub fn raw_payload(
         (x, y) = next_place(width, x, y);
     }
     Ok(Bytes::from_vec(bytes))
+}
+
+/// The colours of a picture of these sides, row by row.
+pub fn colours(
+    alloc: Global,
+    script: &Script,
+    picture: u32,
+    width: u16,
+    height: u16,
+) -> Result<Vec<Rgb>, NoMemory>
+    requires { option_map {U = ℕ × ℕ} (λ one. (one.width, one.height)) (slice_get script.now.pictures picture) ≡ Some (width, height) }
+    ensures { IfOk result (λ colours. IfSome (slice_get script.now.pictures picture) (λ one. colours.items ≡ colours_in one)) }
+{
+    let count = usize::from(width) * usize::from(height);
+    let mut colours = Vec::with_capacity(alloc, count)?;
+    let (mut x, mut y) = (0, 0);
+    'pixels: for _ in 0..count {
+        colours.push(colour_of(script.picture_pixel(picture, x, y)))?;
+        (x, y) = next_place(width, x, y);
+    }
+    Ok(colours)
+}
+
+/// The colour of a pixel.
+#[inline(always)]
+fn colour_of(pixel: Pixel) -> Rgb
+    ensures { result ≡ colour_of pixel }
+{
+    Rgb {
+        b: pixel.b,
+        g: pixel.g,
+        r: pixel.r,
+    }
 }
 
 /// The place behind this one, row by row.

@@ -4,10 +4,11 @@ ghost use Rattle.gfx_planner.specs.Agree.{IsAllowedStep, IsInFrame, kinded_at};
 ghost use Rattle.gfx_planner.specs.Planned.{ready, Sends, PutsStep};
 ghost use Rattle.gfx_planner.specs.Wire.{at_start, frame_start, frame_end, after_open, after_close};
 
-use crate::messages::step_messages;
 use crate::sender::Sender;
+use crate::step_sending::send_step;
 use gfx_base::{Bytes, NoMemory};
 use gfx_bitmap_cache::Cache;
+use gfx_clear::ClearState;
 use gfx_pdu::Pdu;
 use gfx_script::{Kind, Script};
 use gfx_slot_plan::SlotPlan;
@@ -50,9 +51,10 @@ impl Planner {
         ensures { IfOk result (λ planner. planner ≡ ready (at_start small)) }
     {
         let plan = SlotPlan::new(alloc, small)?;
+        let sender = Sender::new(alloc, small)?;
         Ok(Planner {
             alloc,
-            sender: Sender::new(alloc, small),
+            sender,
             plan,
             frames: 0,
             spent: false,
@@ -71,6 +73,13 @@ impl Planner {
         ensures { result.now ≡ self.now.server.state.cache }
     {
         self.sender.state().cache()
+    }
+
+    /// What the ClearCodec streams so far leave for later ones.
+    pub fn clear(&self) -> &ClearState
+        ensures { result.now ≡ self.now.server.state.clear }
+    {
+        self.sender.state().clear()
     }
 
     /// Whether a frame is open.
@@ -123,9 +132,15 @@ impl Planner {
         let Some(step) = script.step(step) else {
             unreachable!()
         };
-        let state = self.sender.state();
-        let pdus = step_messages(self.alloc, script, state, &mut self.plan, step, kind)?;
-        self.sender.send(pdus.as_slice(), out)?;
+        send_step(
+            self.alloc,
+            &mut self.sender,
+            &mut self.plan,
+            script,
+            step,
+            kind,
+            out,
+        )?;
         self.spent = false;
         Ok(())
     }

@@ -1,10 +1,20 @@
--- What the definitions say of small pictures.
-use Rattle.std.proofs.Common.{◌≡◌, [], ◌∷◌, refl}
+-- What the definitions say of small pictures, and of a decoder that holds little.
+use Rattle.std.proofs.Common.{◌≡◌, ℕ, ◌*◌, ◌<◌, ◌≤◌, List, [], ◌∷◌, ◌++◌, Some, None, Ok, refl, ap, ◌∙◌}
 use Rattle.std.specs.Prelude.{codes}
+use Rattle.std.proofs.lemmas.Bool.{lt-ltb, le-ltb, eq-eqb}
 use Rattle.gfx_base.specs.declared.format.Format.TheVariants.{Xrgb, Argb}
 use Rattle.std.specs.Fmt.{digits}
 use Rattle.hex.specs.Hex.{encode_with}
+use Rattle.gfx_base.specs.declared.pixel.Rgb.{Rgb}
+use Rattle.gfx_glyph.specs.Glyphs.{Slot as GlyphSlot, glyph, slot_at, shown, drawn}
+use Rattle.gfx_glyph.specs.declared.glyph.Glyph.{Glyph}
+use Rattle.gfx_glyph.specs.declared.glyphs.TheConstants.{PLACES, MOST_AREA}
+use Rattle.gfx_report.specs.StateBytes.{two_bytes, sides_bytes, colours_bytes, shown_bytes, ring_bytes, glyph_bytes, glyphs_bytes}
 use Rattle.gfx_report.specs.Texts.{surface_line, row_line, rows_text, surface_text}
+
+-- a colour
+abbrev rgb : ℕ → ℕ → ℕ → Rgb
+rgb b g r = record { b = b; g = g; r = r }
 
 pub one_row : surface_text 1 (record { width = 2; height = 1; format = Xrgb; pixels = record { b = 0; g = 0; r = 255; a = 255 } ∷ record { b = 0; g = 0; r = 255; a = 255 } ∷ [] }) ≡ codes "surface 1 2x1 xrgb\n0000ffff0000ffff\n"
 unfolding surface_text surface_line rows_text row_line digits encode_with
@@ -13,3 +23,31 @@ one_row = refl
 pub two_rows : surface_text 300 (record { width = 1; height = 2; format = Argb; pixels = record { b = 26; g = 178; r = 9; a = 127 } ∷ record { b = 0; g = 0; r = 0; a = 0 } ∷ [] }) ≡ codes "surface 300 1x2 argb\n1ab2097f\n00000000\n"
 unfolding surface_text surface_line rows_text row_line digits encode_with
 two_rows = refl
+
+-- one column behind a place that was never written
+pub one_column : ring_bytes 0 (None ∷ Some (rgb 1 2 3 ∷ rgb 4 5 6 ∷ []) ∷ []) ≡ 1 ∷ 0 ∷ 2 ∷ 1 ∷ 2 ∷ 3 ∷ 4 ∷ 5 ∷ 6 ∷ []
+unfolding ring_bytes
+one_column = refl
+
+-- a glyph of two pixels, one over the other
+pub one_glyph : glyphs_bytes 2 (None ∷ Some (glyph 1 2 (rgb 1 2 3 ∷ rgb 4 5 6 ∷ [])) ∷ []) ≡ 1 ∷ 0 ∷ 1 ∷ 0 ∷ 2 ∷ 0 ∷ 1 ∷ 2 ∷ 3 ∷ 4 ∷ 5 ∷ 6 ∷ []
+unfolding glyphs_bytes shown drawn
+one_glyph = refl
+
+-- a glyph that may be stored is shown whole
+shown_whole : (glyphs : List GlyphSlot) (index : ℕ) (held : Glyph) → index < PLACES → held.width * held.height ≤ MOST_AREA → slot_at glyphs index ≡ Some held
+    → shown index held.width held.height glyphs ≡ Ok held.pixels
+unfolding shown drawn
+shown_whole glyphs index held below small there =
+    let here = lt-ltb index PLACES below in
+    let fits = le-ltb MOST_AREA (held.width * held.height) small in
+    let wide = eq-eqb held.width held.width refl in
+    let high = eq-eqb held.height held.height refl in
+    rw (here, fits, there, wide, high) refl
+
+-- so the digest has all its pixels
+pub whole_glyph : (glyphs : List GlyphSlot) (index : ℕ) (held : Glyph) → index < PLACES → held.width * held.height ≤ MOST_AREA → slot_at glyphs index ≡ Some held
+    → glyph_bytes glyphs index (slot_at glyphs index) ≡ two_bytes index ++ (sides_bytes held.width held.height ++ colours_bytes held.pixels)
+whole_glyph glyphs index held below small there =
+    ap (glyph_bytes glyphs index) there
+    ∙ ap (λ answer. two_bytes index ++ (sides_bytes held.width held.height ++ shown_bytes answer)) (shown_whole glyphs index held below small there)

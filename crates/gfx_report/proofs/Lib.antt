@@ -5,4 +5,5 @@ pub mod Entries
 pub mod Pairs
 pub mod TookLemmas
 pub mod StateEntries
+pub mod DecoderBytes
 pub mod Examples

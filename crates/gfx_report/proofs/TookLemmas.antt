@@ -4,6 +4,7 @@ use Rattle.std.proofs.lemmas.List.{append-nil, take-append-drop, drop-drop, nil_
 use Rattle.std.proofs.lemmas.Grind.{flat_map-append}
 use Rattle.sha2.specs.Hashers.{Holds256}
 use Rattle.sha2.specs.declared.Sha256.{Sha256}
+use Rattle.std.specs.List.{flat_map}
 use Rattle.gfx_base.specs.declared.pixel.Pixel.{Pixel}
 use Rattle.gfx_surface.specs.Picture.{Picture, row_of, run_of}
 use Rattle.gfx_report.specs.Hashing.{Took}
@@ -38,10 +39,15 @@ Owes_as a b due rest same e owes = subst (Owes a b due) e owes
 pub Owes_none : (a b : Sha256) (due rest : List ℕ) → rest ≡ [] → Owes a b due rest → Took a b due
 Owes_none a b due rest none owes = owes b (subst (Took b b) (sym none) (Took_nothing b))
 
--- what is still due of some pixels is due of a front of them and of the others
+-- what is still due of some items is due of a front of them and of the others
+pub bytes_cut : {X : Type 0} (f : X → List ℕ) (xs front back : List X) (n : ℕ) → front ≡ take n xs → back ≡ drop n xs
+    → flat_map f xs ≡ flat_map f front ++ flat_map f back
+bytes_cut f xs front back n e d =
+    rw (e, d) (ap (flat_map f) (sym (take-append-drop n xs)) ∙ flat_map-append f (take n xs) (drop n xs))
+
+-- so of pixels
 pub pixels_cut : (xs front back : List Pixel) (n : ℕ) → front ≡ take n xs → back ≡ drop n xs → pixels_bytes xs ≡ pixels_bytes front ++ pixels_bytes back
-pixels_cut xs front back n e d =
-    rw (e, d) (ap pixels_bytes (sym (take-append-drop n xs)) ∙ flat_map-append pixel_bytes (take n xs) (drop n xs))
+pixels_cut xs front back n e d = bytes_cut pixel_bytes xs front back n e d
 
 -- what is still due of a row is due of a run of it and of the pixels behind
 pub row_cut : (picture : Picture) (x y count n : ℕ) → n ≡ count

@@ -3,7 +3,7 @@ ghost use Rattle.std.specs.Prelude.{◌≡◌, ◌<◌, ◌≤◌, ◌+◌, ◌*
 ghost use Rattle.gfx_bitmap_cache.specs.Slots.{entry, image_of};
 ghost use Rattle.gfx_surface.specs.Picture.{row_of, run_of};
 ghost use Rattle.gfx_report.specs.Hashing.{Took};
-ghost use Rattle.gfx_report.specs.StateBytes.{short_bytes, sides_bytes, pixel_bytes, pixels_bytes, surface_bytes, slot_bytes, cursors_bytes};
+ghost use Rattle.gfx_report.specs.StateBytes.{two_bytes, sides_bytes, pixel_bytes, pixels_bytes, surface_bytes, slot_bytes};
 
 use gfx_base::{BYTES_PER_PIXEL, Bitmap, Pixel};
 use gfx_surface::Surface;
@@ -33,15 +33,8 @@ pub fn add_slot(slot: u16, key: u64, bitmap: &Bitmap, hasher: &mut Sha256)
     add_pixels(bitmap.pixels.as_slice(), hasher);
 }
 
-/// Adds the two cursors of a ClearCodec decoder, which are 0 as long as there is none.
-pub fn add_cursors(hasher: &mut Sha256)
-    ensures { Took hasher.old hasher.new cursors_bytes }
-{
-    hasher.update([0; 4]);
-}
-
 /// Adds two sides.
-fn add_sides(width: u16, height: u16, hasher: &mut Sha256)
+pub fn add_sides(width: u16, height: u16, hasher: &mut Sha256)
     ensures { Took hasher.old hasher.new (sides_bytes width height) }
 {
     hasher.update(width.to_le_bytes());

@@ -13,13 +13,13 @@ use Rattle.gfx_script.specs.Scripted.{Script}
 use Rattle.gfx_script.specs.Writes.{Area, area, place_of, writes_plainly}
 use Rattle.gfx_script.specs.declared.picture.Picture.{Picture as Source}
 use Rattle.gfx_script.specs.declared.step.Kind.{Kind}
-use Rattle.gfx_script.specs.declared.step.Kind.TheVariants.{Raw}
 use Rattle.gfx_script.specs.declared.step.Step.{Step}
 use Rattle.gfx_script.specs.declared.step.Step.TheVariants.{Surface, Delete, Reset, Map, Fill, Copy, Keep, Show, Forget, Paint, Frame}
 use Rattle.gfx_surface.specs.Picture.{Picture, overlaid}
 use Rattle.gfx_surface_map.specs.Shown.{Shown}
 use Rattle.gfx_surface_map.specs.Surfaces.{painted}
-use Rattle.gfx_planner.specs.Want.{Wanted, drawn_on, drawing, with_painting, pixels_in, wanted_as}
+use Rattle.gfx_planner.specs.Layers.{layer_of}
+use Rattle.gfx_planner.specs.Want.{Wanted, drawn_on, drawing, with_painting, shown_by, wanted_as}
 use Rattle.gfx_window.specs.Superseded.{covers}
 use Rattle.gfx_window.proofs.HullLaws.{both}
 use Rattle.gfx_schedule.proofs.LeavingPictures.{AreAlike, AreBeside, Draws, sides_back, painted-draws, overlaid-draws, drawn-self, drawn-alike, drawn-same, beside-covered, some-covers}
@@ -37,21 +37,21 @@ fill-draws step id rects draw plain draws is there =
     let same : area id rects ≡ plain = cc in
     subst (IsDrawing step) same record { draw = draw; draws = draws; is = is }
 
-paint-draws : (o : Option Source) (id : ℕ) (at : Point) (plain : Area) → option_map (λ source. area id (place_of source at ∷ [])) o ≡ Some plain
-    → IsDrawing (λ wanted. with_painting wanted o (Some Raw) id at) plain
+paint-draws : (o : Option Source) (kind : Kind) (id : ℕ) (at : Point) (plain : Area) → option_map (λ source. area id (place_of source at ∷ [])) o ≡ Some plain
+    → IsDrawing (λ wanted. with_painting wanted o (Some kind) id at) plain
 unfolding with_painting
-paint-draws None id at plain there = absurd cc
-paint-draws (Some source) id at plain there =
-    fill-draws _ id (place_of source at ∷ []) (λ surface. overlaid surface (place_of source at) (pixels_in source)) plain
-    (overlaid-draws (place_of source at) (pixels_in source)) (λ wanted. refl) there
+paint-draws None kind id at plain there = absurd cc
+paint-draws (Some source) kind id at plain there =
+    fill-draws _ id (place_of source at ∷ []) (λ surface. overlaid surface (place_of source at) (shown_by (layer_of kind) source)) plain
+    (overlaid-draws (place_of source at) (shown_by (layer_of kind) source)) (λ wanted. refl) there
 
 pub plain-draws : (script : Script) (kind : Option Kind) (step : Step) (plain : Area) → writes_plainly script kind step ≡ Some plain
     → IsDrawing (λ wanted. wanted_as script wanted kind step) plain
 unfolding writes_plainly wanted_as
 plain-draws script kind (Fill id colour rects) plain there =
     fill-draws _ id rects (λ picture. painted picture rects colour) plain (painted-draws rects colour) (λ wanted. refl) there
-plain-draws script None (Paint id picture at named) plain there = absurd cc
-plain-draws script (Some Raw) (Paint id picture at named) plain there = paint-draws (slice_get script.pictures picture) id at plain there
+plain-draws script None (Paint id picture at named glyph) plain there = absurd cc
+plain-draws script (Some one) (Paint id picture at named glyph) plain there = paint-draws (slice_get script.pictures picture) one id at plain there
 plain-draws script kind (Surface id width height format) plain there = absurd cc
 plain-draws script kind (Delete id) plain there = absurd cc
 plain-draws script kind (Reset width height) plain there = absurd cc

@@ -48,7 +48,7 @@ frame_stays script wanted kind (Copy from to rect points) is = absurd cc
 frame_stays script wanted kind (Keep id key rect) is = absurd cc
 frame_stays script wanted kind (Show key to points) is = absurd cc
 frame_stays script wanted kind (Forget key) is = absurd cc
-frame_stays script wanted kind (Paint id picture at named) is = absurd cc
+frame_stays script wanted kind (Paint id picture at named glyph) is = absurd cc
 
 -- what is wanted after these items is the same after two states that are alike but in an area
 abbrev Hides : Script → Area → List Queued → Type 0
@@ -136,18 +136,19 @@ fill_holds held after id rects e =
     let inside = and_then_ok _ _ after sides.2 in
     same_held held after inside.2
 
-paint_holds : (held after : Held) (id picture : ℕ) (at : Point) → picture_painted held id picture at ≡ Ok after → after ≡ held
+paint_holds : (held after : Held) (id picture : ℕ) (at : Point) (named : Option Kind) (glyph : Option ℕ) → picture_painted held id picture at named glyph ≡ Ok after → after ≡ held
 unfolding picture_painted
-paint_holds held after id picture at e =
+paint_holds held after id picture at named glyph e =
     let sides = and_then_ok _ _ after e in
     let drawn = and_then_ok _ _ after sides.2 in
     let inside = and_then_ok _ _ after drawn.2 in
-    same_held held after inside.2
+    let small = and_then_ok _ _ after inside.2 in
+    same_held held after small.2
 
 plain_holds : (script : Script) (kind : Option Kind) (step : Step) (plain : Area) (held after : Held) → writes_plainly script kind step ≡ Some plain → held_after held step ≡ Ok after → after ≡ held
 unfolding writes_plainly held_after
 plain_holds script kind (Fill id colour rects) plain held after there e = fill_holds held after id rects e
-plain_holds script kind (Paint id picture at named) plain held after there e = paint_holds held after id picture at e
+plain_holds script kind (Paint id picture at named glyph) plain held after there e = paint_holds held after id picture at named glyph e
 plain_holds script kind (Surface id width height format) plain held after there e = absurd cc
 plain_holds script kind (Delete id) plain held after there e = absurd cc
 plain_holds script kind (Reset width height) plain held after there e = absurd cc

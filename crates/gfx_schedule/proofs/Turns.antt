@@ -27,6 +27,7 @@ use Rattle.gfx_state.proofs.Effects.{history-nil, history-append, nothing}
 use Rattle.gfx_state.proofs.Runs.{eats-append, eats-nil}
 use Rattle.gfx_state.proofs.Sent.{sent-nil}
 use Rattle.gfx_state.proofs.Wider.{Wider_same, started_fresh}
+use Rattle.gfx_clear.proofs.Keeping.{rings_fresh}
 use Rattle.gfx_planner.specs.Joined.{frame_of, after_frame}
 use Rattle.gfx_planner.specs.Want.{want}
 use Rattle.gfx_planner.specs.Wire.{at_start}
@@ -570,6 +571,7 @@ beginning script kinded good fits =
           same = refl;
           surfaces = holds-nothing;
           bitmaps = record { same = refl; limits = refl; fits_cache = fits_cache-start script.small; sides_fit = tt };
+          rings = rings_fresh;
         };
         agrees = record { shown = refl; slots = refl; plan = refl };
         frame = refl;

@@ -1,29 +1,40 @@
-ghost use Rattle.std.specs.Prelude.{◌≡◌, ◌*◌, ◌==◌, true, false, None, Err, length};
+ghost use Rattle.std.specs.Prelude.{◌≡◌, ℕ, ◌≤◌, ◌+◌, ◌*◌, ◌==◌, false, None, Ok, Err, IfSome, IsSome, IsSomeAnd, IsTrue, IfOk, OnErr, length};
+ghost use Rattle.std.specs.FinMap as map;
 ghost use Rattle.std.specs.List.{list_all};
 ghost use Rattle.gfx_base.specs.Geometry.{lies_in, width_of, height_of};
 ghost use Rattle.gfx_base.specs.Format.{format_of};
 ghost use Rattle.gfx_base.specs.Outcome.{Applies, Performs};
-ghost use Rattle.gfx_surface_map.specs.Shown.{surface_deleted, surface_copied, output_reset, output_mapped};
+ghost use Rattle.gfx_surface_map.specs.Shown.{surface_deleted, surface_copied, output_mapped};
 ghost use Rattle.gfx_bitmap_cache.specs.Slots.{evicted};
+ghost use Rattle.gfx_clear.specs.Sending.{MaySend, sent};
+ghost use Rattle.gfx_pdu.specs.declared.pdu.Pdu.TheVariants.{WireToSurface1};
+ghost use Rattle.gfx_state.specs.declared.codec.Codec.{Codec as AnyCodec};
+ghost use Rattle.gfx_state.specs.Codecs.{CLEARCODEC};
 ghost use Rattle.gfx_state.specs.State.{started};
-ghost use Rattle.gfx_screen.specs.Memory.{takes_memory, WantsOnlyIf};
-ghost use Rattle.gfx_state.specs.Step.{step, showing, caching, frame_started, frame_ended, surface_created, rects_filled, data_painted, tiles_painted, rect_stored, slot_put, caps_confirmed};
+ghost use Rattle.gfx_screen.specs.Memory.{takes_memory, may_take_memory, WantsOnlyIf};
+ghost use Rattle.gfx_state.specs.Step.{step, showing, caching, frame_started, frame_ended, surface_created, rects_filled, bytes_painted, stream_painted, data_painted, tiles_painted, rect_stored, slot_put, graphics_reset, caps_confirmed};
 
 use crate::bitmaps::{bitmap_of, lies_on};
 use crate::flags::{has_small_cache, is_confirmed};
-use gfx_base::{BYTES_PER_PIXEL, Fault, Format, Pixel, Point, Rect, Refusal, all_lie_in};
+use gfx_base::{
+    BYTES_PER_PIXEL, Bytes, Fault, Format, NoMemory, Pixel, Point, Rect, Refusal, Rgb, all_lie_in,
+};
 use gfx_bitmap_cache::Cache;
-use gfx_pdu::{Pdu, UNCOMPRESSED};
+use gfx_clear::{ClearState, Layer};
+use gfx_pdu::Pdu;
+use gfx_state::Codec;
 use gfx_surface_map::{SurfaceMap, fits_size};
 use std::alloc::Global;
 use std::marker::Model;
 
-/// What the messages change: what is shown, the cache, the open frame and the count of frames. Contracts
-/// see the state. No surface has more pixels than there is room to copy.
+/// What the messages change: what is shown, the cache, what ClearCodec streams left for later ones, the
+/// open frame and the count of frames. Contracts see the state. No surface has more pixels than there is
+/// room to copy.
 #[derive(Drop)]
 pub struct State {
     surfaces: SurfaceMap,
     cache: Cache,
+    clear: ClearState,
     frame: Option<u32>,
     decoded: u32,
 }
@@ -36,7 +47,7 @@ impl Model for State {
 
     ghost coded = { state_code };
 
-    ghost view = { λ s. record { shown = s.surfaces.shown; cache = s.cache; frame = s.frame; decoded = s.decoded } };
+    ghost view = { λ s. record { shown = s.surfaces.shown; cache = s.cache; clear = s.clear; frame = s.frame; decoded = s.decoded } };
 
     ghost use Rattle.gfx_surface_map.specs.Shown.{AllHaveRoom};
 
@@ -45,18 +56,20 @@ impl Model for State {
 
 impl State {
     /// The state at a start, where `small` says whether the small limits bind the stores: at the start
-    /// of a stream they don't. It takes no memory.
-    pub fn new(alloc: Global, small: bool) -> State
-        ensures { result ≡ started small }
+    /// of a stream they don't. It takes the room of the ClearCodec stores.
+    pub fn new(alloc: Global, small: bool) -> Result<State, NoMemory>
+        ensures { IfOk result (λ state. state ≡ started small) }
     {
+        let clear = ClearState::new(alloc)?;
         let mut cache = Cache::new(alloc);
         cache.set_small(small);
-        State {
+        Ok(State {
             surfaces: SurfaceMap::new(alloc),
             cache,
+            clear,
             frame: None,
             decoded: 0,
-        }
+        })
     }
 
     /// The surfaces as the messages so far have drawn them.
@@ -71,6 +84,13 @@ impl State {
         ensures { result.now ≡ self.now.cache }
     {
         &self.cache
+    }
+
+    /// What the ClearCodec streams so far have left for later ones.
+    pub fn clear(&self) -> &ClearState
+        ensures { result.now ≡ self.now.clear }
+    {
+        &self.clear
     }
 
     /// The frame that has started and not ended.
@@ -94,6 +114,13 @@ impl State {
         ensures memory { WantsOnlyIf result (takes_memory pdu.now) }
     {
         match pdu {
+            Pdu::WireToSurface1 {
+                surface,
+                codec,
+                format,
+                rect,
+                payload,
+            } => self.paint_data(*surface, *codec, *format, *rect, payload.as_slice()),
             Pdu::SurfaceToCache {
                 surface,
                 key,
@@ -114,20 +141,13 @@ impl State {
         }
     }
 
-    /// Applies a message that takes no memory, or refuses it and changes nothing.
+    /// Applies a message that never takes memory, or refuses it and changes nothing.
     #[tactic(auto, unfolding(gfx_state::specs::Step::step))]
     fn perform(&mut self, pdu: &Pdu) -> Result<(), Refusal>
-        requires { takes_memory pdu.now ≡ false }
+        requires { may_take_memory pdu.now ≡ false }
         ensures { Performs result self.old self.new (step self.old pdu.now) }
     {
         match pdu {
-            Pdu::WireToSurface1 {
-                surface,
-                codec,
-                format,
-                rect,
-                payload,
-            } => self.paint_data(*surface, *codec, *format, *rect, payload.as_slice()),
             Pdu::WireToSurface2 { surface, .. } => self.paint_tiles(*surface),
             Pdu::SolidFill {
                 surface,
@@ -149,12 +169,13 @@ impl State {
             Pdu::DeleteSurface { id } => self.delete_surface(*id),
             Pdu::StartFrame { frame, .. } => self.start_frame(*frame),
             Pdu::EndFrame { frame } => self.end_frame(*frame),
-            Pdu::ResetGraphics { width, height, .. } => self.reset_output(*width, *height),
+            Pdu::ResetGraphics { width, height, .. } => self.reset_graphics(*width, *height),
             Pdu::CapsConfirm { version, payload } => {
                 self.confirm_caps(*version, payload.as_slice())
             }
             Pdu::DeleteEncodingContext { .. } => Err(Refusal::PduUnknown),
-            Pdu::SurfaceToCache { .. }
+            Pdu::WireToSurface1 { .. }
+            | Pdu::SurfaceToCache { .. }
             | Pdu::CreateSurface { .. }
             | Pdu::MapSurfaceToOutput { .. } => unreachable!(),
         }
@@ -229,7 +250,7 @@ impl State {
         Ok(())
     }
 
-    /// Uncompressed data alone are built yet.
+    /// Paints data in a rectangle of a surface, by their codec. Only a ClearCodec stream takes memory.
     #[tactic(auto, unfolding(gfx_state::specs::Step::data_painted, gfx_base::specs::Results::and_then))]
     fn paint_data(
         &mut self,
@@ -238,26 +259,87 @@ impl State {
         format: u8,
         rect: Rect,
         payload: &[u8],
-    ) -> Result<(), Refusal>
-        ensures { Performs result self.old self.new (data_painted self.old id codec format rect payload.now) }
+    ) -> Result<(), Fault>
+        ensures applies { Applies result self.old self.new (data_painted self.old id codec format rect payload.now) }
+        ensures memory { WantsOnlyIf result (codec == CLEARCODEC) }
     {
         let Some(surface) = self.surfaces.get(id) else {
-            return Err(Refusal::NoSurface);
+            return Err(Fault::Refused(Refusal::NoSurface));
         };
-        if codec != UNCOMPRESSED {
-            return Err(Refusal::CodecRefused);
-        }
+        let Some(codec) = Codec::from_id(codec) else {
+            return Err(Fault::Refused(Refusal::CodecRefused));
+        };
         let Some(format) = Format::from_byte(format) else {
-            return Err(Refusal::PixelFormat);
+            return Err(Fault::Refused(Refusal::PixelFormat));
         };
         if !lies_on(rect, surface) {
-            return Err(Refusal::RectOutside);
+            return Err(Fault::Refused(Refusal::RectOutside));
         }
+        match codec {
+            Codec::Uncompressed => match self.paint_bytes(id, format, rect, payload) {
+                Ok(()) => Ok(()),
+                Err(refusal) => Err(Fault::Refused(refusal)),
+            },
+            Codec::ClearCodec => self.paint_stream(id, rect, payload),
+        }
+    }
+
+    /// Puts the pixels of uncompressed data into a rectangle that lies on a surface.
+    #[tactic(auto, unfolding(gfx_state::specs::Step::bytes_painted, gfx_base::specs::Results::and_then))]
+    fn paint_bytes(
+        &mut self,
+        id: u16,
+        format: Format,
+        rect: Rect,
+        payload: &[u8],
+    ) -> Result<(), Refusal>
+        requires { IsSomeAnd (map.get self.old.shown.surfaces id) (λ picture. IsTrue (lies_in picture.width picture.height rect)) }
+        ensures { IfSome (map.get self.old.shown.surfaces id)
+            (λ picture. Performs result self.old self.new (bytes_painted self.old id picture format rect payload.now)) }
+    {
         if !has_length(payload, rect) {
             return Err(Refusal::PayloadLength);
         }
         self.surfaces.put_bytes(id, rect, format, payload);
         Ok(())
+    }
+
+    /// Decodes a ClearCodec stream into a rectangle that lies on a surface. Any fault leaves all as it was.
+    #[tactic(auto, unfolding(gfx_state::specs::Step::stream_painted, gfx_base::specs::Results::and_then))]
+    fn paint_stream(&mut self, id: u16, rect: Rect, stream: &[u8]) -> Result<(), Fault>
+        requires { IsSomeAnd (map.get self.old.shown.surfaces id) (λ picture. IsTrue (lies_in picture.width picture.height rect)) }
+        ensures { IfSome (map.get self.old.shown.surfaces id)
+            (λ picture. Applies result self.old self.new (stream_painted self.old id picture rect stream.now)) }
+    {
+        match self.surfaces.get_mut(id) {
+            Some(surface) => self.clear.decode(surface, rect, stream),
+            None => unreachable!(),
+        }
+    }
+
+    /// Paints a picture in a rectangle of a surface by ClearCodec, as a server does, and answers the data of
+    /// the message that says so. The state is then what that message makes of it, though nothing is decoded;
+    /// without memory it is as it was.
+    pub fn paint_clear(
+        &mut self,
+        id: u16,
+        rect: Rect,
+        pixels: &[Rgb],
+        layer: Layer,
+        glyph: Option<u16>,
+    ) -> Result<Bytes, NoMemory>
+        requires inside { IsSomeAnd (map.get self.old.shown.surfaces id) (λ picture. IsTrue (lies_in picture.width picture.height rect)) }
+        requires picture { MaySend (width_of rect) (height_of rect) pixels.now glyph }
+        ensures sent { IfOk result (λ bytes. bytes ≡ (sent self.old.clear layer glyph (width_of rect) (height_of rect) pixels.now).bytes) }
+        ensures step { IfOk result (λ bytes. (byte : ℕ) → IsSome (format_of byte)
+            → step self.old (WireToSurface1 id CLEARCODEC byte rect bytes) ≡ Ok self.new) }
+        ensures small { IfOk result (λ bytes. length bytes ≤ 5 * length pixels.now + 20000) }
+        ensures err { OnErr result (self.new ≡ self.old) }
+    {
+        match self.surfaces.get_mut(id) {
+            Some(surface) => self.clear.send(surface, rect, pixels, layer, glyph),
+            None => unreachable!(),
+        }
     }
 
     /// No codec of this message is built yet.
@@ -339,11 +421,13 @@ impl State {
         self.surfaces.delete(id)
     }
 
-    #[tactic(auto, unfolding(gfx_state::specs::Step::showing, gfx_base::specs::Results::and_then))]
-    fn reset_output(&mut self, width: u32, height: u32) -> Result<(), Refusal>
-        ensures { Performs result self.old self.new (showing self.old (output_reset self.old.shown width height)) }
+    #[tactic(auto, unfolding(gfx_state::specs::Step::graphics_reset, gfx_base::specs::Results::and_then))]
+    fn reset_graphics(&mut self, width: u32, height: u32) -> Result<(), Refusal>
+        ensures { Performs result self.old self.new (graphics_reset self.old width height) }
     {
-        self.surfaces.reset(width, height)
+        self.surfaces.reset(width, height)?;
+        self.clear.forget_sequence();
+        Ok(())
     }
 
     #[tactic(auto, unfolding(gfx_state::specs::Step::showing, gfx_base::specs::Results::and_then))]

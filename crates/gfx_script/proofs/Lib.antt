@@ -1,4 +1,5 @@
 pub mod Framed
 pub mod Surfaces
 pub mod Bitmaps
+pub mod OwnKinds
 pub mod Limits

@@ -1,6 +1,6 @@
 -- What each step needs of the steps before it: this project's own rule. The limits are those of the
 -- surfaces and bitmaps that the steps make.
-use Rattle.std.specs.Prelude.{ℕ, ◌+◌, ◌-◌, Bool, ◌&&◌, not, nat_le, nat_lt, map, List, [], ◌∷◌, Result, Ok}
+use Rattle.std.specs.Prelude.{ℕ, ◌+◌, ◌-◌, ◌*◌, Bool, true, false, Option, Some, None, ◌&&◌, not, nat_le, nat_lt, map, List, [], ◌∷◌, Result, Ok}
 use Rattle.std.specs.List.{list_all, slice_get}
 use Rattle.std.specs.Option.{ok_or}
 use Rattle.std.specs.Ordering.{nat_cmp}
@@ -14,10 +14,13 @@ use Rattle.gfx_surface_map.specs.declared.TheConstants.{MOST_SURFACES, MOST_CELL
 use Rattle.gfx_surface_map.specs.Surfaces.{cells}
 pub use Rattle.gfx_script.specs.declared.held.Sides.{Sides}
 use Rattle.gfx_script.specs.declared.error.ScriptKind.{ScriptKind}
-use Rattle.gfx_script.specs.declared.error.ScriptKind.TheVariants.{Name, SurfacePresent, CellBudget, SurfaceAbsent, Outside}
+use Rattle.gfx_script.specs.declared.error.ScriptKind.TheVariants.{Name, SurfacePresent, CellBudget, SurfaceAbsent, Outside, Glyph}
+use Rattle.gfx_script.specs.declared.TheConstants.{MOST_GLYPH_AREA}
 use Rattle.gfx_script.specs.declared.picture.Picture.{Picture}
+use Rattle.gfx_script.specs.declared.step.Kind.{Kind}
 use Rattle.gfx_script.specs.declared.step.Step.{Step}
 use Rattle.gfx_script.specs.declared.step.Step.TheVariants.{Surface, Delete, Reset, Map, Fill, Copy, Keep, Show, Forget, Paint, Frame}
+use Rattle.gfx_script.specs.Kinds.{is_clear}
 use Rattle.gfx_script.specs.Stock.{Stock, no_bitmaps, bitmap_kept, bitmap_sides, bitmap_shown, bitmap_forgotten}
 
 -- what the steps so far have left, as far as later ones are checked against it
@@ -115,12 +118,24 @@ key_forgotten held key = do
   stock ← bitmap_forgotten held.stock key
   Ok (record held { stock = stock })
 
+-- a picture of these sides may be kept as a glyph: the paint names a layer of ClearCodec, and the pixels are
+-- few ([MS-RDPEGFX] 2.2.4.1)
+abbrev pub takes_glyph : Option Kind → Sides → Bool
+takes_glyph None drawn = false
+takes_glyph (Some kind) drawn = is_clear kind && nat_le (drawn.width * drawn.height) MOST_GLYPH_AREA
+
+-- the glyph of a paint, if it has one, is kept of such a picture
+abbrev pub is_glyph : Option Kind → Sides → Option ℕ → Bool
+is_glyph kind drawn None = true
+is_glyph kind drawn (Some index) = takes_glyph kind drawn
+
 -- `paint`
-unfoldable pub picture_painted : Held → ℕ → ℕ → Point → Result Held ScriptKind
-picture_painted held id picture at = do
+unfoldable pub picture_painted : Held → ℕ → ℕ → Point → Option Kind → Option ℕ → Result Held ScriptKind
+picture_painted held id picture at kind glyph = do
   sides ← ok_or (finmap.get held.sides id) SurfaceAbsent
   drawn ← ok_or (slice_get held.pictures picture) Name
   inside ← check Outside (lies_in sides.width sides.height (moved (sized drawn.width drawn.height) at))
+  small ← check Glyph (is_glyph kind drawn glyph)
   Ok held
 
 -- what is held after a step, or what is wrong with it
@@ -134,7 +149,7 @@ held_after held (Copy from to rect points) = rect_copied held from to rect point
 held_after held (Keep id key rect) = rect_kept held id key rect
 held_after held (Show key to points) = key_shown held key to points
 held_after held (Forget key) = key_forgotten held key
-held_after held (Paint id picture at kind) = picture_painted held id picture at
+held_after held (Paint id picture at kind glyph) = picture_painted held id picture at kind glyph
 held_after held Frame = Ok held
 
 -- what is held after these steps, one after another

@@ -1,13 +1,20 @@
 -- The kinds that the steps of a script go as: this project's own rule.
-use Rattle.std.specs.Prelude.{◌≡◌, List, map, Option, Some, None, IsSome, IfSome}
+use Rattle.std.specs.Prelude.{◌≡◌, Bool, true, false, List, map, Option, Some, None, IsSome, IfSome, unwrap_or}
 use Rattle.std.specs.List.{AllByRecursion}
 use Rattle.gfx_script.specs.declared.step.Kind.{Kind}
+use Rattle.gfx_script.specs.declared.step.Kind.TheVariants.{Raw, Residual}
 use Rattle.gfx_script.specs.declared.step.Step.{Step}
 use Rattle.gfx_script.specs.declared.step.Step.TheVariants.{Paint}
 
--- the kind that a paint names, if it names one, and none of another step
+-- a picture goes by ClearCodec
+abbrev pub is_clear : Kind → Bool
+is_clear Raw = false
+is_clear kind = true
+
+-- the kind that a paint goes as where nothing else chooses one: the kind that it names, or runs of one colour.
+-- None of another step
 abbrev pub kind_of : Step → Option Kind
-kind_of (Paint id picture at kind) = kind
+kind_of (Paint id picture at named glyph) = Some (unwrap_or named Residual)
 kind_of step = None
 
 -- a step with the kind that it goes as
@@ -19,13 +26,13 @@ pub record KindedStep : Type 0 where
 abbrev pub as_kind : Option Kind → Step → KindedStep
 as_kind kind step = record { step = step; kind = kind }
 
--- a step that goes as the kind that it names
+-- a step that goes as the kind that it names, where nothing else chooses one
 abbrev pub own : Step → KindedStep
 own step = as_kind (kind_of step) step
 
 -- a paint goes as some kind, which is the one that it names where it names one; other steps go as none
 abbrev pub GoesAs : Option Kind → Step → Type 0
-GoesAs kind (Paint id picture at named) = IsSome kind × IfSome named (λ one. kind ≡ Some one)
+GoesAs kind (Paint id picture at named glyph) = IsSome kind × IfSome named (λ one. kind ≡ Some one)
 GoesAs kind step = kind ≡ None
 
 -- the same of a step with its kind

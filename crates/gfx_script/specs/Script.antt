@@ -1,17 +1,16 @@
 -- The steps of a script, and what holds of every script that is accepted: this project's own rule.
-use Rattle.std.specs.Prelude.{◌≡◌, ℕ, ◌-◌, ◌≤◌, ◌<◌, ◌^◌, ◌==◌, Bool, true, false, IsTrue, if◌then◌else◌, List, [], ◌∷◌, length, Option, None, Ok}
+use Rattle.std.specs.Prelude.{◌≡◌, ℕ, ◌-◌, ◌≤◌, ◌<◌, ◌^◌, ◌==◌, Bool, true, false, IsTrue, if◌then◌else◌, List, [], ◌∷◌, length, Option, None, Ok, IfSome}
 use Rattle.std.specs.List.{AllByRecursion, slice_get}
 use Rattle.gfx_caps.specs.Offers.{IsOffer, small_of}
 use Rattle.gfx_base.specs.Geometry.{IsPixel, IsPoint, IsRect}
 use Rattle.gfx_surface.specs.declared.TheConstants.{MOST_SIDE}
 use Rattle.gfx_surface_map.specs.declared.place.TheConstants.{MOST_OUTPUT_SIDE}
-use Rattle.gfx_script.specs.declared.TheConstants.{MOST_STEPS, MOST_RECTS, MOST_PICTURES, MOST_KEY, MOST_VERSIONS, MOST_WINDOW, MOST_TURNS}
+use Rattle.gfx_script.specs.declared.TheConstants.{MOST_STEPS, MOST_RECTS, MOST_PICTURES, MOST_KEY, MOST_GLYPH, MOST_VERSIONS, MOST_WINDOW, MOST_TURNS}
 use Rattle.gfx_script.specs.declared.step.Step.{Step}
 use Rattle.gfx_script.specs.declared.step.Step.TheVariants.{Surface, Delete, Reset, Map, Fill, Copy, Keep, Show, Forget, Paint, Frame}
 use Rattle.gfx_script.specs.declared.turn.Turn.{Turn}
 use Rattle.gfx_script.specs.declared.turn.Turn.TheVariants.{Server, Client, Answer}
 use Rattle.gfx_script.specs.Checks.{Held, held_first, sides_of_all, held_through}
-use Rattle.gfx_script.specs.Kinds.{HasKind, own}
 use Rattle.gfx_script.specs.Pictures.{IsDrawn}
 use Rattle.gfx_script.specs.Scripted.{Script}
 
@@ -45,7 +44,7 @@ IsStep (Keep id key rect) = (id < 2 ^ 16) × (key ≤ MOST_KEY) × IsRect rect
 IsStep (Show key to points) =
     (key ≤ MOST_KEY) × (to < 2 ^ 16) × (1 ≤ length points) × (length points ≤ MOST_RECTS) × AllByRecursion IsPoint points
 IsStep (Forget key) = key ≤ MOST_KEY
-IsStep (Paint id picture at kind) = (id < 2 ^ 16) × IsPoint at
+IsStep (Paint id picture at named glyph) = (id < 2 ^ 16) × IsPoint at × IfSome glyph (λ index. index ≤ MOST_GLYPH)
 IsStep Frame = Unit {0}
 
 -- the number of a turn, where it has one, is within its range
@@ -67,8 +66,6 @@ pub record IsAccepted (script : Script) : Type 0 where
   pub pictures : AllByRecursion IsDrawn script.pictures
   pub few : length script.steps ≤ MOST_STEPS
   pub numbers : AllByRecursion IsStep script.steps
-  -- each paint names its kind
-  pub told : AllByRecursion (λ step. HasKind (own step)) script.steps
   pub held : Held
   pub checked : held_through (held_first (sides_of_all script.pictures) script.small) script.steps ≡ Ok held
   pub framed : IsTrue (is_framed script.steps)

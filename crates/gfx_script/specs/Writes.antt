@@ -7,7 +7,6 @@ use Rattle.gfx_base.specs.declared.geometry.Rect.{Rect}
 use Rattle.gfx_base.specs.Geometry.{moved, sized}
 use Rattle.gfx_script.specs.declared.picture.Picture.{Picture}
 use Rattle.gfx_script.specs.declared.step.Kind.{Kind}
-use Rattle.gfx_script.specs.declared.step.Kind.TheVariants.{Raw}
 use Rattle.gfx_script.specs.declared.step.Step.{Step}
 use Rattle.gfx_script.specs.declared.step.Step.TheVariants.{Surface, Fill, Copy, Show, Paint}
 use Rattle.gfx_script.specs.Scripted.{Script}
@@ -36,7 +35,7 @@ writes script stock (Fill id colour rects) = Some (area id rects)
 writes script stock (Copy from to rect points) = Some (area to (at_each points rect))
 writes script stock (Show key to points) =
     option_map (λ sides. area to (at_each points (sized sides.width sides.height))) (result_ok (bitmap_sides stock key))
-writes script stock (Paint id picture at kind) =
+writes script stock (Paint id picture at named glyph) =
     option_map (λ source. area id (place_of source at ∷ [])) (slice_get script.pictures picture)
 writes script stock step = None
 
@@ -44,6 +43,6 @@ writes script stock step = None
 -- picture and nothing else
 unfoldable pub writes_plainly : Script → Option Kind → Step → Option Area
 writes_plainly script kind (Fill id colour rects) = Some (area id rects)
-writes_plainly script (Some Raw) (Paint id picture at named) =
+writes_plainly script (Some kind) (Paint id picture at named glyph) =
     option_map (λ source. area id (place_of source at ∷ [])) (slice_get script.pictures picture)
 writes_plainly script kind step = None

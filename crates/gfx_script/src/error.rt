@@ -28,6 +28,8 @@ pub enum ScriptKind {
     KeyAbsent,
     /// A bitmap alone is over the budget of all bitmaps.
     BitmapSize,
+    /// A paint with a glyph names no layer of ClearCodec, or its picture has too many pixels.
+    Glyph,
     /// The last step is no frame.
     Unframed,
 }
@@ -49,6 +51,7 @@ impl ScriptKind {
             ScriptKind::Outside => "Outside",
             ScriptKind::KeyAbsent => "KeyAbsent",
             ScriptKind::BitmapSize => "BitmapSize",
+            ScriptKind::Glyph => "Glyph",
             ScriptKind::Unframed => "Unframed",
         }
     }

@@ -3,12 +3,13 @@
 ghost use Rattle.std.specs.Prelude.{◌≡◌, IsTrue, IfOk, OnOk, slice_get};
 ghost use Rattle.std.specs.FinMap as map;
 ghost use Rattle.gfx_base.specs.Geometry.{sized};
-ghost use Rattle.gfx_script.specs.Checks.{held_first, sides_of_all, may_add, with_surface, without_surface, surface_made, surface_deleted, surface_mapped, rects_filled, rect_copied, rect_kept, key_shown, key_forgotten, picture_painted, held_after};
+ghost use Rattle.gfx_script.specs.Checks.{held_first, sides_of_all, may_add, with_surface, without_surface, surface_made, surface_deleted, surface_mapped, rects_filled, rect_copied, rect_kept, key_shown, key_forgotten, is_glyph, takes_glyph, picture_painted, held_after};
 ghost use Rattle.gfx_base.specs.Outcome.{Gives, Says};
 
+use crate::MOST_GLYPH_AREA;
 use crate::error::{Flaw, ScriptKind};
 use crate::picture::Picture;
-use crate::step::Step;
+use crate::step::{Kind, Step};
 use crate::stock::Stock;
 use gfx_base::{NoMemory, Point, Rect, all_lie_in, fits_at, fits_at_all};
 use gfx_surface_map::{MOST_CELLS, MOST_SURFACES, count_cells};
@@ -92,8 +93,9 @@ impl Held {
                 id,
                 picture,
                 at,
-                ..
-            } => Ok(self.check_paint(*id, *picture, *at)?),
+                kind,
+                glyph,
+            } => Ok(self.check_paint(*id, *picture, *at, *kind, *glyph)?),
             Step::Frame => Ok(()),
         }
     }
@@ -206,10 +208,18 @@ impl Held {
         self.stock.forget(key)
     }
 
-    /// Refuses a picture that doesn't lie on the surface of this id.
+    /// Refuses a picture that doesn't lie on the surface of this id, and a glyph of another kind or of more
+    /// pixels.
     #[tactic(auto, unfolding(crate::specs::Checks::picture_painted, gfx_base::specs::Results::and_then))]
-    fn check_paint(&self, id: u16, picture: u32, at: Point) -> Result<(), ScriptKind>
-        ensures { Says (λ _. self.now) result (picture_painted self.now id picture at) }
+    fn check_paint(
+        &self,
+        id: u16,
+        picture: u32,
+        at: Point,
+        kind: Option<Kind>,
+        glyph: Option<u16>,
+    ) -> Result<(), ScriptKind>
+        ensures { Says (λ _. self.now) result (picture_painted self.now id picture at kind glyph) }
     {
         let Some(sides) = self.sides_of(id) else {
             return Err(ScriptKind::SurfaceAbsent);
@@ -219,6 +229,9 @@ impl Held {
         };
         if !fits_at(whole_of(drawn), at, sides.width, sides.height) {
             return Err(ScriptKind::Outside);
+        }
+        if !is_glyph(kind, drawn, glyph) {
+            return Err(ScriptKind::Glyph);
         }
         Ok(())
     }
@@ -277,6 +290,25 @@ fn whole_of(sides: Sides) -> Rect
     ensures { result ≡ sized sides.width sides.height }
 {
     Rect::sized(sides.width, sides.height)
+}
+
+/// Whether a picture of these sides may go as a kind with a glyph, if it has one.
+fn is_glyph(kind: Option<Kind>, drawn: Sides, glyph: Option<u16>) -> bool
+    ensures { result ≡ is_glyph kind drawn glyph }
+{
+    glyph.is_none() || takes_glyph(kind, drawn)
+}
+
+/// Whether a picture of these sides that is to go as a kind may be kept as a glyph.
+fn takes_glyph(kind: Option<Kind>, drawn: Sides) -> bool
+    ensures { result ≡ takes_glyph kind drawn }
+{
+    match kind {
+        Some(kind) => {
+            kind.is_clear() && u32::from(drawn.width) * u32::from(drawn.height) <= MOST_GLYPH_AREA
+        }
+        None => false,
+    }
 }
 
 /// The sides of pictures.

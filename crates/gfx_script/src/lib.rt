@@ -1,5 +1,6 @@
 //! Scripts of a recorded screen: what the server's end shows, step by step, the pictures that it paints,
-//! and what a session of both ends is like: its window, what its client offers, its turns. Which steps are good is checked against what the steps before them left, by `Held`.
+//! and what a session of both ends is like: its window, what its client offers, its turns. Which steps
+//! are good is checked against what the steps before them left, by `Held`.
 //!
 //! In the pipe it stands below the reading of scripts from text (`gfx_script_text`) and the planner,
 //! which makes each step into messages. Scripts are this project's own (docs/SCRIPTS.md).
@@ -34,6 +35,12 @@ pub const MOST_AREA: u32 = 8388608;
 
 /// The most that a key of a bitmap is.
 pub const MOST_KEY: u64 = 9223372036854775807;
+
+/// The most that the index of a glyph is ([MS-RDPEGFX] 2.2.4.1, glyphIndex).
+pub const MOST_GLYPH: u16 = 3999;
+
+/// The most pixels of a picture that is kept as a glyph ([MS-RDPEGFX] 2.2.4.1).
+pub const MOST_GLYPH_AREA: u32 = 1024;
 
 /// The most versions that a client offers.
 pub const MOST_VERSIONS: usize = 8;

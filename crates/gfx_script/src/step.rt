@@ -1,14 +1,34 @@
 ghost use Rattle.std.specs.Prelude.{◌≡◌};
-ghost use Rattle.gfx_script.specs.Kinds.{kind_of};
+ghost use Rattle.gfx_script.specs.Kinds.{is_clear, kind_of};
 ghost use Rattle.gfx_script.specs.Script.{is_frame};
 
 use gfx_base::{Format, Pixel, Point, Points, Rect, Rects};
 
-/// How a picture is sent.
+/// How a picture is sent: uncompressed, or by a layer of ClearCodec ([MS-RDPEGFX] 2.2.4.1).
 #[derive(Clone, Copy, Debug, PartialEq, Eq)]
 pub enum Kind {
     /// Uncompressed.
     Raw,
+    /// Runs of one colour.
+    Residual,
+    /// Columns that the client may hold already.
+    Bands,
+    /// Runs over a palette; plainly where there are too many colours.
+    Palette,
+    /// Pixel by pixel.
+    Plain,
+}
+
+impl Kind {
+    /// Whether a picture goes by ClearCodec.
+    pub fn is_clear(self) -> bool
+        ensures { result ≡ is_clear self }
+    {
+        match self {
+            Kind::Raw => false,
+            Kind::Residual | Kind::Bands | Kind::Palette | Kind::Plain => true,
+        }
+    }
 }
 
 /// One step of a script.
@@ -65,24 +85,27 @@ pub enum Step {
     Forget {
         key: u64,
     },
-    /// The picture of this number, counted from 0, is painted with its top left corner at a place.
+    /// The picture of this number, counted from 0, is painted with its top left corner at a place. Where it
+    /// names no kind, the server's end chooses one. A glyph is the index at which the client is to keep it.
     Paint {
         id: u16,
         picture: u32,
         at: Point,
         kind: Option<Kind>,
+        glyph: Option<u16>,
     },
     /// The steps since the last frame are shown.
     Frame,
 }
 
 impl Step {
-    /// The kind of a paint; none of another step.
+    /// The kind that a paint goes as where nothing else chooses one: the kind that it names, or `Residual`.
+    /// None of another step.
     pub fn kind(&self) -> Option<Kind>
         ensures { result ≡ kind_of self.now }
     {
         match self {
-            Step::Paint { kind, .. } => *kind,
+            Step::Paint { kind, .. } => Some(kind.unwrap_or(Kind::Residual)),
             _ => None,
         }
     }

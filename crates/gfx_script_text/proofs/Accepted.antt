@@ -10,13 +10,12 @@ use Rattle.gfx_script.specs.declared.error.ScriptKind.{ScriptKind}
 use Rattle.gfx_script.specs.declared.error.ScriptKind.TheVariants.{Range, Unframed}
 use Rattle.gfx_script.specs.declared.step.Step.{Step}
 use Rattle.gfx_script.specs.Checks.{Held, held_after, held_through}
-use Rattle.gfx_script.specs.Kinds.{HasKind, own}
 use Rattle.gfx_script.specs.Scripted.{Script}
 use Rattle.gfx_script.specs.Script.{is_framed, IsStep, IsAccepted}
 use Rattle.gfx_script_text.specs.Text.{Top, Head, at_step, head_of, next_step, steps_of, held_before, script_with, script_of}
 use Rattle.gfx_script_text.proofs.PictureRanges.{AreGood, pictures_of-good}
 use Rattle.gfx_script_text.proofs.SessionRanges.{IsWindow, window_of-fits, AreOffers, offers_of-good, turns_of-good}
-use Rattle.gfx_script_text.proofs.Ranges.{IsRead, step_of-fits}
+use Rattle.gfx_script_text.proofs.Ranges.{step_of-fits}
 
 at_step_ok : {A : Type 0} (number : ℕ) (r : Result A ScriptKind) (x : A) → at_step number r ≡ Ok x → r ≡ Ok x
 at_step_ok number (Ok y) x is = cc
@@ -26,14 +25,12 @@ at_step_ok number (Err kind) x is = absurd cc
 record Good (count : ℕ) (held : Held) (steps : List Step) : Type 0 where
   many : length steps ≡ count
   numbers : AllByRecursion IsStep steps
-  told : AllByRecursion (λ step. HasKind (own step)) steps
   after : Held
   checked : held_through held steps ≡ Ok after
 
 -- what holds of the next step
 record Next (held : Held) (next : Step × Held) : Type 0 where
   numbers : IsStep next.0
-  told : HasKind (own next.0)
   checked : held_after held next.0 ≡ Ok next.1
 
 next_good : (names : List (List ℕ)) (held : Held) (value : Data) (next : Step × Held) → next_step names held value ≡ Ok next → Next held next
@@ -42,18 +39,17 @@ next_good names held value next is =
     let read = and_then_ok _ _ next is in
     let taken = and_then_ok _ _ next read.2 in
     let same : (read.0, taken.0) ≡ next = let h = taken.2 in cc in
-    subst (Next held) same (let is_read : IsRead read.0 = (step_of-fits names value).each read.0 read.1 in record { numbers = is_read.0; told = is_read.1; checked = taken.1 })
+    subst (Next held) same record { numbers = (step_of-fits names value).each read.0 read.1; checked = taken.1 }
 
 no_good : (held : Held) → Good 0 held []
 unfolding held_through
-no_good held = record { many = refl; numbers = tt; told = tt; after = held; checked = refl }
+no_good held = record { many = refl; numbers = tt; after = held; checked = refl }
 
 more_good : (count : ℕ) (held : Held) (next : Step × Held) (steps : List Step) → Next held next → Good count next.1 steps → Good (suc count) held (next.0 ∷ steps)
 unfolding held_through
 more_good count held next steps one others = record {
   many = ap suc others.many;
   numbers = (one.numbers, others.numbers);
-  told = (one.told, others.told);
   after = others.after;
   checked = and_then_at (held_after held next.0) next.1 _ one.checked ∙ others.checked;
 }
@@ -115,7 +111,6 @@ accepted text script is =
       pictures = before.pictures.each;
       few = subst (λ n. n ≤ MOST_STEPS) (sym good.many) before.few;
       numbers = good.numbers;
-      told = good.told;
       held = good.after;
       checked = good.checked;
       framed = check_ok Unframed (is_framed steps.0) (at_step_ok 0 _ framed.0 framed.1);

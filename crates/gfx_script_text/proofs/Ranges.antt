@@ -1,5 +1,5 @@
 -- Within which ranges the numbers of a step lie that was read.
-use Rattle.std.proofs.Common.{◌≡◌, ℕ, ◌≤◌, ◌<◌, ◌^◌, Bool, true, false, ◌&&◌, nat_le, if◌then◌else◌, List, [], ◌∷◌, length, Some, Result, Ok, Err, ℤ, pos, negsuc, refl, sym, ◌∙◌, subst, arith}
+use Rattle.std.proofs.Common.{◌≡◌, ℕ, ◌≤◌, ◌<◌, ◌^◌, Bool, true, false, ◌&&◌, nat_le, if◌then◌else◌, List, [], ◌∷◌, length, Option, Some, None, IfSome, Result, Ok, Err, ℤ, pos, negsuc, refl, sym, ◌∙◌, subst, arith}
 use Rattle.std.proofs.lemmas.Bool.{and_parts, leb-true}
 use Rattle.std.specs.List.{AllByRecursion}
 use Rattle.std.specs.Option.{ok_or}
@@ -13,18 +13,16 @@ use Rattle.gfx_base.specs.Results.{each, Has}
 use Rattle.gfx_base.proofs.ResultLemmas.{and_then_ok, chain, gives, never, check_ok, length-each}
 use Rattle.gfx_surface.specs.declared.TheConstants.{MOST_SIDE}
 use Rattle.gfx_surface_map.specs.declared.place.TheConstants.{MOST_OUTPUT_SIDE}
-use Rattle.gfx_script.specs.declared.TheConstants.{MOST_RECTS, MOST_KEY}
+use Rattle.gfx_script.specs.declared.TheConstants.{MOST_RECTS, MOST_KEY, MOST_GLYPH}
 use Rattle.gfx_script_text.specs.declared.TheConstants.{MOST_NUMBER}
-use Rattle.gfx_script.specs.declared.error.ScriptKind.{ScriptKind}
 use Rattle.gfx_script.specs.declared.error.ScriptKind.TheVariants.{Range}
-use Rattle.gfx_script.specs.declared.step.Step.{Step}
+use Rattle.gfx_script.specs.declared.step.Kind.{Kind}
 use Rattle.gfx_script.specs.declared.step.Step.TheVariants.{Surface, Delete, Reset, Map, Fill, Copy, Keep, Show, Forget, Paint, Frame}
 use Rattle.gfx_script_text.specs.Colour.{colour_of}
 use Rattle.gfx_script_text.specs.Members.{within}
 use Rattle.gfx_script_text.specs.Pictures.{number_of}
 use Rattle.gfx_script_text.specs.Places.{coordinate_at, rect_of, rect_in, point_of, point_in, points_of}
-use Rattle.gfx_script_text.specs.Words.{surface_of, delete_of, reset_of, map_of, fill_of, copy_between, copy_of, keep_of, show_of, forget_of, paint_of, frame_of, worded, step_of}
-use Rattle.gfx_script.specs.Kinds.{HasKind, own}
+use Rattle.gfx_script_text.specs.Words.{surface_of, delete_of, reset_of, map_of, fill_of, copy_between, copy_of, keep_of, show_of, forget_of, glyph_of, paint_with, paint_of, frame_of, worded, step_of}
 use Rattle.gfx_script.specs.Script.{IsStep}
 
 -- both tests passed
@@ -129,77 +127,70 @@ colour_of-fits digits =
     let fit : IsBytes bytes = decoded_bytes digits 4 bytes (ok_of_some (decode_sized digits 4) _ bytes found) in
     gives _ IsPixel record { b = fit 0; g = fit 1; r = fit 2; a = fit 3 })
 
--- what holds of a step that was read: its numbers are within their ranges, and a paint names its kind
-abbrev pub IsRead : Step → Type 0
-IsRead step = IsStep step × HasKind (own step)
-
-given : (step : Step) → HasKind (own step) → IsStep step → Has {E = ScriptKind} (Ok step) IsRead
-given step told numbers = gives step IsRead (numbers, told)
-
-surface_of-fits : (table : Members) → Has (surface_of table) IsRead
+surface_of-fits : (table : Members) → Has (surface_of table) IsStep
 unfolding surface_of
 surface_of-fits table =
-    chain _ _ IsRead (λ known passed.
-    chain _ _ IsRead (λ id found_id.
-    chain _ _ IsRead (λ width found_width.
-    chain _ _ IsRead (λ height found_height.
-    chain _ _ IsRead (λ format found_format.
-    chain _ _ IsRead (λ id_in id_fits.
-    chain _ _ IsRead (λ width_in width_fits.
-    chain _ _ IsRead (λ height_in height_fits.
+    chain _ _ IsStep (λ known passed.
+    chain _ _ IsStep (λ id found_id.
+    chain _ _ IsStep (λ width found_width.
+    chain _ _ IsStep (λ height found_height.
+    chain _ _ IsStep (λ format found_format.
+    chain _ _ IsStep (λ id_in id_fits.
+    chain _ _ IsStep (λ width_in width_fits.
+    chain _ _ IsStep (λ height_in height_fits.
     let wide = within_ok 1 MOST_SIDE width width_in width_fits in
     let high = within_ok 1 MOST_SIDE height height_in height_fits in
-    given (Surface id_in width_in height_in format) refl
+    gives (Surface id_in width_in height_in format) IsStep
     ((within-fits id).each id_in id_fits, wide.0, wide.1, high.0, high.1)))))))))
 
-delete_of-fits : (table : Members) → Has (delete_of table) IsRead
+delete_of-fits : (table : Members) → Has (delete_of table) IsStep
 unfolding delete_of
 delete_of-fits table =
-    chain _ _ IsRead (λ known passed.
-    chain _ _ IsRead (λ id found_id.
-    chain _ _ IsRead (λ id_in id_fits. given (Delete id_in) refl ((within-fits id).each id_in id_fits))))
+    chain _ _ IsStep (λ known passed.
+    chain _ _ IsStep (λ id found_id.
+    chain _ _ IsStep (λ id_in id_fits. gives (Delete id_in) IsStep ((within-fits id).each id_in id_fits))))
 
-reset_of-fits : (table : Members) → Has (reset_of table) IsRead
+reset_of-fits : (table : Members) → Has (reset_of table) IsStep
 unfolding reset_of
 reset_of-fits table =
-    chain _ _ IsRead (λ known passed.
-    chain _ _ IsRead (λ width found_width.
-    chain _ _ IsRead (λ height found_height.
-    chain _ _ IsRead (λ width_in width_fits.
-    chain _ _ IsRead (λ height_in height_fits.
+    chain _ _ IsStep (λ known passed.
+    chain _ _ IsStep (λ width found_width.
+    chain _ _ IsStep (λ height found_height.
+    chain _ _ IsStep (λ width_in width_fits.
+    chain _ _ IsStep (λ height_in height_fits.
     let wide = within_ok 1 MOST_OUTPUT_SIDE width width_in width_fits in
     let high = within_ok 1 MOST_OUTPUT_SIDE height height_in height_fits in
-    given (Reset width_in height_in) refl (wide.0, wide.1, high.0, high.1))))))
+    gives (Reset width_in height_in) IsStep (wide.0, wide.1, high.0, high.1))))))
 
-map_of-fits : (table : Members) → Has (map_of table) IsRead
+map_of-fits : (table : Members) → Has (map_of table) IsStep
 unfolding map_of
 map_of-fits table =
-    chain _ _ IsRead (λ known passed.
-    chain _ _ IsRead (λ id found_id.
-    chain _ _ IsRead (λ x found_x.
-    chain _ _ IsRead (λ y found_y.
-    chain _ _ IsRead (λ id_in id_fits.
-    chain _ _ IsRead (λ x_in x_fits.
-    chain _ _ IsRead (λ y_in y_fits.
+    chain _ _ IsStep (λ known passed.
+    chain _ _ IsStep (λ id found_id.
+    chain _ _ IsStep (λ x found_x.
+    chain _ _ IsStep (λ y found_y.
+    chain _ _ IsStep (λ id_in id_fits.
+    chain _ _ IsStep (λ x_in x_fits.
+    chain _ _ IsStep (λ y_in y_fits.
     let across = within_ok 0 MOST_OUTPUT_SIDE x x_in x_fits in
     let down = within_ok 0 MOST_OUTPUT_SIDE y y_in y_fits in
-    given (Map id_in x_in y_in) refl ((within-fits id).each id_in id_fits, across.1, down.1))))))))
+    gives (Map id_in x_in y_in) IsStep ((within-fits id).each id_in id_fits, across.1, down.1))))))))
 
-fill_of-fits : (table : Members) → Has (fill_of table) IsRead
+fill_of-fits : (table : Members) → Has (fill_of table) IsStep
 unfolding fill_of
 fill_of-fits table =
-    chain _ _ IsRead (λ known passed.
-    chain _ _ IsRead (λ id found_id.
-    chain _ _ IsRead (λ digits found_digits.
-    chain _ _ IsRead (λ values found_values.
-    chain _ _ IsRead (λ numbers are_numbers.
-    chain _ _ IsRead (λ id_in id_fits.
-    chain _ _ IsRead (λ few are_few.
-    chain _ _ IsRead (λ rects rects_fit.
-    chain _ _ IsRead (λ colour colour_fits.
+    chain _ _ IsStep (λ known passed.
+    chain _ _ IsStep (λ id found_id.
+    chain _ _ IsStep (λ digits found_digits.
+    chain _ _ IsStep (λ values found_values.
+    chain _ _ IsStep (λ numbers are_numbers.
+    chain _ _ IsStep (λ id_in id_fits.
+    chain _ _ IsStep (λ few are_few.
+    chain _ _ IsStep (λ rects rects_fit.
+    chain _ _ IsStep (λ colour colour_fits.
     let count = range_passed 1 MOST_RECTS (length values) (check_ok Range _ are_few) in
     let same : length rects ≡ length values = length-each rect_in values rects rects_fit in
-    given (Fill id_in colour rects) refl (
+    gives (Fill id_in colour rects) IsStep (
       (within-fits id).each id_in id_fits,
       (colour_of-fits digits).each colour colour_fits,
       subst (λ n. 1 ≤ n) (sym same) count.0,
@@ -207,15 +198,15 @@ fill_of-fits table =
       each_has rect_in IsRect rect_in-fits values rects rects_fit,
     ))))))))))
 
-copy_between-fits : (from to : ℤ) (corners values : List Data) → Has (copy_between from to corners values) IsRead
+copy_between-fits : (from to : ℤ) (corners values : List Data) → Has (copy_between from to corners values) IsStep
 unfolding copy_between
 copy_between-fits from to corners values =
-    chain _ _ IsRead (λ from_in from_fits.
-    chain _ _ IsRead (λ to_in to_fits.
-    chain _ _ IsRead (λ rect rect_fits.
-    chain _ _ IsRead (λ points points_fit.
+    chain _ _ IsStep (λ from_in from_fits.
+    chain _ _ IsStep (λ to_in to_fits.
+    chain _ _ IsStep (λ rect rect_fits.
+    chain _ _ IsStep (λ points points_fit.
     let fit : ArePoints points = (points_of-fit values).each points points_fit in
-    given (Copy from_in to_in rect points) refl (
+    gives (Copy from_in to_in rect points) IsStep (
       (within-fits from).each from_in from_fits,
       (within-fits to).each to_in to_fits,
       (rect_of-fits corners).each rect rect_fits,
@@ -224,46 +215,46 @@ copy_between-fits from to corners values =
       fit.2,
     )))))
 
-copy_of-fits : (table : Members) → Has (copy_of table) IsRead
+copy_of-fits : (table : Members) → Has (copy_of table) IsStep
 unfolding copy_of
 copy_of-fits table =
-    chain _ _ IsRead (λ known passed.
-    chain _ _ IsRead (λ from found_from.
-    chain _ _ IsRead (λ to found_to.
-    chain _ _ IsRead (λ corners found_corners.
-    chain _ _ IsRead (λ values found_values. copy_between-fits from to corners values)))))
+    chain _ _ IsStep (λ known passed.
+    chain _ _ IsStep (λ from found_from.
+    chain _ _ IsStep (λ to found_to.
+    chain _ _ IsStep (λ corners found_corners.
+    chain _ _ IsStep (λ values found_values. copy_between-fits from to corners values)))))
 
 within_key : (z : ℤ) → Has (within 0 MOST_KEY z) (λ key. key ≤ MOST_KEY)
 within_key z = record { each = λ key is. (within_ok 0 MOST_KEY z key is).1 }
 
-keep_of-fits : (table : Members) → Has (keep_of table) IsRead
+keep_of-fits : (table : Members) → Has (keep_of table) IsStep
 unfolding keep_of
 keep_of-fits table =
-    chain _ _ IsRead (λ known passed.
-    chain _ _ IsRead (λ id found_id.
-    chain _ _ IsRead (λ key found_key.
-    chain _ _ IsRead (λ corners found_corners.
-    chain _ _ IsRead (λ id_in id_fits.
-    chain _ _ IsRead (λ key_in key_fits.
-    chain _ _ IsRead (λ rect rect_fits.
-    given (Keep id_in key_in rect) refl (
+    chain _ _ IsStep (λ known passed.
+    chain _ _ IsStep (λ id found_id.
+    chain _ _ IsStep (λ key found_key.
+    chain _ _ IsStep (λ corners found_corners.
+    chain _ _ IsStep (λ id_in id_fits.
+    chain _ _ IsStep (λ key_in key_fits.
+    chain _ _ IsStep (λ rect rect_fits.
+    gives (Keep id_in key_in rect) IsStep (
       (within-fits id).each id_in id_fits,
       (within_key key).each key_in key_fits,
       (rect_of-fits corners).each rect rect_fits,
     ))))))))
 
-show_of-fits : (table : Members) → Has (show_of table) IsRead
+show_of-fits : (table : Members) → Has (show_of table) IsStep
 unfolding show_of
 show_of-fits table =
-    chain _ _ IsRead (λ known passed.
-    chain _ _ IsRead (λ key found_key.
-    chain _ _ IsRead (λ to found_to.
-    chain _ _ IsRead (λ values found_values.
-    chain _ _ IsRead (λ key_in key_fits.
-    chain _ _ IsRead (λ to_in to_fits.
-    chain _ _ IsRead (λ points points_fit.
+    chain _ _ IsStep (λ known passed.
+    chain _ _ IsStep (λ key found_key.
+    chain _ _ IsStep (λ to found_to.
+    chain _ _ IsStep (λ values found_values.
+    chain _ _ IsStep (λ key_in key_fits.
+    chain _ _ IsStep (λ to_in to_fits.
+    chain _ _ IsStep (λ points points_fit.
     let fit : ArePoints points = (points_of-fit values).each points points_fit in
-    given (Show key_in to_in points) refl (
+    gives (Show key_in to_in points) IsStep (
       (within_key key).each key_in key_fits,
       (within-fits to).each to_in to_fits,
       fit.0,
@@ -271,50 +262,68 @@ show_of-fits table =
       fit.2,
     ))))))))
 
-forget_of-fits : (table : Members) → Has (forget_of table) IsRead
+forget_of-fits : (table : Members) → Has (forget_of table) IsStep
 unfolding forget_of
 forget_of-fits table =
-    chain _ _ IsRead (λ known passed.
-    chain _ _ IsRead (λ key found_key.
-    chain _ _ IsRead (λ key_in key_fits. given (Forget key_in) refl ((within_key key).each key_in key_fits))))
+    chain _ _ IsStep (λ known passed.
+    chain _ _ IsStep (λ key found_key.
+    chain _ _ IsStep (λ key_in key_fits. gives (Forget key_in) IsStep ((within_key key).each key_in key_fits))))
 
-paint_of-fits : (names : List (List ℕ)) (table : Members) → Has (paint_of names table) IsRead
+-- the index of a glyph, where there is one, is within its range
+abbrev IsGlyphIndex : Option ℕ → Type 0
+IsGlyphIndex glyph = IfSome glyph (λ index. index ≤ MOST_GLYPH)
+
+glyph_of-fits : (number : Option ℤ) → Has (glyph_of number) IsGlyphIndex
+unfolding glyph_of
+glyph_of-fits None = gives None IsGlyphIndex tt
+glyph_of-fits (Some number) =
+    chain _ _ IsGlyphIndex (λ index index_fits. gives (Some index) IsGlyphIndex (within_ok 0 MOST_GLYPH number index index_fits).1)
+
+paint_with-fits : (id : ℤ) (picture : ℕ) (place : List Data) (kind : Option Kind) (glyph : Option ℤ) → Has (paint_with id picture place kind glyph) IsStep
+unfolding paint_with
+paint_with-fits id picture place kind glyph =
+    chain _ _ IsStep (λ id_in id_fits.
+    chain _ _ IsStep (λ at at_fits.
+    chain _ _ IsStep (λ glyph_in glyph_fits.
+    gives (Paint id_in picture at kind glyph_in) IsStep (
+      (within-fits id).each id_in id_fits,
+      (point_of-fits place).each at at_fits,
+      (glyph_of-fits glyph).each glyph_in glyph_fits,
+    ))))
+
+paint_of-fits : (names : List (List ℕ)) (table : Members) → Has (paint_of names table) IsStep
 unfolding paint_of
 paint_of-fits names table =
-    chain _ _ IsRead (λ known passed.
-    chain _ _ IsRead (λ id found_id.
-    chain _ _ IsRead (λ name found_name.
-    chain _ _ IsRead (λ place found_place.
-    chain _ _ IsRead (λ word found_word.
-    chain _ _ IsRead (λ kind found_kind.
-    chain _ _ IsRead (λ id_in id_fits.
-    chain _ _ IsRead (λ at at_fits.
-    given (Paint id_in (number_of names name) at (Some kind)) (refl, refl)
-    ((within-fits id).each id_in id_fits, (point_of-fits place).each at at_fits)))))))))
+    chain _ _ IsStep (λ known passed.
+    chain _ _ IsStep (λ id found_id.
+    chain _ _ IsStep (λ name found_name.
+    chain _ _ IsStep (λ place found_place.
+    chain _ _ IsStep (λ kind found_kind.
+    chain _ _ IsStep (λ glyph found_glyph. paint_with-fits id (number_of names name) place kind glyph))))))
 
-frame_of-fits : (table : Members) → Has (frame_of table) IsRead
+frame_of-fits : (table : Members) → Has (frame_of table) IsStep
 unfolding frame_of
-frame_of-fits table = chain _ _ IsRead (λ known passed. given Frame refl tt)
+frame_of-fits table = chain _ _ IsStep (λ known passed. gives Frame IsStep tt)
 
 pub if_has : {A E : Type 0} (b : Bool) (x y : Result A E) (P : A → Type 0) → Has x P → Has y P → Has (if b then x else y) P
 if_has true x y P one other = one
 if_has false x y P one other = other
 
-worded-fits : (names : List (List ℕ)) (word : List ℕ) (table : Members) → Has (worded names word table) IsRead
+worded-fits : (names : List (List ℕ)) (word : List ℕ) (table : Members) → Has (worded names word table) IsStep
 unfolding worded
 worded-fits names word table =
-    if_has _ _ _ IsRead (surface_of-fits table)
-    (if_has _ _ _ IsRead (delete_of-fits table)
-    (if_has _ _ _ IsRead (reset_of-fits table)
-    (if_has _ _ _ IsRead (map_of-fits table)
-    (if_has _ _ _ IsRead (fill_of-fits table)
-    (if_has _ _ _ IsRead (copy_of-fits table)
-    (if_has _ _ _ IsRead (keep_of-fits table)
-    (if_has _ _ _ IsRead (show_of-fits table)
-    (if_has _ _ _ IsRead (forget_of-fits table)
-    (if_has _ _ _ IsRead (paint_of-fits names table) (if_has _ _ _ IsRead (frame_of-fits table) (never _ IsRead)))))))))))
+    if_has _ _ _ IsStep (surface_of-fits table)
+    (if_has _ _ _ IsStep (delete_of-fits table)
+    (if_has _ _ _ IsStep (reset_of-fits table)
+    (if_has _ _ _ IsStep (map_of-fits table)
+    (if_has _ _ _ IsStep (fill_of-fits table)
+    (if_has _ _ _ IsStep (copy_of-fits table)
+    (if_has _ _ _ IsStep (keep_of-fits table)
+    (if_has _ _ _ IsStep (show_of-fits table)
+    (if_has _ _ _ IsStep (forget_of-fits table)
+    (if_has _ _ _ IsStep (paint_of-fits names table) (if_has _ _ _ IsStep (frame_of-fits table) (never _ IsStep)))))))))))
 
--- a step that was read has its numbers within their ranges, and names its kind where it is a paint
-pub step_of-fits : (names : List (List ℕ)) (value : Data) → Has (step_of names value) IsRead
+-- a step that was read has its numbers within their ranges
+pub step_of-fits : (names : List (List ℕ)) (value : Data) → Has (step_of names value) IsStep
 unfolding step_of
-step_of-fits names value = chain _ _ IsRead (λ table found. chain _ _ IsRead (λ word found_word. worded-fits names word table))
+step_of-fits names value = chain _ _ IsStep (λ table found. chain _ _ IsStep (λ word found_word. worded-fits names word table))

@@ -1,10 +1,11 @@
 -- What stands under the keys of a table of a script: this project's own rule, over the data of a TOML
 -- text.
-use Rattle.std.specs.Prelude.{ℕ, ℤ, pos, negsuc, Bool, true, ◌&&◌, nat_le, if◌then◌else◌, List, [], ◌∷◌, Option, Result, Ok, Err}
+use Rattle.std.specs.Prelude.{ℕ, ℤ, pos, negsuc, Bool, true, ◌&&◌, nat_le, if◌then◌else◌, List, [], ◌∷◌, Option, Some, None, Result, Ok, Err}
 use Rattle.std.specs.List.{list_any}
 use Rattle.std.specs.Option.{ok_or, option_map, option_and_then}
 use Rattle.std.specs.Str.{bytes_eq}
 use Rattle.toml.specs.Data.{Data, Items, no_items, item, Members, no_members, member, get_member, as_str, as_integer, as_array}
+use Rattle.gfx_base.specs.Results.{◌>>=◌}
 use Rattle.gfx_script.specs.declared.error.ScriptKind.{ScriptKind}
 use Rattle.gfx_script.specs.declared.error.ScriptKind.TheVariants.{Key, Range}
 
@@ -25,6 +26,13 @@ has_only keys (member key value more) = list_any (λ one. bytes_eq one key) keys
 -- the whole number at a key
 unfoldable pub whole : List ℕ → Members → Result ℤ ScriptKind
 whole key table = ok_or (option_and_then as_integer (get_member key table)) Key
+
+-- a whole number, which may be missing
+abbrev pub whole_if_any : Option Data → Result (Option ℤ) ScriptKind
+whole_if_any None = Ok None
+whole_if_any (Some value) = do
+  number ← ok_or (as_integer value) Key
+  Ok (Some number)
 
 -- the text at a key
 unfoldable pub text : List ℕ → Members → Result (List ℕ) ScriptKind

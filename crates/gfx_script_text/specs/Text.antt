@@ -2,7 +2,7 @@
 use Rattle.std.specs.Prelude.{ℕ, ℤ, ◌+◌, if◌then◌else◌, nat_le, List, [], ◌∷◌, length, Option, Some, None, Result, Ok, Err, codes}
 use Rattle.std.specs.Option.{ok_or}
 use Rattle.std.specs.Str.{is_utf8}
-use Rattle.toml.specs.Data.{Data, Members, as_integer, get_member}
+use Rattle.toml.specs.Data.{Data, Members, get_member}
 use Rattle.toml.specs.Parse.{parse_document}
 use Rattle.gfx_base.specs.Results.{◌>>=◌, check}
 use Rattle.gfx_caps.specs.declared.offer.Offer.{Offer}
@@ -16,7 +16,7 @@ use Rattle.gfx_script.specs.Checks.{Held, held_first, sides_of_all, held_after}
 use Rattle.gfx_script.specs.Script.{is_framed}
 use Rattle.gfx_script.specs.Scripted.{Script}
 use Rattle.gfx_script_text.specs.Clients.{offers_of}
-use Rattle.gfx_script_text.specs.Members.{items_in, has_only}
+use Rattle.gfx_script_text.specs.Members.{items_in, has_only, whole_if_any}
 use Rattle.gfx_script_text.specs.Pictures.{Gallery, pictures_of}
 use Rattle.gfx_script_text.specs.Sessions.{window_of, turns_of}
 use Rattle.gfx_script_text.specs.Words.{step_of}
@@ -46,13 +46,6 @@ items_if_any None = Ok None
 items_if_any (Some value) = do
   items ← ok_or (items_in value) Key
   Ok (Some items)
-
--- a whole number, which may be missing
-abbrev pub whole_if_any : Option Data → Result (Option ℤ) ScriptKind
-whole_if_any None = Ok None
-whole_if_any (Some value) = do
-  number ← ok_or (as_integer value) Key
-  Ok (Some number)
 
 -- what stands under the keys at the top
 pub record Top : Type 0 where

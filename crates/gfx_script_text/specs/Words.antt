@@ -10,16 +10,16 @@ use Rattle.gfx_base.specs.declared.format.Format.TheVariants.{Xrgb, Argb}
 use Rattle.gfx_base.specs.Results.{◌>>=◌, check, each}
 use Rattle.gfx_surface.specs.declared.TheConstants.{MOST_SIDE}
 use Rattle.gfx_surface_map.specs.declared.place.TheConstants.{MOST_OUTPUT_SIDE}
-use Rattle.gfx_script.specs.declared.TheConstants.{MOST_RECTS, MOST_KEY}
+use Rattle.gfx_script.specs.declared.TheConstants.{MOST_RECTS, MOST_KEY, MOST_GLYPH}
 use Rattle.gfx_script_text.specs.declared.TheConstants.{MOST_NUMBER}
 use Rattle.gfx_script.specs.declared.error.ScriptKind.{ScriptKind}
 use Rattle.gfx_script.specs.declared.error.ScriptKind.TheVariants.{Key, Range}
 use Rattle.gfx_script.specs.declared.step.Kind.{Kind}
-use Rattle.gfx_script.specs.declared.step.Kind.TheVariants.{Raw}
+use Rattle.gfx_script.specs.declared.step.Kind.TheVariants.{Raw, Residual, Bands, Palette, Plain}
 use Rattle.gfx_script.specs.declared.step.Step.{Step}
 use Rattle.gfx_script.specs.declared.step.Step.TheVariants.{Surface, Delete, Reset, Map, Fill, Copy, Keep, Show, Forget, Paint, Frame}
 use Rattle.gfx_script_text.specs.Colour.{colour_of}
-use Rattle.gfx_script_text.specs.Members.{has_only, whole, text, list, within}
+use Rattle.gfx_script_text.specs.Members.{has_only, whole, whole_if_any, text, list, within}
 use Rattle.gfx_script_text.specs.Pictures.{number_of}
 use Rattle.gfx_script_text.specs.Places.{are_whole, numbers_at, arrays_at, point_of, rect_of, rect_in, points_of}
 
@@ -145,22 +145,49 @@ forget_of table = do
   key ← within 0 MOST_KEY key
   Ok (Forget key)
 
--- the kind that a word names: the others aren't built yet
-abbrev pub kind_named : List ℕ → Result Kind ScriptKind
-kind_named word = if bytes_eq word (codes "raw") then Ok Raw else Err Key
+-- the kind that a word names: with "auto" the server's end chooses one
+abbrev pub kind_named : List ℕ → Result (Option Kind) ScriptKind
+kind_named word =
+    if bytes_eq word (codes "raw") then Ok (Some Raw)
+    else if bytes_eq word (codes "residual") then Ok (Some Residual)
+    else if bytes_eq word (codes "bands") then Ok (Some Bands)
+    else if bytes_eq word (codes "palette") then Ok (Some Palette)
+    else if bytes_eq word (codes "plain") then Ok (Some Plain)
+    else if bytes_eq word (codes "auto") then Ok None
+    else Err Key
+
+-- the kind, which may be missing
+abbrev pub kind_or_auto : Option Data → Result (Option Kind) ScriptKind
+kind_or_auto None = Ok None
+kind_or_auto (Some value) = do
+  word ← ok_or (as_str value) Key
+  kind_named word
+
+-- the index of a glyph, which may be missing
+unfoldable pub glyph_of : Option ℤ → Result (Option ℕ) ScriptKind
+glyph_of None = Ok None
+glyph_of (Some number) = do
+  index ← within 0 MOST_GLYPH number
+  Ok (Some index)
+
+-- the paint of a picture of this number, whose types are right
+unfoldable pub paint_with : ℤ → ℕ → List Data → Option Kind → Option ℤ → Result Step ScriptKind
+paint_with id picture place kind glyph = do
+  id ← within 0 MOST_NUMBER id
+  at ← point_of place
+  glyph ← glyph_of glyph
+  Ok (Paint id picture at kind glyph)
 
 -- `paint`, where the pictures have these names
 unfoldable pub paint_of : List (List ℕ) → Members → Result Step ScriptKind
 paint_of names table = do
-  known ← check Key (has_only (codes "do" ∷ codes "id" ∷ codes "picture" ∷ codes "at" ∷ codes "kind" ∷ []) table)
+  known ← check Key (has_only (codes "do" ∷ codes "id" ∷ codes "picture" ∷ codes "at" ∷ codes "kind" ∷ codes "glyph" ∷ []) table)
   id ← whole (codes "id") table
   name ← text (codes "picture") table
   place ← numbers_at (codes "at") table
-  word ← text (codes "kind") table
-  kind ← kind_named word
-  id ← within 0 MOST_NUMBER id
-  at ← point_of place
-  Ok (Paint id (number_of names name) at (Some kind))
+  kind ← kind_or_auto (get_member (codes "kind") table)
+  glyph ← whole_if_any (get_member (codes "glyph") table)
+  paint_with id (number_of names name) place kind glyph
 
 -- `frame`
 unfoldable pub frame_of : Members → Result Step ScriptKind

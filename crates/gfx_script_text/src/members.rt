@@ -72,6 +72,20 @@ pub fn whole(table: &Table, key: &str) -> Result<i64, ScriptKind>
     }
 }
 
+/// The whole number under a key, which may be missing.
+#[tactic(auto, unfolding(gfx_base::specs::Results::and_then))]
+pub fn whole_if_any(table: &Table, key: &str) -> Result<Option<i64>, ScriptKind>
+    ensures { result ≡ members.whole_if_any (get_member key.now (table_view table.now)) }
+{
+    match member(table, key) {
+        None => Ok(None),
+        Some(value) => match value.as_integer() {
+            Some(number) => Ok(Some(number)),
+            None => Err(ScriptKind::Key),
+        },
+    }
+}
+
 /// The text under a key.
 #[tactic(auto, unfolding(crate::specs::Members::text))]
 pub fn text<'a>(table: &'a Table, key: &str) -> Result<&'a str, ScriptKind>

@@ -6,12 +6,13 @@ ghost use Rattle.toml.specs.Data.{get_member};
 ghost use Rattle.toml.specs.View.{table_view, view};
 ghost use Rattle.gfx_base.specs.Outcome.{Gives, Says};
 ghost use Rattle.gfx_script.specs.declared.TheConstants.{MOST_STEPS};
-ghost use Rattle.gfx_script_text.specs.Text.{script_of, document_of, items_or_none, items_if_any, whole_if_any, top_of, head_of, next_step, steps_of};
+ghost use Rattle.gfx_script.specs.Script.{IsAccepted};
+ghost use Rattle.gfx_script_text.specs.Text.{script_of, document_of, items_or_none, items_if_any, top_of, head_of, next_step, steps_of};
 ghost use Rattle.gfx_script_text.specs.Told.{Reads, parts_seen, top_seen, head_seen};
 
 use crate::client::read_client;
 use crate::error::ScriptError;
-use crate::members::{check_keys, items_in, member};
+use crate::members::{check_keys, items_in, member, whole_if_any};
 use crate::names::Names;
 use crate::pictures::{Gallery, read_pictures};
 use crate::session::{read_turns, read_window};
@@ -52,7 +53,8 @@ struct Head<'a> {
 
 /// Reads a script, or says what is wrong first.
 pub fn read_script(alloc: Global, text: &[u8]) -> Result<Script, ScriptError>
-    ensures { Reads (λ script. script) result (script_of text.now) }
+    ensures exact { Reads (λ script. script) result (script_of text.now) }
+    ensures accepted { IfOk result IsAccepted }
 {
     let parts = read_parts(alloc, text)?;
     Ok(Script::new(
@@ -167,20 +169,6 @@ fn items_if_any<'a>(table: &'a Table, key: &str) -> Result<Option<&'a [Value]>, 
         None => Ok(None),
         Some(value) => match items_in(value) {
             Some(items) => Ok(Some(items)),
-            None => Err(ScriptKind::Key),
-        },
-    }
-}
-
-/// The whole number under a key, which may be missing.
-#[tactic(auto, unfolding(gfx_base::specs::Results::and_then))]
-fn whole_if_any(table: &Table, key: &str) -> Result<Option<i64>, ScriptKind>
-    ensures { result ≡ whole_if_any (get_member key.now (table_view table.now)) }
-{
-    match member(table, key) {
-        None => Ok(None),
-        Some(value) => match value.as_integer() {
-            Some(number) => Ok(Some(number)),
             None => Err(ScriptKind::Key),
         },
     }

@@ -12,6 +12,7 @@ use Rattle.gfx_planner.specs.Wire.{Server, messages, frame_start, frame_end, aft
 use Rattle.gfx_planner.proofs.Frames.{still_in_frame}
 use Rattle.gfx_planner.proofs.Joined.{all_messages-nil, all_messages-cons, after_all-nil, after_all-cons}
 use Rattle.gfx_planner.proofs.Streams.{bare, opens_frame, held_through-cons}
+use Rattle.gfx_clear.specs.State.{State as ClearState}
 use Rattle.gfx_report.specs.StateBytes.{state_bytes, digest_of}
 use Rattle.sha2.specs.Sha256.{sha256}
 use Rattle.gfx_bitmap_cache.specs.Slots.{Cached}
@@ -79,7 +80,7 @@ opened_going script start window before now may wrote =
         numbers = may.may.numbers;
         kinds = may.may.kinds;
         held = may.may.held;
-        holds = subst (Holds script may.may.held) (sym opened) (let h = may.may.holds in record { drawn = h.drawn; same = h.same; surfaces = h.surfaces; bitmaps = h.bitmaps });
+        holds = subst (Holds script may.may.held) (sym opened) (let h = may.may.holds in record { drawn = h.drawn; same = h.same; surfaces = h.surfaces; bitmaps = h.bitmaps; rings = h.rings });
         after = may.may.after;
         checked = may.may.checked;
       };
@@ -262,8 +263,10 @@ walk_unended script window place start old new before mid now past g s = going_u
 
 -- the digest of the state that it leaves ---------------------------------------------------------------
 
-pub ends_are : (before now : List (List ℕ)) (planned : Planned) (server : Server) (shown : Shown) (cached : Cached) (digest : List ℕ) → now ≡ before ++ digest ∷ [] → planned ≡ ready server
-    → shown ≡ planned.server.state.shown → cached ≡ planned.server.state.cache → digest ≡ sha256 (state_bytes shown.surfaces cached.slots) → now ≡ before ++ digest_in server.state ∷ []
+pub ends_are : (before now : List (List ℕ)) (planned : Planned) (server : Server) (shown : Shown) (cached : Cached) (clear : ClearState) (digest : List ℕ) → now ≡ before ++ digest ∷ [] → planned ≡ ready server
+    → shown ≡ planned.server.state.shown → cached ≡ planned.server.state.cache → clear ≡ planned.server.state.clear → digest ≡ sha256 (state_bytes shown.surfaces cached.slots clear.rings clear.glyphs)
+    → now ≡ before ++ digest_in server.state ∷ []
 unfolding digest_of
-ends_are before now planned server shown cached digest grown is shows keeps digests =
-    grown ∙ ap (λ d. before ++ d ∷ []) (digests ∙ (λ i. sha256 (state_bytes (shows i).surfaces (keeps i).slots)) ∙ ap (λ (p : Planned). digest_in p.server.state) is)
+ends_are before now planned server shown cached clear digest grown is shows keeps leaves digests =
+    grown
+    ∙ ap (λ d. before ++ d ∷ []) (digests ∙ (λ i. sha256 (state_bytes (shows i).surfaces (keeps i).slots (leaves i).rings (leaves i).glyphs)) ∙ ap (λ (p : Planned). digest_in p.server.state) is)

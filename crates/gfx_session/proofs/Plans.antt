@@ -8,7 +8,7 @@ use Rattle.std.proofs.lemmas.List.{map-append, length-map}
 use Rattle.gfx_planner.specs.Joined.{after_frame, JoinsFrame}
 use Rattle.gfx_planner.specs.Planned.{Planned}
 use Rattle.gfx_planner.specs.Want.{want}
-use Rattle.gfx_planner.proofs.Fronts.{own_fit}
+use Rattle.gfx_script.proofs.OwnKinds.{own_steps_fit}
 use Rattle.gfx_planner.proofs.Streams.{bare, first_held, stands_at_start}
 use Rattle.gfx_schedule.specs.Leaving.{step_of}
 use Rattle.gfx_schedule.specs.Plan.{InPlan}
@@ -92,7 +92,7 @@ pub record May (script : Script) (at : EndOfSchedule) (gone waiting : List Kinde
 
 may_at : (script : Script) (at : EndOfSchedule) (gone waiting : List KindedStep) (plan : InPlan script (own_steps script) at gone waiting) → IsAccepted script → is_none at.window.pending ≡ false → May script at gone waiting plan
 may_at script at gone waiting plan good wait =
-    let fits = own_fit script good in
+    let fits = own_steps_fit script.steps in
     let a = ahead script (own_steps script) at gone waiting good fits plan in
     let some : 0 < length waiting = omega (arith, some_wait at.window.pending wait, ap length plan.pending, length-numbered (length gone + 1) waiting) in
     record {

@@ -18,7 +18,8 @@ use Rattle.gfx_schedule.specs.ServerEnd.{ServerEnd as EndOfSchedule, server_at_s
 use Rattle.gfx_schedule.specs.World.{World, acknowledgements, begin, happens, server_turns, client_takes, server_heard, is_ended, answer, round, drained}
 use Rattle.gfx_schedule.specs.declared.turned.Turned.{Turned}
 use Rattle.gfx_schedule.specs.declared.turned.Turned.TheVariants.{Moved, Waiting, Ended}
-use Rattle.gfx_script.specs.Kinds.{KindedStep, Fits, HasKind, own}
+use Rattle.gfx_script.specs.Kinds.{KindedStep, Fits, own}
+use Rattle.gfx_script.proofs.OwnKinds.{own_steps_fit}
 use Rattle.gfx_script.specs.Script.{IsAccepted}
 use Rattle.gfx_script.specs.Scripted.{Script}
 use Rattle.gfx_script.specs.declared.step.Step.{Step}
@@ -43,19 +44,8 @@ use Rattle.gfx_session.specs.declared.session.Session.{Session}
 
 -- the law, for a script's own session ---------------------------------------------------------------------
 
-same_steps : (steps : List Step) → map (λ (one : KindedStep). one.step) (map own steps) ≡ steps
-same_steps [] = refl
-same_steps (step ∷ steps) = ap (λ z. step ∷ z) (same_steps steps)
-
-told_kinds : (steps : List Step) → AllByRecursion (λ (step : Step). HasKind (own step)) steps → AllByRecursion HasKind (map own steps)
-told_kinds [] all = tt
-told_kinds (step ∷ steps) all = (all.0, told_kinds steps all.1)
-
-pub own_fit : (script : Script) → IsAccepted script → Fits (own_steps script) script.steps
-own_fit script good = record { same = same_steps script.steps; kinds = told_kinds script.steps good.told }
-
 keeps_after : (script : Script) (turns : List Turn) → IsAccepted script → KeepsWorld script (own_steps script) (after script turns)
-keeps_after script turns good = every_schedule script (own_steps script) turns good (own_fit script good)
+keeps_after script turns good = every_schedule script (own_steps script) turns good (own_steps_fit script.steps)
 
 -- one more turn
 pub one_more : (script : Script) (turns : List Turn) (turn : Turn) → after script (turns ++ turn ∷ []) ≡ happens script (after script turns) turn
@@ -363,7 +353,7 @@ drains start now left law good fresh same before rests = (
   λ turns s.
       let b = before turns s in (
         subst (Stands now) (sym (b.1.1 ∙ rests (after (script_of start) b.0) b.1.0)) b.1.0,
-        law (script_of start) (own_steps (script_of start)) turns good (own_fit (script_of start) good),
+        law (script_of start) (own_steps (script_of start)) turns good (own_steps_fit (script_of start).steps),
       ),
 )
 

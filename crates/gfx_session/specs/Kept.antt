@@ -14,9 +14,9 @@ use Rattle.gfx_state.specs.State.{State}
 
 -- the digest of a state
 abbrev pub digest_in : State → List ℕ
-digest_in state = digest_of state.shown.surfaces state.cache.slots
+digest_in state = digest_of state.shown.surfaces state.cache.slots state.clear.rings state.clear.glyphs
 
--- the steps of a script, each as the kind that it names
+-- the steps of a script, each as the kind that it goes as where nothing else chooses one
 abbrev pub own_steps : Script → List KindedStep
 own_steps script = map own script.steps
 

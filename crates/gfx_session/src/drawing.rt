@@ -79,5 +79,5 @@ fn only_memory(fault: ClientFault) -> NoMemory
 fn digest_of(client: &Client) -> [u8; 32]
     ensures { result ≡ digest_in (cursor_of client.now).state }
 {
-    digest(client.surfaces(), client.cache())
+    digest(client.surfaces(), client.cache(), client.clear())
 }

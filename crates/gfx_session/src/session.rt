@@ -118,6 +118,9 @@ impl Session {
         &self.client
     }
 
+    /// Lets the session go. What this costs to prove is paid here once, and not at each of a caller's exits.
+    pub fn let_go(self) {}
+
     /// Whether all was queued, sent and acknowledged, and no byte is in flight.
     fn has_ended(&self) -> bool
         requires is { IsSession self.now }

@@ -6,6 +6,7 @@ use borrow.Author.Tests.{leb-true}
 use Rattle.std.proofs.lemmas.Bool.{le-leb}
 use Rattle.gfx_base.specs.Results.{and_then, check}
 use Rattle.gfx_base.proofs.ResultLemmas.{and_then_ok, and_then_at}
+use Rattle.gfx_base.specs.declared.format.Format.{Format}
 use Rattle.gfx_base.specs.declared.geometry.Point.{Point}
 use Rattle.gfx_base.specs.declared.geometry.Rect.{Rect}
 use Rattle.gfx_base.specs.declared.pixel.Pixel.{Pixel}
@@ -16,10 +17,13 @@ use Rattle.gfx_pdu.specs.declared.pdu.Pdu.TheVariants as pdus
 use Rattle.gfx_bitmap_cache.specs.Slots.{Cached, Entry, cached, entry, takes_slot, budget, total, stored, evicted}
 use Rattle.gfx_bitmap_cache.specs.Slots.{shown as image_at}
 use Rattle.gfx_bitmap_cache.specs.declared.limits.TheConstants.{MOST_SLOTS, MOST_SMALL_SLOTS, MOST_BYTES, MOST_SMALL_BYTES}
+use Rattle.gfx_surface.specs.Picture.{Picture}
 use Rattle.gfx_surface_map.specs.Shown.{Shown}
+use Rattle.gfx_state.specs.declared.codec.Codec.{Codec}
+use Rattle.gfx_state.specs.declared.codec.Codec.TheVariants.{Uncompressed, ClearCodec}
 use Rattle.gfx_state.specs.State.{State, started, fresh}
 use Rattle.gfx_state.specs.Same.{Same, Wider}
-use Rattle.gfx_state.specs.Step.{step, frame_started, frame_ended, showing, surface_created, rects_filled, data_painted, tiles_painted, caching, image_in, rect_stored, slot_put, caps_confirmed}
+use Rattle.gfx_state.specs.Step.{step, frame_started, frame_ended, showing, surface_created, rects_filled, bytes_painted, stream_painted, painted_by, data_painted, tiles_painted, caching, image_in, rect_stored, slot_put, graphics_reset, caps_confirmed}
 use Rattle.gfx_state.specs.Sending.{all_steps, sent, IsCarried, standing, count_after}
 use Rattle.gfx_state.specs.Run.{eats}
 use Rattle.gfx_pdu.specs.Spelling.{spelling}
@@ -105,7 +109,7 @@ limited s wide = record s { cache = cached s.cache.slots wide }
 
 -- what is shown changes alike
 drawn_wider : (s : State) (wide : Bool) (shown : Shown) → (wide ≡ true → s.cache.small ≡ true) → Wider (record s { shown = shown }) (record (limited s wide) { shown = shown })
-drawn_wider s wide shown only = record { shown = refl; slots = refl; frame = refl; decoded = refl; only_small = only }
+drawn_wider s wide shown only = record { shown = refl; slots = refl; clear = refl; frame = refl; decoded = refl; only_small = only }
 
 showing_wider : (s : State) (wide : Bool) (due : Result Shown Refusal) → (wide ≡ true → s.cache.small ≡ true) → Follows Wider (showing s due) (showing (limited s wide) due)
 unfolding showing
@@ -114,15 +118,15 @@ showing_wider s wide due only = after Wider due _ _ (λ shown. gives Wider _ _ (
 caching_wider : (s : State) (wide : Bool) (due loose : Result Cached Refusal) → Follows WiderCache due loose → Follows Wider (caching s due) (caching (limited s wide) loose)
 unfolding caching
 caching_wider s wide due loose cache = both WiderCache Wider due loose _ _ cache (λ c d r.
-    gives Wider _ _ (record { shown = refl; slots = r.slots; frame = refl; decoded = refl; only_small = r.only_small }))
+    gives Wider _ _ (record { shown = refl; slots = r.slots; clear = refl; frame = refl; decoded = refl; only_small = r.only_small }))
 
 started_wider : (s : State) (wide : Bool) (frame : ℕ) → (wide ≡ true → s.cache.small ≡ true) → Follows Wider (frame_started s frame) (frame_started (limited s wide) frame)
 unfolding frame_started
-started_wider s wide frame only = after Wider _ _ _ (λ free. gives Wider _ _ (record { shown = refl; slots = refl; frame = refl; decoded = refl; only_small = only }))
+started_wider s wide frame only = after Wider _ _ _ (λ free. gives Wider _ _ (record { shown = refl; slots = refl; clear = refl; frame = refl; decoded = refl; only_small = only }))
 
 closed_wider : (s : State) (wide : Bool) (frame : ℕ) → (wide ≡ true → s.cache.small ≡ true) → Follows Wider (frame_ended s frame) (frame_ended (limited s wide) frame)
 unfolding frame_ended
-closed_wider s wide frame only = after Wider _ _ _ (λ free. gives Wider _ _ (record { shown = refl; slots = refl; frame = refl; decoded = refl; only_small = only }))
+closed_wider s wide frame only = after Wider _ _ _ (λ free. gives Wider _ _ (record { shown = refl; slots = refl; clear = refl; frame = refl; decoded = refl; only_small = only }))
 
 created_wider : (s : State) (wide : Bool) (id width height byte : ℕ) → (wide ≡ true → s.cache.small ≡ true) → Follows Wider (surface_created s id width height byte) (surface_created (limited s wide) id width height byte)
 unfolding surface_created
@@ -134,11 +138,25 @@ unfolding rects_filled
 filled_wider s wide id colour rects only =
     after Wider _ _ _ (λ picture. after Wider _ _ _ (λ inside. gives Wider _ _ (drawn_wider s wide _ only)))
 
+by_bytes_wider : (s : State) (wide : Bool) (id : ℕ) (picture : Picture) (format : Format) (rect : Rect) (payload : List ℕ) → (wide ≡ true → s.cache.small ≡ true) → Follows Wider (bytes_painted s id picture format rect payload) (bytes_painted (limited s wide) id picture format rect payload)
+unfolding bytes_painted
+by_bytes_wider s wide id picture format rect payload only = after Wider _ _ _ (λ whole. gives Wider _ _ (drawn_wider s wide _ only))
+
+-- a stream is decoded alike, as nothing of the cache is read
+by_stream_wider : (s : State) (wide : Bool) (id : ℕ) (picture : Picture) (rect : Rect) (payload : List ℕ) → (wide ≡ true → s.cache.small ≡ true) → Follows Wider (stream_painted s id picture rect payload) (stream_painted (limited s wide) id picture rect payload)
+unfolding stream_painted
+by_stream_wider s wide id picture rect payload only =
+    after Wider _ _ _ (λ new. gives Wider _ _ (record { shown = refl; slots = refl; clear = refl; frame = refl; decoded = refl; only_small = only }))
+
+by_codec_wider : (codec : Codec) (s : State) (wide : Bool) (id : ℕ) (picture : Picture) (format : Format) (rect : Rect) (payload : List ℕ) → (wide ≡ true → s.cache.small ≡ true) → Follows Wider (painted_by codec s id picture format rect payload) (painted_by codec (limited s wide) id picture format rect payload)
+by_codec_wider Uncompressed s wide id picture format rect payload only = by_bytes_wider s wide id picture format rect payload only
+by_codec_wider ClearCodec s wide id picture format rect payload only = by_stream_wider s wide id picture rect payload only
+
 painted_wider : (s : State) (wide : Bool) (id codec byte : ℕ) (rect : Rect) (payload : List ℕ) → (wide ≡ true → s.cache.small ≡ true) → Follows Wider (data_painted s id codec byte rect payload) (data_painted (limited s wide) id codec byte rect payload)
 unfolding data_painted
 painted_wider s wide id codec byte rect payload only =
-    after Wider _ _ _ (λ picture. after Wider _ _ _ (λ built. after Wider _ _ _ (λ format. after Wider _ _ _ (λ inside. after Wider _ _ _ (λ whole.
-    gives Wider _ _ (drawn_wider s wide _ only))))))
+    after Wider _ _ _ (λ picture. after Wider _ _ _ (λ built. after Wider _ _ _ (λ format. after Wider _ _ _ (λ inside.
+    by_codec_wider built s wide id picture format rect payload only))))
 
 tiles_wider : (s : State) (wide : Bool) (id : ℕ) → Follows Wider (tiles_painted s id) (tiles_painted (limited s wide) id)
 unfolding tiles_painted
@@ -154,11 +172,16 @@ put_wider : (s : State) (wide : Bool) (slot id : ℕ) (points : List Point) → 
 unfolding slot_put image_at
 put_wider s wide slot id points only = after Wider _ _ _ (λ image. showing_wider s wide _ only)
 
+reset_wider : (s : State) (wide : Bool) (width height : ℕ) → (wide ≡ true → s.cache.small ≡ true) → Follows Wider (graphics_reset s width height) (graphics_reset (limited s wide) width height)
+unfolding graphics_reset
+reset_wider s wide width height only =
+    after Wider _ _ _ (λ shown. gives Wider _ _ (record { shown = refl; slots = refl; clear = refl; frame = refl; decoded = refl; only_small = only }))
+
 -- both get the limits of the message
 confirmed_wider : (s : State) (wide : Bool) (version : ℕ) (flags : List ℕ) → Follows Wider (caps_confirmed s version flags) (caps_confirmed (limited s wide) version flags)
 unfolding caps_confirmed
 confirmed_wider s wide version flags =
-    after Wider _ _ _ (λ known. gives Wider _ _ (record { shown = refl; slots = refl; frame = refl; decoded = refl; only_small = λ e. e }))
+    after Wider _ _ _ (λ known. gives Wider _ _ (record { shown = refl; slots = refl; clear = refl; frame = refl; decoded = refl; only_small = λ e. e }))
 
 limited_follows : (s : State) (wide : Bool) (pdu : Pdu) → (wide ≡ true → s.cache.small ≡ true) → Follows Wider (step s pdu) (step (limited s wide) pdu)
 unfolding step
@@ -173,7 +196,7 @@ limited_follows s wide (pdus.CreateSurface id width height format) only = create
 limited_follows s wide (pdus.DeleteSurface id) only = showing_wider s wide _ only
 limited_follows s wide (pdus.StartFrame timestamp frame) only = started_wider s wide frame only
 limited_follows s wide (pdus.EndFrame frame) only = closed_wider s wide frame only
-limited_follows s wide (pdus.ResetGraphics width height monitors) only = showing_wider s wide _ only
+limited_follows s wide (pdus.ResetGraphics width height monitors) only = reset_wider s wide width height only
 limited_follows s wide (pdus.MapSurfaceToOutput id reserved x y) only = showing_wider s wide _ only
 limited_follows s wide (pdus.CapsConfirm version flags) only = confirmed_wider s wide version flags
 limited_follows s wide other only = never Wider _ _
@@ -182,7 +205,7 @@ limited_follows s wide other only = never Wider _ _
 
 -- a wider state is the narrower one with another word
 wider_limited : (s t : State) → Wider s t → limited s t.cache.small ≡ t
-wider_limited s t w = λ i. record { shown = w.shown i; cache = cached (w.slots i) t.cache.small; frame = w.frame i; decoded = w.decoded i }
+wider_limited s t w = λ i. record { shown = w.shown i; cache = cached (w.slots i) t.cache.small; clear = w.clear i; frame = w.frame i; decoded = w.decoded i }
 
 -- what a state accepts a wider one accepts alike
 pub step_wider : (s s' t : State) (pdu : Pdu) → step s pdu ≡ Ok s' → Wider s t → (t' : State) × (step t pdu ≡ Ok t') × Wider s' t'
@@ -206,11 +229,11 @@ sent_wider s s' t applied pdus carried e w =
     (all.0, eats-sent t all.0 applied pdus carried all.1, all.2)
 
 pub Wider_same : (s t : State) → Wider s t → Same s t
-Wider_same s t w = record { surfaces = ap (λ z. z.surfaces) w.shown; slots = w.slots }
+Wider_same s t w = record { surfaces = ap (λ z. z.surfaces) w.shown; slots = w.slots; rings = ap (λ z. z.rings) w.clear; glyphs = ap (λ z. z.glyphs) w.clear }
 
 -- a stream's state at its start accepts more than any other at a start
 pub started_fresh : (small : Bool) → Wider (started small) fresh
-started_fresh small = record { shown = refl; slots = refl; frame = refl; decoded = refl; only_small = λ e. absurd cc }
+started_fresh small = record { shown = refl; slots = refl; clear = refl; frame = refl; decoded = refl; only_small = λ e. absurd cc }
 
 -- the ends of frames ---------------------------------------------------------------------------------------
 

@@ -1,3 +1,4 @@
+pub mod Codecs
 pub mod State
 pub mod Same
 pub mod Step

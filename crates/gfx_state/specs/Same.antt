@@ -2,16 +2,20 @@
 use Rattle.std.specs.Prelude.{◌≡◌, true}
 use Rattle.gfx_state.specs.State.{State}
 
--- two states with equal surfaces and equal slots. The output and what is mapped to it, the open frame, the
--- count of frames and the word small are not in it
+-- two states with equal surfaces, equal slots, and equal ClearCodec stores: the rings with their cursors, and the
+-- glyphs. The output and what is mapped to it, the sequence number that is expected, the open frame, the count of
+-- frames and the word small are not in it
 pub record Same (s t : State) : Type 0 where
   pub surfaces : s.shown.surfaces ≡ t.shown.surfaces
   pub slots : s.cache.slots ≡ t.cache.slots
+  pub rings : s.clear.rings ≡ t.clear.rings
+  pub glyphs : s.clear.glyphs ≡ t.clear.glyphs
 
 -- two states that are equal but for the word small, which the second has only where the first has it
 pub record Wider (s t : State) : Type 0 where
   pub shown : s.shown ≡ t.shown
   pub slots : s.cache.slots ≡ t.cache.slots
+  pub clear : s.clear ≡ t.clear
   pub frame : s.frame ≡ t.frame
   pub decoded : s.decoded ≡ t.decoded
   pub only_small : t.cache.small ≡ true → s.cache.small ≡ true

@@ -9,6 +9,7 @@ use Rattle.gfx_base.specs.Results.{◌>>=◌, check}
 use Rattle.gfx_base.specs.Field.{number_at}
 use Rattle.gfx_base.specs.Format.{format_of}
 use Rattle.gfx_base.specs.Geometry.{lies_in, width_of, height_of, sized}
+use Rattle.gfx_base.specs.declared.format.Format.{Format}
 use Rattle.gfx_base.specs.declared.geometry.Point.{Point}
 use Rattle.gfx_base.specs.declared.geometry.Rect.{Rect}
 use Rattle.gfx_base.specs.declared.pixel.Pixel.{Pixel}
@@ -23,6 +24,11 @@ use Rattle.gfx_bitmap_cache.specs.Slots.{shown as image_at}
 use Rattle.gfx_surface.specs.Picture.{Picture, overlaid, raw_pixels, rect_of}
 use Rattle.gfx_surface_map.specs.Surfaces.{is_size, painted}
 use Rattle.gfx_surface_map.specs.Shown.{Shown, with_picture, surface_made, surface_deleted, surface_copied, pixels_put, output_reset, output_mapped}
+use Rattle.gfx_clear.specs.State.{without_sequence}
+use Rattle.gfx_clear.specs.Painting.{scene, decoded}
+use Rattle.gfx_state.specs.declared.codec.Codec.{Codec}
+use Rattle.gfx_state.specs.declared.codec.Codec.TheVariants.{Uncompressed, ClearCodec}
+use Rattle.gfx_state.specs.Codecs.{codec_of}
 use Rattle.gfx_state.specs.State.{State}
 
 -- RDPGFX_START_FRAME_PDU: no frame may be open
@@ -63,19 +69,31 @@ rects_filled state id colour rects = do
   inside ← check RectOutside (list_all (lies_in picture.width picture.height) rects)
   Ok (record state { shown = with_picture state.shown id (painted picture rects colour) })
 
--- RDPGFX_CODECID_UNCOMPRESSED
-abbrev pub UNCOMPRESSED : ℕ
-UNCOMPRESSED = 0
+-- uncompressed data: four bytes for each pixel, row by row
+unfoldable pub bytes_painted : State → ℕ → Picture → Format → Rect → List ℕ → Result State Refusal
+bytes_painted state id picture format rect payload = do
+  whole ← check PayloadLength (length payload == 4 * (width_of rect * height_of rect))
+  Ok (record state { shown = with_picture state.shown id (overlaid picture rect (raw_pixels format payload)) })
 
--- RDPGFX_WIRE_TO_SURFACE_PDU_1: uncompressed data alone are built yet
+-- a ClearCodec stream, which goes on from the streams before it
+unfoldable pub stream_painted : State → ℕ → Picture → Rect → List ℕ → Result State Refusal
+stream_painted state id picture rect payload = do
+  new ← decoded (scene state.clear picture) rect payload
+  Ok (record state { shown = with_picture state.shown id new.picture; clear = new.state })
+
+-- data by their codec
+abbrev pub painted_by : Codec → State → ℕ → Picture → Format → Rect → List ℕ → Result State Refusal
+painted_by Uncompressed state id picture format rect payload = bytes_painted state id picture format rect payload
+painted_by ClearCodec state id picture format rect payload = stream_painted state id picture rect payload
+
+-- RDPGFX_WIRE_TO_SURFACE_PDU_1
 unfoldable pub data_painted : State → ℕ → ℕ → ℕ → Rect → List ℕ → Result State Refusal
 data_painted state id codec byte rect payload = do
   picture ← ok_or (finmap.get state.shown.surfaces id) NoSurface
-  built ← check CodecRefused (codec == UNCOMPRESSED)
+  built ← ok_or (codec_of codec) CodecRefused
   format ← ok_or (format_of byte) PixelFormat
   inside ← check RectOutside (lies_in picture.width picture.height rect)
-  whole ← check PayloadLength (length payload == 4 * (width_of rect * height_of rect))
-  Ok (record state { shown = with_picture state.shown id (overlaid picture rect (raw_pixels format payload)) })
+  painted_by built state id picture format rect payload
 
 -- RDPGFX_WIRE_TO_SURFACE_PDU_2: no codec is built yet
 unfoldable pub tiles_painted : State → ℕ → Result State Refusal
@@ -107,6 +125,12 @@ slot_put state slot id points = do
   image ← image_at state.cache slot
   showing state (pixels_put state.shown id (sized image.width image.height) image.pixels points)
 
+-- RDPGFX_RESET_GRAPHICS_PDU: any ClearCodec sequence number may come next
+unfoldable pub graphics_reset : State → ℕ → ℕ → Result State Refusal
+graphics_reset state width height = do
+  shown ← output_reset state.shown width height
+  Ok (record state { shown = shown; clear = without_sequence state.clear })
+
 -- the versions that are built
 abbrev pub is_version : ℕ → Bool
 is_version version = version == VERSION_8 || version == VERSION_8_1 || version == VERSION_10
@@ -134,7 +158,7 @@ step state (CreateSurface id width height format) = surface_created state id wid
 step state (DeleteSurface id) = showing state (surface_deleted state.shown id)
 step state (StartFrame timestamp frame) = frame_started state frame
 step state (EndFrame frame) = frame_ended state frame
-step state (ResetGraphics width height monitors) = showing state (output_reset state.shown width height)
+step state (ResetGraphics width height monitors) = graphics_reset state width height
 step state (MapSurfaceToOutput id reserved x y) = showing state (output_mapped state.shown id (record { x = x; y = y }))
 step state (CapsConfirm version flags) = caps_confirmed state version flags
 step state other = Err PduUnknown

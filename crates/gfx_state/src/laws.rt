@@ -40,7 +40,7 @@ pub fn sent_messages_are_their_steps()
 
 /// What a state with the small limits accepts, one with the large limits accepts alike, and the two are
 /// equal again but for that word. So a client with the large limits takes what a server with any limits
-/// sent, and has the same surfaces and slots, there and at the end of each frame.
+/// sent, and has the same surfaces, slots and ClearCodec stores, there and at the end of each frame.
 pub fn wider_states_accept_alike()
     ensures start { (small : Bool) → Wider (started small) fresh }
     ensures one { (s after t : State) (pdu : Pdu) → step s pdu ≡ Ok after → Wider s t

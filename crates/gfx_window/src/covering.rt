@@ -9,7 +9,7 @@ ghost use Rattle.gfx_window.specs.Hulls.{as_hull, placed_hull, joined, hull_of, 
 
 use crate::window::Queued;
 use gfx_base::{Point, Rect};
-use gfx_script::{Kind, Script, Step};
+use gfx_script::{Script, Step};
 
 /// The sides that a rectangle has to reach so as to contain others: the least left and top, the greatest
 /// right and bottom. Those of a picture may pass the 16 bits of a rectangle.
@@ -43,7 +43,7 @@ pub fn plain_write(script: &Script, item: Queued) -> Option<Write>
             at,
             ..
         } => {
-            if item.kind != Some(Kind::Raw) {
+            if item.kind.is_none() {
                 return None;
             }
             let (width, height) = script.picture_size(*picture)?;
@@ -90,7 +90,7 @@ fn covers(script: &Script, item: Queued, write: Write) -> bool
                 ..
             },
         ) => {
-            if item.kind != Some(Kind::Raw) {
+            if item.kind.is_none() {
                 return false;
             }
             match script.picture_size(*picture) {
@@ -112,7 +112,7 @@ fn stands_aside(script: &Script, item: Queued) -> bool
     match script.step(item.step) {
         Some(Step::Fill { .. } | Step::Frame) => true,
         Some(Step::Paint { picture, .. }) => {
-            if item.kind != Some(Kind::Raw) {
+            if item.kind.is_none() {
                 return false;
             }
             script.picture_size(*picture).is_some()

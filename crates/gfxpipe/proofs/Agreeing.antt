@@ -2,8 +2,8 @@
 use Rattle.std.proofs.Common.{◌≡◌, ℕ, zero, suc, Bool, true, false, cond, List, [], ◌∷◌, ◌++◌, length, refl, sym, ap, ◌∙◌, subst}
 use Rattle.std.specs.List.{AllByRecursion}
 use Rattle.std.proofs.lemmas.List.Sums.{fold-append}
-use Rattle.gfx_planner.proofs.Fronts.{own_fit}
-use Rattle.gfx_report.specs.StateBytes.{Slots, digest_of}
+use Rattle.gfx_script.proofs.OwnKinds.{own_steps_fit}
+use Rattle.gfx_report.specs.StateBytes.{digest_of}
 use Rattle.gfx_schedule.specs.Schedule.{IsShown, KeepsWorld, rounds_for}
 use Rattle.gfx_schedule.specs.World.{World, Acknowledged, begin, happens, world, round, drained, is_ended}
 use Rattle.gfx_schedule.proofs.Turns.{every_schedule}
@@ -12,8 +12,9 @@ use Rattle.gfx_script.specs.Scripted.{Script}
 use Rattle.gfx_script.specs.declared.turn.Turn.{Turn}
 use Rattle.gfx_script.specs.declared.turn.Turn.TheVariants.{Server, Client, Answer}
 use Rattle.gfx_script_text.proofs.Accepted.{accepted}
-use Rattle.gfx_session.specs.Kept.{own_steps}
-use Rattle.gfx_surface_map.specs.Surfaces.{Surfaces}
+use Rattle.gfx_session.specs.Kept.{digest_in, own_steps}
+use Rattle.gfx_state.specs.Same.{Same}
+use Rattle.gfx_state.specs.State.{State}
 use Rattle.gfxpipe.specs.Laws.{EveryLineHasEqualDigests, HasEqualDigests}
 use Rattle.gfxpipe.specs.Sessions.{whole_session}
 
@@ -43,13 +44,13 @@ drained_is script kinded (suc most) turns =
     by false rest = rest
 
 -- states that are the same have equal digests
-equal_digests : (surfaces others : Surfaces) (slots more : Slots) → surfaces ≡ others → slots ≡ more → digest_of others more ≡ digest_of surfaces slots
-equal_digests surfaces others slots more s t = sym (ap (λ z. digest_of z slots) s ∙ ap (digest_of others) t)
+equal_digests : (s t : State) → Same s t → digest_in t ≡ digest_in s
+equal_digests s t same = sym (λ i. digest_of (same.surfaces i) (same.slots i) (same.rings i) (same.glyphs i))
 
 equal_each : (script : Script) (kinded : List KindedStep) (acks : List Acknowledged) → AllByRecursion (IsShown script kinded) acks → AllByRecursion HasEqualDigests acks
 equal_each script kinded [] all = tt
 equal_each script kinded (ack ∷ acks) (shown, all) =
-    (equal_digests ack.server.shown.surfaces ack.client.shown.surfaces ack.server.cache.slots ack.client.cache.slots shown.same.surfaces shown.same.slots, equal_each script kinded acks all)
+    (equal_digests ack.server ack.client shown.same, equal_each script kinded acks all)
 
 pub every_line : EveryLineHasEqualDigests
 unfolding whole_session
@@ -57,5 +58,5 @@ every_line text script is =
     let good = accepted text script is in
     let whole = drained_is script (own_steps script) (rounds_for script) script.turns in
     let keeps : KeepsWorld script (own_steps script) (whole_session script) =
-    subst (KeepsWorld script (own_steps script)) (sym whole.is) (every_schedule script (own_steps script) whole.turns good (own_fit script good)) in
+    subst (KeepsWorld script (own_steps script)) (sym whole.is) (every_schedule script (own_steps script) whole.turns good (own_steps_fit script.steps)) in
     record { keeps = keeps; equal = equal_each script (own_steps script) (whole_session script).acks keeps.shown }

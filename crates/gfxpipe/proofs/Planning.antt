@@ -12,7 +12,8 @@ use Rattle.gfx_planner.specs.Agree.{IsAllowedStep, kinded_at}
 use Rattle.gfx_planner.specs.Planned.{Planned, ready}
 use Rattle.gfx_planner.specs.Stream.{stream, sends, served, end_after, stream_of, PutsInFrame}
 use Rattle.gfx_planner.specs.Wire.{at_start}
-use Rattle.gfx_planner.proofs.Fronts.{MayPut, may_put, own_fit, end_after-one, stream_of-one}
+use Rattle.gfx_script.proofs.OwnKinds.{own_steps_fit}
+use Rattle.gfx_planner.proofs.Fronts.{MayPut, may_put, end_after-one, stream_of-one}
 use Rattle.gfx_planner.proofs.Streams.{stream-append}
 use Rattle.gfx_script.specs.Kinds.{Fits, own, as_kind, kind_of}
 use Rattle.gfx_script.specs.Script.{IsAccepted, step_at}
@@ -108,7 +109,7 @@ may_put_own script number step good found =
     let front = steps_before script number in
     let rest = drop number (own_steps script) in
     let cut : own_steps script ≡ front ++ own step ∷ rest = sym (take-append-drop (number - 1) (own_steps script)) ∙ ap (λ z. front ++ z) place.behind in
-    may_put script front (own step) rest good (subst (λ z. Fits z script.steps) cut (own_fit script good))
+    may_put script front (own step) rest good (subst (λ z. Fits z script.steps) cut (own_steps_fit script.steps))
 
 -- the same, by the number of the step
 pub allowed_own : (script : Script) (number : ℕ) (step : Step) → IsAccepted script → step_at script.steps number ≡ Some step

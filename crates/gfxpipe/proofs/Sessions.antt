@@ -1,11 +1,13 @@
 -- What playing the session of a script comes to, turn by turn, and the lines of its acknowledged frames.
-use Rattle.std.proofs.Common.{◌≡◌, ℕ, ◌+◌, ◌≤◌, ◌<◌, List, [], ◌∷◌, ◌++◌, length, take, drop, get_or, Option, Some, None, Ok, Err, refl, sym, ap, ◌∙◌, subst, arith, inl, inr}
+use Rattle.std.proofs.Common.{◌≡◌, ℕ, ◌+◌, ◌≤◌, ◌<◌, List, [], ◌∷◌, ◌++◌, length, take, drop, get_or, Option, Some, None, Result, Ok, Err, refl, sym, ap, ◌∙◌, subst, arith, inl, inr}
+use Rattle.std.specs.Prelude.{OnOk}
 use Rattle.std.specs.List.{slice_get, flat_map}
 use Rattle.std.proofs.lemmas.Bool.{cases_lt}
 use Rattle.std.proofs.lemmas.List.{take_more, take_all, drop_more}
 use Rattle.std.proofs.lemmas.List.Concat.{flat_map-cons}
 use Rattle.std.proofs.lemmas.List.Folds.{flat_map-map}
 use Rattle.std.proofs.lemmas.Option.{slice_get_within, get_or_from_slice_get, slice_get-get_or}
+use Rattle.gfx_base.specs.declared.answer.NoMemory.{NoMemory}
 use Rattle.gfx_base.specs.Stream.{Change, change, Gains, FailsAfter}
 use Rattle.gfx_base.proofs.Streams.{Sent}
 use Rattle.gfx_input.specs.Reading.{input_of}
@@ -74,12 +76,20 @@ pub turning_all : (script : Script) (at : ℕ) (session : Session) → Turning s
 turning_all script at session t none =
     subst (λ turns. Stands session (world script (own_steps script) turns)) (take_all at script.turns (let last = none_left script.turns at t.within none in omega arith)) t.stands
 
--- and the rest is rounds
-pub drained_whole : (script : Script) (at : ℕ) (old new : Session) (done : Unit {0}) → Turning script at old → slice_get script.turns at ≡ None → Drains (Ok done) old new → Stands new (whole_session script)
+-- and the rest is rounds: what a session has come to that is drained then
+pub record Drained (result : Result (Unit {0}) NoMemory) (of : Script) (session : Session) : Type 0 where
+  pub script : OnOk result (script_of session ≡ of)
+  pub stands : OnOk result (Stands session (whole_session of))
+
+pub drained_after : (result : Result (Unit {0}) NoMemory) (script : Script) (at : ℕ) (old new : Session) → Turning script at old → slice_get script.turns at ≡ None → Drains result old new → Drained result script new
 unfolding whole_session
-drained_whole script at old new done t none (fresh, kept, goes) =
+drained_after (Ok done) script at old new t none (fresh, kept, goes) =
     let before : Stands old (world (script_of old) (own_steps (script_of old)) script.turns) = subst (λ s. Stands old (world s (own_steps s) script.turns)) (sym t.same) (turning_all script at old t none) in
-    subst (λ s. Stands new (drained s (rounds_for s) (world s (own_steps s) script.turns))) t.same (goes script.turns before).0
+    record {
+      script = kept ∙ t.same;
+      stands = subst (λ s. Stands new (drained s (rounds_for s) (world s (own_steps s) script.turns))) t.same (goes script.turns before).0;
+    }
+drained_after (Err e) script at old new t none drains = record { script = tt; stands = tt }
 
 -- what is printed -----------------------------------------------------------------------------------------
 

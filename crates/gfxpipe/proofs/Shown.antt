@@ -13,7 +13,7 @@ use Rattle.gfx_session.specs.Kept.{own_steps}
 use Rattle.gfxpipe.specs.Due.{played, last_of, ending_of}
 use Rattle.gfxpipe.specs.Dump.{dump_of}
 use Rattle.gfxpipe.specs.Laws.{EncodeThenRender}
-use Rattle.gfx_planner.proofs.Fronts.{own_fit}
+use Rattle.gfx_script.proofs.OwnKinds.{own_steps_fit}
 use Rattle.gfxpipe.proofs.Recordings.{played_short, last_short}
 
 -- a run between two channel messages is a good end
@@ -25,7 +25,7 @@ pub encode_then_render : EncodeThenRender
 encode_then_render limit text script dump is short =
     let good = accepted text script is in
     let steps = own_steps script in
-    let s : Shows script steps = (shown script steps [] good (subst (λ z. Fits z script.steps) (sym (append-nil steps)) (own_fit script good))).0 in
+    let s : Shows script steps = (shown script steps [] good (subst (λ z. Fits z script.steps) (sym (append-nil steps)) (own_steps_fit script.steps))).0 in
     let bytes = stream_of script steps in
     let run : played limit bytes ≡ standing s.client s.applied = played_short limit bytes short ∙ ap end s.run ∙ ends_well s.client s.applied in
     let last = last_short limit bytes short in

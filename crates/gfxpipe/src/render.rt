@@ -1,8 +1,9 @@
 //! The command `render`: a recording is played, and what the client then shows is printed.
-ghost use Rattle.std.specs.Prelude.{◌<◌, ◌^◌};
+ghost use Rattle.std.specs.Prelude.{◌<◌, ◌^◌, []};
 ghost use Rattle.gfx_base.specs.Stream.{change};
 ghost use Rattle.gfxpipe.specs.Did.{Renders};
 ghost use Rattle.gfxpipe.specs.Dump.{dump_of, Prints};
+ghost use Rattle.gfxpipe.specs.Recording.{HasPlayed};
 
 use crate::ending::Ending;
 use crate::recording::{Player, ending_of};
@@ -38,7 +39,27 @@ pub fn render<I: Source, O: Sink>(
 {
     let client = Client::new(alloc, Offers::new(alloc))?;
     let mut player = Player { client };
-    let read = read_input(input, limit, &mut player)?;
+    let ending = play(alloc, dump, limit, input, &mut player, out);
+    player.client.let_go();
+    ending
+}
+
+/// The same by a player that has played nothing.
+fn play<I: Source, O: Sink>(
+    alloc: Global,
+    dump: Dump,
+    limit: usize,
+    input: &mut I,
+    player: &mut Player,
+    out: &mut O,
+) -> Result<Ending, Trouble>
+    requires short { limit < 2 ^ 63 }
+    requires start { HasPlayed player.old.client [] }
+    ensures { Renders result dump limit
+        (change (I.faults input.old) (I.faults input.new) (I.left input.old) (I.left input.new))
+        (change (O.faults out.old) (O.faults out.new) (O.held out.old) (O.held out.new)) }
+{
+    let read = read_input(input, limit, player)?;
     let ending = ending_of(read, &player.client);
     print(alloc, dump, player.client.surfaces(), out)?;
     Ok(ending)

@@ -1,10 +1,12 @@
 //! The command `session`: a script is read whole, both ends of its session are played to its end, and a
 //! line is written for each frame that was acknowledged.
-ghost use Rattle.std.specs.Prelude.{◌≡◌, ◌<◌, ◌^◌, IfOk};
+ghost use Rattle.std.specs.Prelude.{◌≡◌, ◌<◌, ◌^◌, IfOk, OnOk};
 ghost use Rattle.std.specs.List.{flat_map};
 ghost use Rattle.gfx_base.specs.Stream.{Writes, change};
 ghost use Rattle.gfx_script.specs.Script.{IsAccepted};
-ghost use Rattle.gfx_session.specs.Session.{Stands, script_of};
+ghost use Rattle.gfx_schedule.specs.World.{begin};
+ghost use Rattle.gfx_session.specs.Kept.{own_steps};
+ghost use Rattle.gfx_session.specs.Session.{IsSession, Stands, script_of};
 ghost use Rattle.gfx_words.specs.declared.table.Command.TheVariants as commands;
 ghost use Rattle.gfxpipe.specs.Did.{DidAnswer};
 ghost use Rattle.gfxpipe.specs.Outcome.{ended_of, session_of};
@@ -35,13 +37,16 @@ pub fn session<I: Source, O: Sink>(
     match read_whole(alloc, limit, input)? {
         Ok(script) => {
             let session = play(alloc, script)?;
-            let Ok(()) = write_acks(session.acks().as_slice(), out) else {
-                return Err(Trouble::Write);
-            };
-            Ok(Outcome {
-                ending: Ending::Done,
-                session: Some(session),
-            })
+            match write_acks(session.acks().as_slice(), out) {
+                Ok(()) => Ok(Outcome {
+                    ending: Ending::Done,
+                    session: Some(session),
+                }),
+                Err(_) => {
+                    session.let_go();
+                    Err(Trouble::Write)
+                }
+            }
         }
         Err(ending) => Ok(Outcome {
             ending,
@@ -57,13 +62,28 @@ fn play(alloc: Global, script: Script) -> Result<Session, NoMemory>
     ensures stands { IfOk result (λ session. Stands session (whole_session script)) }
 {
     let mut session = Session::new(alloc, script)?;
+    match take_turns(&mut session) {
+        Ok(()) => Ok(session),
+        Err(error) => {
+            session.let_go();
+            Err(error)
+        }
+    }
+}
+
+/// Takes the turns of a session's script, and then rounds until it is ended.
+fn take_turns(session: &mut Session) -> Result<(), NoMemory>
+    requires is { IsSession session.old }
+    requires begun { Stands session.old (begin (script_of session.old) (own_steps (script_of session.old))) }
+    ensures script { OnOk result (script_of session.new ≡ script_of session.old) }
+    ensures stands { OnOk result (Stands session.new (whole_session (script_of session.old))) }
+{
     let mut at = 0;
     'turns: while let Some(turn) = session.script().turn(at) {
         session.turn(turn)?;
         at += 1;
     }
-    session.drain()?;
-    Ok(session)
+    session.drain()
 }
 
 /// Writes a line for each of these acknowledged frames.

@@ -6,6 +6,8 @@
 #[cfg(test)]
 mod both;
 #[cfg(test)]
+mod clear;
+#[cfg(test)]
 mod encode;
 #[cfg(test)]
 mod examples;

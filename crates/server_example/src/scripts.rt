@@ -7,7 +7,7 @@ pub struct Example {
     pub script: &'static str,
 }
 
-pub const EXAMPLES: [Example; 4] = [
+pub const EXAMPLES: [Example; 5] = [
     // A surface, the same in red, and the same in green.
     Example {
         rule: "a covered fill is left out",
@@ -64,6 +64,25 @@ step = [
     { do = "keep", id = 1, key = 1, rect = [0, 0, 2048, 1025] },
     { do = "frame" },
     { do = "keep", id = 1, key = 2, rect = [0, 0, 2048, 1025] },
+    { do = "frame" },
+]"#,
+    },
+    // White above black goes as a column, the turned picture waits and is covered, and the first goes again.
+    Example {
+        rule: "a covered paint stores no column, and the next finds the one before",
+        small: false,
+        script: r#"window = 1
+picture = [
+    { name = "step", width = 1, height = 2, pattern = "hex", pixels = "ffffffff000000ff" },
+    { name = "turned", width = 1, height = 2, pattern = "hex", pixels = "000000ffffffff40" },
+]
+step = [
+    { do = "surface", id = 1, width = 1, height = 2 },
+    { do = "paint", id = 1, picture = "step", at = [0, 0], kind = "bands" },
+    { do = "frame" },
+    { do = "paint", id = 1, picture = "turned", at = [0, 0], kind = "bands" },
+    { do = "frame" },
+    { do = "paint", id = 1, picture = "step", at = [0, 0], kind = "bands", glyph = 7 },
     { do = "frame" },
 ]"#,
     },

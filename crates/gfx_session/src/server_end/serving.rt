@@ -69,8 +69,11 @@ impl ServerEnd {
         }
         let frame = put_frame(&self.script, &self.window, &mut self.planner, out)?;
         self.window.send(frame, self.last)?;
-        self.ends
-            .push_back(digest(self.planner.surfaces(), self.planner.cache()))?;
+        self.ends.push_back(digest(
+            self.planner.surfaces(),
+            self.planner.cache(),
+            self.planner.clear(),
+        ))?;
         Ok(true)
     }
 }

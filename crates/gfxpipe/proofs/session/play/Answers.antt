@@ -1,13 +1,15 @@
-use Rattle.std.proofs.Common.{sym}
-use Rattle.gfxpipe.proofs.Sessions.{turning_more, drained_whole}
+use Rattle.std.proofs.Common.{ap, ◌∙◌, subst, sym}
+use Rattle.gfx_schedule.specs.World.{begin}
+use Rattle.gfx_session.specs.Kept.{own_steps}
+use Rattle.gfx_session.specs.Session.{Stands}
+use Rattle.gfxpipe.specs.Sessions.{whole_session}
 use Rattle.gfxpipe.proofs.session.play.Goals as goal
 
-pub turns-preserved : goal.turns-preserved
-turns-preserved c =
-    let found = sym (rw (c.script.ensures, c.turns.invariant.same, c.in-Some.is) at c.turn.ensures) in
-    turning_more c.args.script c.turns.at c.turns.session c.turn-in-Some.new.self c.in-Some.turn c.in_ok-turn.field-0 c.turns.invariant found c.in_ok-turn.ensures.turns c.in_ok-turn.ensures.is
+pub take_turns-requires-clause-begun : goal.take_turns-requires-clause-begun
+take_turns-requires-clause-begun c = subst (λ s. Stands c.in_ok-session.session (begin s (own_steps s))) (sym c.in_ok-session.ensures.is.1) c.in_ok-session.ensures.stands
 
-pub returns-clause-stands : goal.returns-clause-stands
-returns-clause-stands c =
-    let none = sym (rw (c.script.ensures, c.turns.invariant.same, c.in_default.is) at c.turn.ensures) in
-    drained_whole c.args.script c.turns.at c.turns.session c.drain.new.self c.in_ok-drain.field-0 c.turns.invariant none c.in_ok-drain.ensures.drains
+pub returns-in-Ok-clause-script : goal.returns-in-Ok-clause-script
+returns-in-Ok-clause-script c = c.in-Ok.ensures.script ∙ c.in_ok-session.ensures.is.1
+
+pub returns-in-Ok-clause-stands : goal.returns-in-Ok-clause-stands
+returns-in-Ok-clause-stands c = subst (λ s. Stands c.take_turns.new.session (whole_session s)) c.in_ok-session.ensures.is.1 c.in-Ok.ensures.stands

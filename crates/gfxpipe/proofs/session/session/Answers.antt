@@ -5,9 +5,9 @@ use Rattle.gfxpipe.proofs.session.session.Goals as goal
 pub play-requires : goal.play-requires
 play-requires g c = is_good c.args.limit _ c.in-Ok.script (rw c.in-Ok.is at c.in_ok-script.ensures)
 
-pub returns-in_default : goal.returns-in_default
-returns-in_default g c =
-    not_told c.args.limit _ _ c.in-Ok.script c.in_ok-session-in-Ok.session (rw c.in-Ok.is at c.in_ok-script.ensures) c.in_ok-session-in-Ok.ensures.stands (rw (c.as_slice.ensures, c.acks.ensures) at c.in_default.ensures)
+pub returns-in-Err-write_acks : goal.returns-in-Err-write_acks
+returns-in-Err-write_acks g c =
+    not_told c.args.limit _ _ c.in-Ok.script c.in_ok-session-in-Ok.session (rw c.in-Ok.is at c.in_ok-script.ensures) c.in_ok-session-in-Ok.ensures.stands (rw (c.as_slice.ensures, c.acks.ensures) at c.in-Err-write_acks.ensures)
 
 pub returns-in-Ok-write_acks : goal.returns-in-Ok-write_acks
 returns-in-Ok-write_acks g c =

@@ -4,4 +4,4 @@ use Rattle.gfx_surface_map.proofs.RoomLemmas.{room_none}
 use Rattle.gfx_screen.proofs.screen.State.new.Goals as goal
 
 pub invariant_of-result : goal.invariant_of-result
-invariant_of-result c = subst AllHaveRoom (sym c.new.ensures) (room_none 0)
+invariant_of-result c = subst AllHaveRoom (sym c.new-2.ensures) (room_none 0)

@@ -1,15 +1,7 @@
-use Rattle.std.proofs.Common.{◌≡◌, Some, sym, ap}
-use Rattle.std.specs.FinMap.{get}
-use Rattle.gfx_surface.proofs.PictureLemmas.{overlaid-width, overlaid-height}
-use Rattle.gfx_surface_map.specs.Shown.{SurfaceMap}
-use Rattle.gfx_surface_map.proofs.RoomLemmas.{room_drawn}
+use Rattle.std.proofs.Common.{Some, ap, sym, ◌∙◌}
+use Rattle.gfx_screen.proofs.StreamLemmas.{stream_wants}
 use Rattle.gfx_screen.proofs.screen.State.paint_data.Goals as goal
 
-pub invariant_of-self : goal.invariant_of-self
-invariant_of-self c =
-    let picture = c.in-Some.surface.now in
-    let found : get c.self.inside.surfaces.shown.surfaces c.args.id ≡ Some picture = sym c.in-Some.ensures in
-    let drawn = rw found at c.put_bytes.ensures in
-    room_drawn c.self.inside.surfaces c.put_bytes.new.self c.args.id picture _ found
-    (overlaid-width picture _ _) (overlaid-height picture _ _)
-    (ap (λ (k : SurfaceMap). k.shown.surfaces) drawn) (ap (λ (k : SurfaceMap). k.room) drawn) c.self.invariant
+pub returns-in-ClearCodec-clause-memory : goal.returns-in-ClearCodec-clause-memory
+returns-in-ClearCodec-clause-memory c =
+    stream_wants c.paint_stream.result c.args.codec (sym c.from_id.ensures ∙ c.in-Some-from_id.is ∙ ap Some c.in-ClearCodec.is)

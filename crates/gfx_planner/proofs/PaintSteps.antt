@@ -1,0 +1,222 @@
+-- The messages of paints are accepted by the server's own state, and show what is wanted.
+use Rattle.std.proofs.Common.{ℕ, ◌≡◌, zero, suc, ◌+◌, ◌*◌, ◌≤◌, ◌<◌, ◌^◌, ◌&&◌, nat_le, Bool, true, false, List, [], ◌∷◌, length, map, Option, Some, None, option_map, Ok, refl, sym, ap, ◌∙◌, subst, arith}
+use Rattle.std.specs.List.{AllByRecursion, slice_get}
+use Rattle.std.specs.Prelude.{IfSome}
+use Rattle.std.proofs.lemmas.Option.{slice_get-map}
+use Rattle.std.specs.Option.{ok_or}
+use Rattle.std.specs.FinMap.{get}
+use Rattle.std.proofs.lemmas.Bool.Decides.{nat_tests}
+use Rattle.gfx_base.specs.Format.{byte_of}
+use Rattle.gfx_base.specs.Geometry.{IsPoint, IsRect, lies_in, moved, sized}
+use Rattle.gfx_base.specs.Results.{and_then, check}
+use Rattle.gfx_base.proofs.ResultLemmas.{and_then_ok, check_ok}
+use Rattle.gfx_base.specs.declared.geometry.Point.{Point}
+use Rattle.gfx_base.specs.declared.geometry.Rect.{Rect}
+use Rattle.gfx_base.specs.declared.pixel.Pixel.{Pixel}
+use Rattle.gfx_clear_store.specs.Rings.{AreRings}
+use Rattle.gfx_clear.specs.declared.layer.Layer.{Layer}
+use Rattle.gfx_clear.specs.State.{State as ClearState}
+use Rattle.gfx_clear.specs.Sending.{MaySend as MaySendStream, MayStore}
+use Rattle.gfx_clear.proofs.Keeping.{rings_sent, sent_few}
+use Rattle.gfx_surface.specs.Picture.{Picture, overlaid}
+use Rattle.gfx_surface.proofs.PictureLemmas.{overlaid-width, overlaid-height}
+use Rattle.gfx_surface_map.specs.Shown.{with_picture}
+use Rattle.gfx_surface_map.specs.Surfaces.{Surfaces}
+use Rattle.gfx_script.specs.declared.TheConstants.{MOST_GLYPH}
+use Rattle.gfx_script.specs.declared.held.Sides.{Sides}
+use Rattle.gfx_script.specs.declared.picture.Picture.{Picture as Source}
+use Rattle.gfx_script.specs.declared.step.Kind.{Kind}
+use Rattle.gfx_script.specs.Pictures.{IsDrawn}
+use Rattle.gfx_script.specs.Checks.{Held, is_glyph, picture_painted, sides_of_all, held_after}
+use Rattle.gfx_script.specs.Kinds.{as_kind, is_clear, GoesAs}
+use Rattle.gfx_script.specs.Script.{IsStep}
+use Rattle.gfx_script.specs.Scripted.{Script}
+use Rattle.gfx_script.specs.Writes.{place_of}
+use Rattle.gfx_script.specs.declared.error.ScriptKind.TheVariants as fault
+use Rattle.gfx_script.specs.declared.step.Step.TheVariants.{Paint}
+use Rattle.gfx_state.specs.State.{State}
+use Rattle.gfx_state.specs.Step as message
+use Rattle.gfx_state.specs.Codecs.{id_of}
+use Rattle.gfx_state.specs.Sending.{IsCarried}
+use Rattle.gfx_planner.specs.Agree.{Agree, sides_of, HoldsSurfaces, Holds}
+use Rattle.gfx_planner.specs.Layers.{layer_of, codec_by}
+use Rattle.gfx_planner.specs.Want.{Wanted, drawing, pixels_in, colours_in, shown_by, with_painting, wanted_as, wanted_after}
+use Rattle.gfx_planner.specs.Wire.{Server, alone, data_by, paint_message, painting, made_as}
+use Rattle.gfx_planner.proofs.Carried.{carried-wire}
+use Rattle.gfx_planner.proofs.Effects.{all_steps-one}
+use Rattle.gfx_planner.proofs.Held.{holds-drawn}
+use Rattle.gfx_planner.proofs.Paints.{length-raw_bytes, length-pixels_in, length-colours_in, clear_by, painted_raw, painted_clear}
+use Rattle.gfx_planner.proofs.SurfaceSteps.{Fine, going, shows, found_there, ok_or_some, drawing_agrees}
+
+-- a picture whose sides are held
+source_there : (pictures : List Source) (at : ℕ) (sides : Sides) → slice_get (sides_of_all pictures) at ≡ Some sides
+    → (picture : Source) × (slice_get pictures at ≡ Some picture) × (record { width = picture.width; height = picture.height } ≡ sides)
+source_there pictures at sides is = by (slice_get pictures at) (sym (slice_get-map source_sides pictures at) ∙ is) refl
+  where
+    source_sides : Source → Sides
+    source_sides picture = record { width = picture.width; height = picture.height }
+
+    by : (o : Option Source) → option_map source_sides (slice_get pictures at) ≡ Some sides → slice_get pictures at ≡ o
+        → (picture : Source) × (slice_get pictures at ≡ Some picture) × (source_sides picture ≡ sides)
+    by None found none = absurd (let no : None ≡ Some sides = sym (ap (option_map source_sides) none) ∙ found in cc)
+    by (Some picture) found some = (picture, some, (let same : Some (source_sides picture) ≡ Some sides = sym (ap (option_map source_sides) some) ∙ found in cc))
+
+drawn_at : (pictures : List Source) (at : ℕ) (picture : Source) → AllByRecursion IsDrawn pictures → slice_get pictures at ≡ Some picture → IsDrawn picture
+drawn_at [] at picture all is = absurd cc
+drawn_at (first ∷ others) zero picture all is = subst IsDrawn (let same : first ≡ picture = cc in same) all.0
+drawn_at (first ∷ others) (suc at) picture all is = drawn_at others at picture all.1 is
+
+-- what a script's checks of a paint say
+pub record MayPaint (script : Script) (server : Server) (id number : ℕ) (at : Point) (glyph : Option ℕ) : Type 0 where
+  pub surface : Picture
+  pub there : get server.state.shown.surfaces id ≡ Some surface
+  pub picture : Source
+  pub drawn : slice_get script.pictures number ≡ Some picture
+  pub inside : lies_in surface.width surface.height (place_of picture at) ≡ true
+  pub place : IsRect (place_of picture at)
+  pub sides : IsDrawn picture
+  pub stored : MayStore (picture.width * picture.height) glyph
+
+narrow_there : (held : Held) (surfaces : Surfaces) (id : ℕ) (sides : Sides) → HoldsSurfaces held.sides held.cells surfaces → get held.sides id ≡ Some sides → (sides.width < 2 ^ 16) × (sides.height < 2 ^ 16)
+narrow_there held surfaces id sides holds there = subst (λ o. IfSome o (λ s. (s.width < 2 ^ 16) × (s.height < 2 ^ 16))) there (holds.narrow id)
+
+rect_fits : (width height : ℕ) (picture : Source) (at : Point) → width < 2 ^ 16 → height < 2 ^ 16 → IsPoint at → lies_in width height (place_of picture at) ≡ true → IsRect (place_of picture at)
+rect_fits width height picture at wide high point inside =
+    let right : at.x + picture.width ≤ width = grind (arith, nat_tests) in
+    let bottom : at.y + picture.height ≤ height = grind (arith, nat_tests) in
+    record { left = point.x; top = point.y; right = omega arith; bottom = omega arith }
+
+second_holds : (a b : Bool) → (a && b) ≡ true → b ≡ true
+second_holds true b e = e
+second_holds false b e = absurd cc
+
+le_of : (a b : ℕ) → nat_le a b ≡ true → a ≤ b
+le_of a b e = grind (arith, nat_tests)
+
+-- a glyph that a script's checks let pass can be stored
+may_store : (named : Option Kind) (drawn : Sides) (glyph : Option ℕ) → IfSome glyph (λ index. index ≤ MOST_GLYPH) → is_glyph named drawn glyph ≡ true → MayStore (drawn.width * drawn.height) glyph
+may_store named drawn None fits small = tt
+may_store None drawn (Some index) fits small = absurd cc
+may_store (Some kind) drawn (Some index) fits small = (omega (arith, fits), omega (arith, le_of _ _ (second_holds (is_clear kind) _ small)))
+
+pub may_paint : (script : Script) (server : Server) (held after : Held) (id number : ℕ) (at : Point) (named : Option Kind) (glyph : Option ℕ) → Holds script held server → IsPoint at
+    → IfSome glyph (λ index. index ≤ MOST_GLYPH) → picture_painted held id number at named glyph ≡ Ok after → MayPaint script server id number at glyph × (held ≡ after)
+unfolding picture_painted
+may_paint script server held after id number at named glyph holds point fits checked =
+    let surfaces = server.state.shown.surfaces in
+    let first = and_then_ok (ok_or (get held.sides id) fault.SurfaceAbsent) _ after checked in
+    let sides : Sides = first.0 in
+    let surface = found_there held surfaces id sides holds.surfaces first.1 in
+    let second = and_then_ok (ok_or (slice_get held.pictures number) fault.Name) _ after first.2 in
+    let found = ok_or_some (slice_get held.pictures number) fault.Name second.0 second.1 in
+    let source = source_there script.pictures number second.0 (ap (λ ps. slice_get ps number) (sym holds.same) ∙ found) in
+    let third = and_then_ok (check fault.Outside (lies_in sides.width sides.height (moved (sized second.0.width second.0.height) at))) _ after second.2 in
+    let checked_inside = check_ok fault.Outside (lies_in sides.width sides.height (moved (sized second.0.width second.0.height) at)) third.1 in
+    let inside_held : lies_in sides.width sides.height (place_of source.0 at) ≡ true = ap (λ (s : Sides). lies_in sides.width sides.height (moved (sized s.width s.height) at)) source.2 ∙ checked_inside in
+    let narrow = narrow_there held surfaces id sides holds.surfaces (ok_or_some (get held.sides id) fault.SurfaceAbsent sides first.1) in
+    let fourth = and_then_ok (check fault.Glyph (is_glyph named second.0 glyph)) _ after third.2 in
+    let small = check_ok fault.Glyph (is_glyph named second.0 glyph) fourth.1 in (
+      record {
+        surface = surface.picture;
+        there = surface.there;
+        picture = source.0;
+        drawn = source.1;
+        inside = ap (λ (s : Sides). lies_in s.width s.height (place_of source.0 at)) surface.same ∙ inside_held;
+        place = rect_fits sides.width sides.height source.0 at narrow.0 narrow.1 point inside_held;
+        sides = drawn_at script.pictures number source.0 holds.drawn source.1;
+        stored = subst (λ (s : Sides). MayStore (s.width * s.height) glyph) (sym source.2) (may_store named second.0 glyph fits small);
+      },
+      (let end = fourth.2 in cc),
+    )
+
+-- its picture can be sent as a stream
+pub may_send_stream : (picture : Source) (glyph : Option ℕ) → IsDrawn picture → MayStore (picture.width * picture.height) glyph → MaySendStream picture.width picture.height (colours_in picture) glyph
+may_send_stream picture glyph sides stored = record { across = sides.width_from; down = sides.height_from; few = omega (arith, sides.area); whole = length-colours_in picture; place = stored }
+
+sides_overlaid : (picture : Picture) (rect : Rect) (pixels : List Pixel) → sides_of (overlaid picture rect pixels) ≡ sides_of picture
+sides_overlaid picture rect pixels =
+    let w = overlaid-width picture rect pixels in
+    let h = overlaid-height picture rect pixels in
+    λ i. record { width = w i; height = h i }
+
+with_painting_there : (wanted : Wanted) (o : Option Source) (picture : Source) (kind : Kind) (id : ℕ) (at : Point) → o ≡ Some picture
+    → with_painting wanted o (Some kind) id at ≡ drawing wanted id (λ surface. overlaid surface (place_of picture at) (shown_by (layer_of kind) picture))
+unfolding with_painting
+with_painting_there wanted o picture kind id at there = rw there refl
+
+-- the message of a picture
+pub painting_there : (clear : ClearState) (surface : Option Picture) (source : Option Source) (kind : Kind) (glyph : Option ℕ) (a : Picture) (b : Source) (id : ℕ) (at : Point) → surface ≡ Some a → source ≡ Some b
+    → painting clear surface source (Some kind) glyph id at ≡ Some (paint_message (layer_of kind) clear glyph a b id at)
+unfolding painting
+painting_there clear surface source kind glyph a b id at there is = rw (there, is) refl
+
+-- by any layer, or uncompressed ------------------------------------------------------------------------
+
+-- the server's state once a picture is painted
+abbrev painted : Option Layer → State → ℕ → Picture → Source → Point → Option ℕ → State
+painted layer state id surface picture at glyph = record state {
+  shown = with_picture state.shown id (overlaid surface (place_of picture at) (shown_by layer picture));
+  clear = clear_by layer state.clear glyph picture;
+}
+
+accepts : (layer : Option Layer) (script : Script) (server : Server) (id number : ℕ) (at : Point) (glyph : Option ℕ) (m : MayPaint script server id number at glyph) → AreRings server.state.clear.rings
+    → message.step server.state (paint_message layer server.state.clear glyph m.surface m.picture id at) ≡ Ok (painted layer server.state id m.surface m.picture at glyph)
+accepts None script server id number at glyph m are = painted_raw server.state id m.surface m.picture at m.there m.inside
+accepts (Some layer) script server id number at glyph m are =
+    painted_clear server.state id m.surface m.picture at layer glyph m.there m.inside are (may_send_stream m.picture glyph m.sides m.stored) m.sides.width_fits m.sides.height_fits
+
+data_few : (layer : Option Layer) (clear : ClearState) (glyph : Option ℕ) (picture : Source) → IsDrawn picture → MayStore (picture.width * picture.height) glyph → length (data_by layer clear glyph picture) ≤ 42000000
+data_few None clear glyph picture sides stored = omega (arith, length-raw_bytes (pixels_in picture), length-pixels_in picture, sides.area)
+data_few (Some layer) clear glyph picture sides stored =
+    omega (arith, sent_few clear layer glyph picture.width picture.height (colours_in picture) (may_send_stream picture glyph sides stored) sides.height_fits, length-colours_in picture, sides.area)
+
+codec_few : (layer : Option Layer) → id_of (codec_by layer) < 2 ^ 16
+codec_few None = omega arith
+codec_few (Some layer) = omega arith
+
+pub paint_carried : (layer : Option Layer) (script : Script) (server : Server) (id number : ℕ) (at : Point) (glyph : Option ℕ) (m : MayPaint script server id number at glyph) → id < 2 ^ 16
+    → IsCarried (paint_message layer server.state.clear glyph m.surface m.picture id at)
+paint_carried layer script server id number at glyph m fits =
+    carried-wire id (id_of (codec_by layer)) (byte_of m.surface.format) (place_of m.picture at) (data_by layer server.state.clear glyph m.picture) fits (codec_few layer) m.place
+    (omega (arith, data_few layer server.state.clear glyph m.picture m.sides m.stored))
+
+rings_by : (layer : Option Layer) (clear : ClearState) (glyph : Option ℕ) (picture : Source) → AreRings clear.rings → AreRings (clear_by layer clear glyph picture).rings
+rings_by None clear glyph picture are = are
+rings_by (Some layer) clear glyph picture are = rings_sent clear layer glyph picture.width picture.height (colours_in picture) are
+
+-- paints -----------------------------------------------------------------------------------------------
+
+kind_fine : (script : Script) (server : Server) (kind : Kind) (held after : Held) (id number : ℕ) (at : Point) (named : Option Kind) (glyph : Option ℕ) → Holds script held server → IsStep (Paint id number at named glyph)
+    → held_after held (Paint id number at named glyph) ≡ Ok after → Fine script server (as_kind (Some kind) (Paint id number at named glyph)) after
+unfolding made_as wanted_as held_after
+kind_fine script server kind held after id number at named glyph holds numbers checked =
+    let may = may_paint script server held after id number at named glyph holds numbers.1 numbers.2 checked in
+    let m = may.0 in
+    let layer = layer_of kind in
+    let rect = place_of m.picture at in
+    let shown = with_picture server.state.shown id (overlaid m.surface rect (shown_by layer m.picture)) in
+    let next = painted layer server.state id m.surface m.picture at glyph in
+    record {
+      into = record { pdus = paint_message layer server.state.clear glyph m.surface m.picture id at ∷ []; plan = server.plan };
+      is = ap (λ o. alone o server.plan) (painting_there server.state.clear (get server.state.shown.surfaces id) (slice_get script.pictures number) kind glyph m.surface m.picture id at m.there m.drawn);
+      next = next;
+      accepted = all_steps-one server.state _ _ (accepts layer script server id number at glyph m holds.rings);
+      carried = (paint_carried layer script server id number at glyph m numbers.0, tt);
+      holds = subst (λ h. Holds script h (going server next server.plan)) may.1 record {
+        drawn = holds.drawn;
+        same = holds.same;
+        surfaces = holds-drawn held.sides held.cells server.state.shown.surfaces id m.surface _ holds.surfaces m.there (sides_overlaid m.surface rect (shown_by layer m.picture));
+        bitmaps = holds.bitmaps;
+        rings = rings_by layer server.state.clear glyph m.picture holds.rings;
+      };
+      frame = refl;
+      agrees = λ wanted agree.
+          let drawn = subst (Agree (shows server shown)) (sym (with_painting_there wanted (slice_get script.pictures number) m.picture kind id at m.drawn))
+          (drawing_agrees server wanted id m.surface (λ z. overlaid z rect (shown_by layer m.picture)) m.there agree) in
+          record { shown = drawn.shown; slots = drawn.slots; plan = drawn.plan };
+    }
+
+pub paint_fine : (script : Script) (server : Server) (kind : Option Kind) (held after : Held) (id number : ℕ) (at : Point) (named : Option Kind) (glyph : Option ℕ) → Holds script held server → IsStep (Paint id number at named glyph)
+    → GoesAs kind (Paint id number at named glyph) → held_after held (Paint id number at named glyph) ≡ Ok after → Fine script server (as_kind kind (Paint id number at named glyph)) after
+paint_fine script server None held after id number at named glyph holds numbers goes checked = absurd (let none : false ≡ true = goes.0 in cc)
+paint_fine script server (Some kind) held after id number at named glyph holds numbers goes checked = kind_fine script server kind held after id number at named glyph holds numbers checked

@@ -1,0 +1,50 @@
+-- Paints that go by ClearCodec: what a step asks for, and when it can be sent. This project's own rule.
+use Rattle.std.specs.Prelude.{◌≡◌, ℕ, true, List, Option, Some, None, option_map}
+use Rattle.std.specs.FinMap.{get}
+use Rattle.std.specs.List.{slice_get}
+use Rattle.gfx_base.specs.Format.{byte_of}
+use Rattle.gfx_base.specs.Geometry.{IsRect, lies_in, width_of, height_of}
+use Rattle.gfx_base.specs.declared.format.Format.{Format}
+use Rattle.gfx_base.specs.declared.geometry.Rect.{Rect}
+use Rattle.gfx_base.specs.declared.pixel.Rgb.{Rgb}
+use Rattle.gfx_clear.specs.declared.layer.Layer.{Layer}
+use Rattle.gfx_clear.specs.Sending.{MaySend as MaySendStream, sent as stream_sent}
+use Rattle.gfx_pdu.specs.declared.pdu.Pdu.{Pdu}
+use Rattle.gfx_pdu.specs.declared.pdu.Pdu.TheVariants.{WireToSurface1}
+use Rattle.gfx_state.specs.Codecs.{CLEARCODEC}
+use Rattle.gfx_planner.specs.declared.clear_paint.ClearPaint.{ClearPaint}
+use Rattle.gfx_script.specs.declared.picture.Picture.{Picture as Source}
+use Rattle.gfx_script.specs.declared.step.Kind.{Kind}
+use Rattle.gfx_script.specs.declared.step.Step.{Step}
+use Rattle.gfx_script.specs.declared.step.Step.TheVariants.{Paint}
+use Rattle.gfx_script.specs.Scripted.{Script}
+use Rattle.gfx_script.specs.Writes.{place_of}
+use Rattle.gfx_state.specs.Sending.{IsCarried}
+use Rattle.gfx_state.specs.State.{State}
+use Rattle.gfx_surface.specs.Picture.{Picture}
+use Rattle.gfx_planner.specs.Layers.{layer_of}
+use Rattle.gfx_planner.specs.Want.{colours_in}
+use Rattle.gfx_planner.specs.Wire.{paint_message}
+
+-- a paint by ClearCodec, where a step that goes as a kind is one
+abbrev pub clear_paint_of : Step → Option Kind → Option ClearPaint
+clear_paint_of (Paint id picture at named glyph) (Some kind) =
+    option_map (λ layer. record { id = id; picture = picture; at = at; layer = layer; glyph = glyph }) (layer_of kind)
+clear_paint_of step kind = None
+
+-- the message that paints colours in a rectangle of a surface by a layer
+abbrev pub clear_message : State → ℕ → Format → Rect → List Rgb → Layer → Option ℕ → Pdu
+clear_message state id format rect pixels layer glyph =
+    WireToSurface1 id CLEARCODEC (byte_of format) rect (stream_sent state.clear layer glyph (width_of rect) (height_of rect) pixels).bytes
+
+-- it can be sent: the surface and the picture are there, the picture lies on the surface, and its message fits a
+-- channel message
+pub record MayPaintClear (script : Script) (state : State) (paint : ClearPaint) : Type 0 where
+  pub surface : Picture
+  pub there : get state.shown.surfaces paint.id ≡ Some surface
+  pub picture : Source
+  pub drawn : slice_get script.pictures paint.picture ≡ Some picture
+  pub inside : lies_in surface.width surface.height (place_of picture paint.at) ≡ true
+  pub place : IsRect (place_of picture paint.at)
+  pub may : MaySendStream picture.width picture.height (colours_in picture) paint.glyph
+  pub carried : IsCarried (paint_message (Some paint.layer) state.clear paint.glyph surface picture paint.id paint.at)

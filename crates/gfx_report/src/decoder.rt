@@ -1,0 +1,103 @@
+//! The bytes of what a ClearCodec decoder holds, as a hasher takes them in.
+ghost use Rattle.std.specs.Prelude.{◌≡◌, List, Result, Some};
+ghost use Rattle.std.specs.Option.{option_map};
+ghost use Rattle.gfx_base.specs.Outcome.{Says};
+ghost use Rattle.gfx_base.specs.declared.pixel.Rgb.{Rgb};
+ghost use Rattle.gfx_base.specs.declared.refusal.Refusal.{Refusal};
+ghost use Rattle.gfx_clear_store.specs.Rings.{AreRings};
+ghost use Rattle.gfx_glyph.specs.Glyphs.{slot_at};
+ghost use Rattle.gfx_report.specs.Hashing.{Took};
+ghost use Rattle.gfx_report.specs.StateBytes.{place_bytes, ring_bytes, shown_bytes, glyph_bytes, glyphs_bytes, clear_bytes};
+
+use crate::colours::add_colours;
+use crate::hashing::add_sides;
+use gfx_base::{Refusal, Rgb};
+use gfx_clear::ClearState;
+use gfx_clear_store::{BARS, SHORTS, Store};
+use gfx_glyph::Glyphs;
+use sha2::{Digest, Sha256};
+
+/// The indices of glyphs are below this ([MS-RDPEGFX] 2.2.4.1, glyphIndex).
+const INDICES: u16 = 4000;
+
+/// Adds what a decoder holds: the bars, the shorts, the glyphs and the two cursors.
+pub fn add_decoder(decoder: &ClearState, hasher: &mut Sha256)
+    ensures { Took hasher.old hasher.new (clear_bytes decoder.now.rings decoder.now.glyphs) }
+{
+    let (bars, shorts) = decoder.cursors();
+    add_bars(decoder.store(), hasher);
+    add_shorts(decoder.store(), hasher);
+    add_glyphs(decoder.glyphs(), INDICES, hasher);
+    hasher.update(bars.to_le_bytes());
+    hasher.update(shorts.to_le_bytes());
+}
+
+/// Adds the bars, by ascending place.
+fn add_bars(store: &Store, hasher: &mut Sha256)
+    requires { AreRings store.now.held }
+    ensures { Took hasher.old hasher.new (ring_bytes 0 store.now.held.bars.slots) }
+{
+    'places: for place in 0..BARS {
+        add_place(place, store.bar(place), hasher);
+    }
+}
+
+/// Adds the shorts, by ascending place.
+fn add_shorts(store: &Store, hasher: &mut Sha256)
+    requires { AreRings store.now.held }
+    ensures { Took hasher.old hasher.new (ring_bytes 0 store.now.held.shorts.slots) }
+{
+    'places: for place in 0..SHORTS {
+        add_place(place, store.short(place), hasher);
+    }
+}
+
+/// Adds a place of a ring, if it was ever written.
+#[inline(always)]
+fn add_place(place: u16, slot: Option<&[Rgb]>, hasher: &mut Sha256)
+    ensures { Took hasher.old hasher.new (place_bytes place (option_map (λ pixels. pixels.now) slot.entry)) }
+{
+    if let Some(pixels) = slot {
+        add_column(place, pixels, hasher);
+    }
+}
+
+/// Adds the pixels that stand at a place.
+fn add_column(place: u16, pixels: &[Rgb], hasher: &mut Sha256)
+    ensures { Took hasher.old hasher.new (place_bytes place (Some pixels.now)) }
+{
+    hasher.update(place.to_le_bytes());
+    // No ring holds a column of 256 pixels or more.
+    hasher.update([(pixels.len() % 256) as u8]);
+    add_colours(pixels, hasher);
+}
+
+/// Adds the glyphs of so many indices, ascending.
+fn add_glyphs(glyphs: &Glyphs, count: u16, hasher: &mut Sha256)
+    ensures { Took hasher.old hasher.new (glyphs_bytes count glyphs.now) }
+{
+    'indices: for index in 0..count {
+        add_index(glyphs, index, hasher);
+    }
+}
+
+/// Adds an index, if a glyph is held there.
+#[inline(always)]
+fn add_index(glyphs: &Glyphs, index: u16, hasher: &mut Sha256)
+    ensures { Took hasher.old hasher.new (glyph_bytes glyphs.now index (slot_at glyphs.now index)) }
+{
+    if let Some((width, height)) = glyphs.size(index) {
+        hasher.update(index.to_le_bytes());
+        add_sides(width, height, hasher);
+        add_shown(glyphs.show(index, width, height), hasher);
+    }
+}
+
+/// Adds the pixels that are shown.
+fn add_shown(shown: Result<&[Rgb], Refusal>, hasher: &mut Sha256)
+    ensures { (due : Result (List Rgb) Refusal) → Says (λ pixels. pixels.now) shown.entry due → Took hasher.old hasher.new (shown_bytes due) }
+{
+    if let Ok(pixels) = shown {
+        add_colours(pixels, hasher);
+    }
+}

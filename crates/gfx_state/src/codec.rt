@@ -1,0 +1,37 @@
+ghost use Rattle.std.specs.Prelude.{◌≡◌};
+ghost use Rattle.gfx_state.specs.Codecs.{codec_of, id_of};
+
+use gfx_pdu::{CLEAR_CODEC, UNCOMPRESSED};
+
+/// A codec of RDPGFX_WIRE_TO_SURFACE_PDU_1 that is built ([MS-RDPEGFX] 2.2.2.1, codecId).
+#[derive(Clone, Copy, Debug, PartialEq, Eq)]
+pub enum Codec {
+    /// Four bytes a pixel: blue, green, red, alpha.
+    Uncompressed,
+    /// ClearCodec ([MS-RDPEGFX] 2.2.4.1).
+    ClearCodec,
+}
+
+impl Codec {
+    /// The codec of an id as it stands on the wire, if it is built.
+    #[tactic(auto, unfolding(crate::specs::Codecs::codec_of))]
+    pub fn from_id(id: u16) -> Option<Codec>
+        ensures { result ≡ codec_of id }
+    {
+        match id {
+            UNCOMPRESSED => Some(Codec::Uncompressed),
+            CLEAR_CODEC => Some(Codec::ClearCodec),
+            _ => None,
+        }
+    }
+
+    /// Its id on the wire.
+    pub fn id(self) -> u16
+        ensures { result ≡ id_of self }
+    {
+        match self {
+            Codec::Uncompressed => UNCOMPRESSED,
+            Codec::ClearCodec => CLEAR_CODEC,
+        }
+    }
+}

@@ -140,15 +140,20 @@ example() {
 example fill "0 "
 example desktop "0 "
 example pictures "0 "
+example text "0 "
 example outside "1 message 4: 14 RectOutside"
 "$program" render --output < "$examples/output.bin" > "$work/out" 2> "$work/err"
 report "the example output" "0 " "$(ended $?)"
 report "the example output, the output" "same" "$(cmp -s "$work/out" "$examples/output.txt" && echo same)"
-for name in fill output pictures; do
+for name in fill desktop output pictures text; do
     "$program" encode < "$examples/$name.toml" > "$work/out" 2> "$work/err"
     report "the script $name" "0 " "$(ended $?)"
     report "the script $name, its stream" "same" "$(cmp -s "$work/out" "$examples/$name.bin" && echo same)"
 done
+
+"$program" session < "$examples/joined.toml" > "$work/out" 2> "$work/err"
+report "the session joined" "0 " "$(ended $?)"
+report "the session joined, its lines" "same" "$(cmp -s "$work/out" "$examples/joined.txt" && echo same)"
 
 # The limit of the input: 1 GiB. Nothing of these streams is stored.
 limit=$((1 << 30))
@@ -192,7 +197,7 @@ if [ -n "$reference" ]; then
         answer "$way" "$seed" "$@"
         cmp -s "$work/out" "$work/wanted" && cmp -s "$work/err" "$work/wanted.err" || different="$different $seed"
     }
-    built="surface delete reset map fill copy paint kinds=raw argb keep show forget clients"
+    built="surface delete reset map fill copy paint kinds=raw,residual,bands,palette,plain glyph argb keep show forget clients"
     for way in whole cut pieces; do
         for words in "render" "render --output"; do
             different=

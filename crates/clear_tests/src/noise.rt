@@ -14,7 +14,7 @@ const HEIGHT: u16 = 1024;
 const AREA: usize = 8_388_608;
 
 /// The length of the stream of each, as a reference implementation makes it.
-const LENGTH: usize = 25_493_934;
+const LENGTH: usize = 25_493_678;
 
 #[test]
 fn eight_pictures_of_noise(rt: HostRuntime) -> Result<(), Fail> {

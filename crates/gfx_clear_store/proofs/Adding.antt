@@ -15,17 +15,22 @@ room_kept place slot log = by (is_noted place log.entries) refl
     by true is = rw is refl
     by false is = rw is refl
 
+-- the slots at the mark stay through a write
+pub undone_written : (slots : List Slot) (cursor at : ℕ) (dest old d : Slot) (log log' : Logged) → at ≡ cursor → old ≡ get_or slots at d → log' ≡ kept cursor old log
+    → undone log'.entries (set slots at dest) ≡ undone log.entries slots
+undone_written slots cursor at dest old d log log' e g h =
+    let was : old ≡ get_or slots cursor d = g ∙ ap (λ z. get_or slots z d) e in
+    ap (λ z. undone z.entries (set slots at dest)) (h ∙ ap (λ z. kept cursor z log) was)
+    ∙ ap (λ z. undone (kept cursor (get_or slots cursor d) log).entries (set slots z dest)) e
+    ∙ undone_kept log.room log.entries slots cursor dest d
+
 pub ring_added : (count : ℕ) (slots : List Slot) (cursor at_mark : ℕ) (log : Logged) (whole : Marked Places) (pixels : List Rgb)
     (at next : ℕ) (dest old d : Slot) (log' : Logged)
     → with_mark (places slots cursor) (places (undone log.entries slots) at_mark) ≡ whole
     → at ≡ cursor → dest ≡ Some pixels → old ≡ get_or slots at d → log' ≡ kept cursor old log → next ≡ next_place count cursor
     → with_mark (places (set slots at dest) next) (places (undone log'.entries (set slots at dest)) at_mark) ≡ with_mark (added count pixels whole.held) whole.marked
 ring_added count slots cursor at_mark log whole pixels at next dest old d log' view e f g h n =
-    let was : old ≡ get_or slots cursor d = g ∙ ap (λ z. get_or slots z d) e in
-    let back : undone log'.entries (set slots at dest) ≡ undone log.entries slots =
-    ap (λ z. undone z.entries (set slots at dest)) (h ∙ ap (λ z. kept cursor z log) was)
-    ∙ ap (λ z. undone (kept cursor (get_or slots cursor d) log).entries (set slots z dest)) e
-    ∙ undone_kept log.room log.entries slots cursor dest d in
+    let back = undone_written slots cursor at dest old d log log' e g h in
     (λ i. with_mark (places (set slots (e i) (f i)) (n i)) (places (back i) at_mark))
     ∙ ap (λ z. with_mark (added count pixels z.held) z.marked) view
 

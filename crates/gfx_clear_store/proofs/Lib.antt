@@ -3,6 +3,7 @@ pub mod Indices
 pub mod Written
 pub mod Walks
 pub mod Adding
+pub mod Blank
 pub mod Entered
 pub mod Numbers
 pub mod Least

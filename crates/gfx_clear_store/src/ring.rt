@@ -23,6 +23,8 @@ pub(crate) struct Ring<const COUNT: u16, const MOST: usize> {
     at_mark: u16,
     log: Log<MOST>,
     index: Index,
+    /// From this place on nothing was ever written.
+    written: u16,
 }
 
 impl<const COUNT: u16, const MOST: usize> Model for Ring<COUNT, MOST> {
@@ -55,6 +57,7 @@ impl<const COUNT: u16, const MOST: usize> Ring<COUNT, MOST> {
             at_mark: 0,
             log,
             index,
+            written: 0,
         })
     }
 
@@ -76,6 +79,14 @@ impl<const COUNT: u16, const MOST: usize> Ring<COUNT, MOST> {
         ensures marked { IsRing COUNT self.now.marked }
     {
         self.cursor
+    }
+
+    /// The place from which on nothing was ever written.
+    pub(crate) fn written(&self) -> u16
+        ensures blank { (place : ℕ) → result ≤ place → slot_at self.now.held place ≡ None }
+        ensures within { result ≤ COUNT }
+    {
+        self.written
     }
 
     /// Sees to it that places are found by the index, until a cursor is reset or a mark is gone back to.
@@ -107,9 +118,10 @@ impl<const COUNT: u16, const MOST: usize> Ring<COUNT, MOST> {
     {
         let place = self.cursor;
         self.index.note(COUNT, place, pixels);
-        let written = Some(Bar::new(pixels));
-        let old = mem::replace(&mut self.slots[usize::from(place)], written);
+        let bar = Some(Bar::new(pixels));
+        let old = mem::replace(&mut self.slots[usize::from(place)], bar);
         self.log.keep(place, old);
+        self.written = self.written.max(place + 1);
         self.cursor = next_place(COUNT, place);
     }
 

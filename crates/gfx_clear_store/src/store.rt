@@ -1,5 +1,5 @@
 //! Both rings of a ClearCodec decoder.
-ghost use Rattle.std.specs.Prelude.{◌≡◌, ◌<◌, ◌≤◌, length, IfOk, IfSome, IsOk};
+ghost use Rattle.std.specs.Prelude.{◌≡◌, ◌<◌, ◌≤◌, ℕ, length, None, IfOk, IfSome, IsOk};
 ghost use Rattle.std.specs.Option.{option_map};
 ghost use Rattle.gfx_clear_store.specs.Rings.{AreRings, no_rings, slot_at, least_place, with_bar, with_short, from_start, with_mark};
 
@@ -125,6 +125,16 @@ impl Store {
         ensures marked { AreRings self.now.marked }
     {
         (self.bars.cursor(), self.shorts.cursor())
+    }
+
+    /// The places of the bars and of the shorts from which on nothing was ever written.
+    pub fn written(&self) -> (u16, u16)
+        ensures bars { (place : ℕ) → result.0 ≤ place → slot_at self.now.held.bars place ≡ None }
+        ensures shorts { (place : ℕ) → result.1 ≤ place → slot_at self.now.held.shorts place ≡ None }
+        ensures bars_within { result.0 ≤ BARS }
+        ensures shorts_within { result.1 ≤ SHORTS }
+    {
+        (self.bars.written(), self.shorts.written())
     }
 
     /// Notes the present state.

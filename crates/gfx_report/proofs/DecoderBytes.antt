@@ -1,9 +1,9 @@
 -- What is still due of the places of a ring, and of the indices of glyphs.
-use Rattle.std.proofs.Common.{◌≡◌, ◌∙◌, ℕ, ◌+◌, ◌-◌, ◌<◌, ◌≤◌, suc, List, ◌++◌, length, drop, Some, None, Option, ap, sym, subst, arith}
+use Rattle.std.proofs.Common.{◌≡◌, ◌∙◌, ℕ, ◌+◌, ◌-◌, ◌<◌, ◌≤◌, suc, List, [], ◌∷◌, ◌++◌, length, drop, Some, None, Option, refl, ap, sym, subst, arith}
 use Rattle.std.specs.Prelude.{slice_index_or}
 use Rattle.std.specs.List.{flat_map, range_with_len}
 use Rattle.std.specs.Option.{option_map}
-use Rattle.std.proofs.lemmas.List.{drop_more, drop_all}
+use Rattle.std.proofs.lemmas.List.{drop_more, get_or-drop}
 use Rattle.sha2.specs.declared.Sha256.{Sha256}
 use Rattle.gfx_clear_store.specs.Rings.{Slot}
 use Rattle.gfx_report.specs.Hashing.{Took}
@@ -16,20 +16,25 @@ abbrev pub ring_from : List Slot → ℕ → List ℕ
 ring_from slots place = ring_bytes place (drop place slots)
 
 -- the next place was taken in
-pub ring_next : (a b c : Sha256) (due : List ℕ) (slots : List Slot) (place count : ℕ) (slot : Slot)
-    → length slots ≡ count → place < count → slot ≡ slice_index_or slots place None
+pub ring_next : (a b c : Sha256) (due : List ℕ) (slots : List Slot) (place from count : ℕ) (slot : Slot)
+    → length slots ≡ count → from ≤ count → place < from → slot ≡ slice_index_or slots place None
     → Owes a b due (ring_from slots place) → Took b c (place_bytes place slot) → Owes a c due (ring_from slots (place + 1))
 unfolding ring_bytes
-ring_next a b c due slots place count slot whole below here owes took =
+ring_next a b c due slots place from count slot whole within below here owes took =
     let cut = Owes_as a b due _ _ (ap (ring_bytes place) (drop_more slots place None (omega arith))) owes in
     Owes_front a b c due _ _ cut (subst (λ s. Took b c (place_bytes place s)) here took)
 
--- behind the last place there is none
-pub ring_end : (a b : Sha256) (due : List ℕ) (slots : List Slot) (place count : ℕ)
-    → length slots ≡ count → count ≤ place → Owes a b due (ring_from slots place) → Took a b due
+-- slots that hold nothing give no bytes
+blank_bytes : (place : ℕ) (slots : List Slot) → ((k : ℕ) → slice_index_or slots k None ≡ None) → ring_bytes place slots ≡ []
 unfolding ring_bytes
-ring_end a b due slots place count whole past owes =
-    Owes_none a b due _ (ap (ring_bytes place) (drop_all place slots (omega arith))) owes
+blank_bytes place [] blank = refl
+blank_bytes place (slot ∷ slots) blank = ap (λ s. place_bytes place s ++ ring_bytes (place + 1) slots) (blank 0) ∙ blank_bytes (place + 1) slots (λ k. blank (suc k))
+
+-- from the place on where nothing was ever written there are none
+pub ring_end : (a b : Sha256) (due : List ℕ) (slots : List Slot) (place from : ℕ)
+    → ((k : ℕ) → from ≤ k → slice_index_or slots k None ≡ None) → from ≤ place → Owes a b due (ring_from slots place) → Took a b due
+ring_end a b due slots place from blank past owes =
+    Owes_none a b due _ (blank_bytes place (drop place slots) (λ k. get_or-drop place slots k None ∙ blank (place + k) (omega arith))) owes
 
 module _ (f : ℕ → List ℕ) where
   -- the indices from one on, below a number

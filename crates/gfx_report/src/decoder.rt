@@ -13,7 +13,7 @@ use crate::colours::add_colours;
 use crate::hashing::add_sides;
 use gfx_base::{Refusal, Rgb};
 use gfx_clear::ClearState;
-use gfx_clear_store::{BARS, SHORTS, Store};
+use gfx_clear_store::Store;
 use gfx_glyph::Glyphs;
 use sha2::{Digest, Sha256};
 
@@ -32,22 +32,24 @@ pub fn add_decoder(decoder: &ClearState, hasher: &mut Sha256)
     hasher.update(shorts.to_le_bytes());
 }
 
-/// Adds the bars, by ascending place.
+/// Adds the bars, by ascending place, up to where nothing was ever written.
 fn add_bars(store: &Store, hasher: &mut Sha256)
     requires { AreRings store.now.held }
     ensures { Took hasher.old hasher.new (ring_bytes 0 store.now.held.bars.slots) }
 {
-    'places: for place in 0..BARS {
+    let (bars, _) = store.written();
+    'places: for place in 0..bars {
         add_place(place, store.bar(place), hasher);
     }
 }
 
-/// Adds the shorts, by ascending place.
+/// Adds the shorts, by ascending place, up to where nothing was ever written.
 fn add_shorts(store: &Store, hasher: &mut Sha256)
     requires { AreRings store.now.held }
     ensures { Took hasher.old hasher.new (ring_bytes 0 store.now.held.shorts.slots) }
 {
-    'places: for place in 0..SHORTS {
+    let (_, shorts) = store.written();
+    'places: for place in 0..shorts {
         add_place(place, store.short(place), hasher);
     }
 }

@@ -4,7 +4,7 @@ use Rattle.gfx_report.proofs.decoder.add_shorts.Goals as goal
 
 pub places-preserved : goal.places-preserved
 places-preserved c =
-    ring_next _ _ _ _ _ _ _ _ c.requires.shorts.whole c.places-test.true c.short.ensures c.places.invariant c.add_place.ensures
+    ring_next _ _ _ _ _ _ _ _ _ c.requires.shorts.whole c.written-shorts.ensures.shorts_within c.places-test.true c.short.ensures c.places.invariant c.add_place.ensures
 
 pub returns : goal.returns
-returns c = ring_end _ _ _ _ _ _ c.requires.shorts.whole (omega arith) c.places.invariant
+returns c = ring_end _ _ _ _ _ _ c.written-shorts.ensures.shorts (omega arith) c.places.invariant

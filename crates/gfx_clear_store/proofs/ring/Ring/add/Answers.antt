@@ -1,6 +1,7 @@
-use Rattle.std.proofs.Common.{ap, ◌∙◌}
+use Rattle.std.proofs.Common.{ap, ◌∙◌, arith}
 use Rattle.std.proofs.lemmas.List.{length-set}
 use Rattle.gfx_clear_store.proofs.Adding.{room_kept, ring_added, index_added, copy_is}
+use Rattle.gfx_clear_store.proofs.Blank.{still_blank, mark_blank}
 use Rattle.gfx_clear_store.proofs.ring.Ring.add.Goals as goal
 
 pub invariant_of-self : goal.invariant_of-self
@@ -20,6 +21,10 @@ invariant_of-self g c =
           c.note.new.self.latest.items c.note.new.self.earlier.items a.index.ready c.note.new.self.ready sound.slots sound.cursor sound.latest sound.earlier
           c.from.ensures (copy_is c.replace-old.new.dest c.new.result c.args.pixels.now c.replace-old.ensures.after c.new.ensures) c.next_place-self-inside.ensures.next
           c.note.ensures.latest c.note.ensures.earlier c.note.ensures.ready sound.ready;
+      written = omega (arith, sound.cursor, sound.written, c.max-self-inside.ensures);
+      blank = still_blank a.slots.items a.cursor c.from.result a.written _ c.replace-old.new.dest c.from.ensures c.max-self-inside.ensures sound.blank;
+      was_blank = mark_blank a.slots.items a.cursor c.from.result a.written _ c.replace-old.new.dest c.replace-old.result c.index_mut.result.now a.log c.keep.new.self
+          c.from.ensures c.max-self-inside.ensures (c.replace-old.ensures.value ∙ c.index_mut.ensures.value) c.keep.ensures sound.was_blank;
     }
 
 pub returns : goal.returns

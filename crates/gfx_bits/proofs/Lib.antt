@@ -1,3 +1,4 @@
 pub mod Laws
 pub mod Writing
 pub mod Zeros
+pub mod Padding

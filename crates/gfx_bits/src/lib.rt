@@ -3,8 +3,10 @@
 //! It stands on nothing. A reader is seen as the bits that are left, a writer as the bits written.
 #![tactic(auto)]
 
+mod filling;
 mod reader;
 mod writer;
 
+pub use filling::what_bits_fill;
 pub use reader::BitReader;
 pub use writer::{BitWriter, NoBits};

@@ -8,3 +8,5 @@ pub mod RoundTrip
 pub mod Bound
 pub mod OneWriting
 pub mod Numbers
+pub mod Says
+pub mod Writes

@@ -77,7 +77,7 @@ kp-same zero (suc n) kp e = absurd (omega arith)
 kp-same (suc m) zero kp e = absurd (omega arith)
 kp-same (suc m) (suc n) kp e = refl
 
-folded-unfold : (n : ℕ) → folded (unfold_number n) ≡ n
+pub folded-unfold : (n : ℕ) → folded (unfold_number n) ≡ n
 folded-unfold n = elim (eqb_tells (n % 2) 0)
     [ inl h ↦ rw h.0 (omega (arith, h.1)) | inr h ↦ rw h.0 (omega (arith, h.1)) ]
 
@@ -102,15 +102,15 @@ value-read old new before between behind number' result none read e f = record {
 abbrev pub signed_value : Bool → ℕ → ℤ
 signed_value negative below = cond negative (negsuc below) (pos (suc below))
 
-sign-of : (negative : Bool) (below : ℕ) → is_negative (signed_value negative below) ≡ negative
+pub sign-of : (negative : Bool) (below : ℕ) → is_negative (signed_value negative below) ≡ negative
 sign-of true below = refl
 sign-of false below = refl
 
-below-of : (negative : Bool) (below : ℕ) → unsigned_abs (signed_value negative below) - 1 ≡ below
+pub below-of : (negative : Bool) (below : ℕ) → unsigned_abs (signed_value negative below) - 1 ≡ below
 below-of true below = omega arith
 below-of false below = omega arith
 
-not-zero : (negative : Bool) (below : ℕ) → signed_value negative below ≢ pos 0
+pub not-zero : (negative : Bool) (below : ℕ) → signed_value negative below ≢ pos 0
 not-zero true below e = cc
 not-zero false below e = cc
 

@@ -10,4 +10,4 @@ mod params;
 
 pub use decoder::decode;
 pub use encoder::encode;
-pub use laws::{one_meaning, one_writing};
+pub use laws::{one_meaning, one_writing, what_bytes_say, what_is_written};

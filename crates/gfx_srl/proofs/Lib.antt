@@ -7,3 +7,5 @@ pub mod Unique
 pub mod OneWriting
 pub mod Bound
 pub mod Numbers
+pub mod Says
+pub mod Writes

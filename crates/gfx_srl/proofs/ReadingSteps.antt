@@ -68,19 +68,19 @@ opens-value reader bits kp run zeros none begins bit counted on same less = go (
 abbrev pub signed_value : Bool → ℕ → ℤ
 signed_value negative below = cond negative (negsuc below) (pos (suc below))
 
-sign-of : (negative : Bool) (below : ℕ) → is_negative (signed_value negative below) ≡ negative
+pub sign-of : (negative : Bool) (below : ℕ) → is_negative (signed_value negative below) ≡ negative
 sign-of true below = refl
 sign-of false below = refl
 
-below-of : (negative : Bool) (below : ℕ) → unsigned_abs (signed_value negative below) - 1 ≡ below
+pub below-of : (negative : Bool) (below : ℕ) → unsigned_abs (signed_value negative below) - 1 ≡ below
 below-of true below = omega arith
 below-of false below = omega arith
 
-not-zero : (negative : Bool) (below : ℕ) → signed_value negative below ≢ pos 0
+pub not-zero : (negative : Bool) (below : ℕ) → signed_value negative below ≢ pos 0
 not-zero true below e = cc
 not-zero false below e = cc
 
-magnitude-of : (negative : Bool) (below : ℕ) → unsigned_abs (signed_value negative below) ≡ suc below
+pub magnitude-of : (negative : Bool) (below : ℕ) → unsigned_abs (signed_value negative below) ≡ suc below
 magnitude-of true below = omega arith
 magnitude-of false below = omega arith
 

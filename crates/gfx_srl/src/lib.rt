@@ -9,6 +9,9 @@ mod params;
 mod reader;
 mod writer;
 
-pub use laws::{one_meaning, one_writing, reading_says, written_is_read, written_is_short};
+pub use laws::{
+    one_meaning, one_writing, reading_says, what_bits_say, what_is_written, written_is_read,
+    written_is_short,
+};
 pub use reader::SrlReader;
 pub use writer::SrlWriter;

@@ -1,0 +1,11 @@
+use Rattle.gfx_rlgr.proofs.Writes.{always-written, written-bytes, written-only}
+use Rattle.gfx_rlgr.proofs.laws.what_is_written.Goals as goal
+
+pub returns-clause-written : goal.returns-clause-written
+returns-clause-written c = always-written
+
+pub returns-clause-bytes : goal.returns-clause-bytes
+returns-clause-bytes c = written-bytes
+
+pub returns-clause-only : goal.returns-clause-only
+returns-clause-only c = written-only

@@ -1,14 +1,12 @@
 -- Planes by their bands, place by place.
-use Rattle.std.proofs.Common.{◌≡◌, ◌∙◌, ℕ, zero, suc, ◌+◌, ◌<◌, ℤ, pos, ◌-ℤ◌, List, [], ◌∷◌, length, refl, sym, ap, subst, arith}
+use Rattle.std.proofs.Common.{◌≡◌, ◌∙◌, ℕ, zero, suc, ◌+◌, ◌<◌, ℤ, pos, ◌-ℤ◌, List, [], ◌∷◌, length, refl, sym, ap, arith}
 use Rattle.std.proofs.lemmas.List.{ext_get_or}
 use Rattle.gfx_dwt.specs.declared.layout.Transform.{Transform}
 use Rattle.gfx_dwt.specs.declared.layout.Band.{Band}
-use Rattle.gfx_dwt.specs.Place.{LiesIn}
 use Rattle.gfx_dwt.specs.Ranges.{at}
 use Rattle.gfx_quant.specs.Planes.{MapsBands}
-use Rattle.gfx_quant.proofs.Everywhere.{some_band}
 use Rattle.gfx_tile_state.specs.Entries.{band_at}
-use Rattle.gfx_tile_state.proofs.Bands.{band_at-is}
+use Rattle.gfx_tile_state.proofs.Bands.{lies-at}
 use Rattle.gfx_tile_make.specs.Planes.{by_band_from, by_band, less}
 
 length-by_band_from : (t : Transform) (f : Band → ℤ → ℤ) (k : ℕ) (xs : List ℤ) → length (by_band_from t f k xs) ≡ length xs
@@ -44,12 +42,6 @@ at-less (x ∷ xs) (y ∷ ys) (suc k) e h = at-less xs ys k (omega arith) (omega
 
 pub same-planes : (xs ys : List ℤ) (n : ℕ) → length xs ≡ n → length ys ≡ n → ((k : ℕ) → k < n → at xs k ≡ at ys k) → xs ≡ ys
 same-planes xs ys n e f h = ext_get_or (pos 0) xs ys (e ∙ sym f) (λ i less. h i (omega arith))
-
--- each place lies in its band
-pub lies-at : (t : Transform) (k : ℕ) → k < 4096 → LiesIn t (band_at t k) k
-lies-at t k h =
-    let place : (band : Band) × LiesIn t band k = some_band t k h in
-    subst (λ b. LiesIn t b k) (sym (band_at-is t place.0 k place.1)) place.1
 
 -- a plane of these numbers
 pub is-by_band : (t : Transform) (f : Band → ℤ → ℤ) (xs ys : List ℤ) → length xs ≡ 4096 → length ys ≡ 4096 → ((k : ℕ) → k < 4096 → at ys k ≡ f (band_at t k) (at xs k)) → ys ≡ by_band t f xs

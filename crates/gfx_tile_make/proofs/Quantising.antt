@@ -17,7 +17,8 @@ use Rattle.gfx_quant.specs.Planes.{EachIs, MapsBands}
 use Rattle.gfx_quant.specs.Quant.{value_of}
 use Rattle.gfx_tile_state.specs.Entries.{band_at}
 use Rattle.gfx_tile_make.specs.Quantised.{quantised_at, quantised_in, quantised_samples}
-use Rattle.gfx_tile_make.proofs.ByBand.{lies-at, same-planes}
+use Rattle.gfx_tile_state.proofs.Bands.{lies-at}
+use Rattle.gfx_tile_make.proofs.ByBand.{same-planes}
 use Rattle.gfx_tile_make.proofs.Sources.{at-quantised, quantised-whole}
 
 some-columns : (t : Transform) (band : Band) → 0 < columns t band

@@ -10,20 +10,20 @@ use Rattle.gfx_dwt.specs.declared.layout.Transform.{Transform}
 use Rattle.gfx_dwt.specs.declared.layout.Transform.TheVariants.{Plain, Reduced}
 use Rattle.gfx_dwt.specs.declared.layout.Band.{Band}
 use Rattle.gfx_dwt.specs.declared.layout.Band.TheVariants.{Hl1, Lh1, Hh1, Hl2, Lh2, Hh2, Hl3, Lh3, Hh3, Ll3}
-use Rattle.gfx_dwt.specs.Place.{LiesIn, size, start}
+use Rattle.gfx_dwt.specs.Place.{LiesIn, start}
 use Rattle.gfx_dwt.specs.Ranges.{at}
 use Rattle.gfx_quant.specs.Coefficient.{coefficient_of, dequantised, is_coefficient, truncated}
 use Rattle.gfx_quant.specs.Planes.{Dequantises, LeavesRange}
 use Rattle.gfx_quant.specs.Quant.{value_of}
 use Rattle.gfx_tile_state.specs.Entries.{AreEntries, band_at, pass_of, sum_after}
 use Rattle.gfx_tile_state.specs.Passes.{FirstRefused, LeavesIt, Part, TakesFirst, Upgrades, running, summed}
-use Rattle.gfx_tile_state.proofs.Bands.{band_at-is}
+use Rattle.gfx_tile_state.proofs.Bands.{band_at-is, ends, lies-at}
 use Rattle.gfx_tile_state.proofs.OneReading.{one-reading}
 use Rattle.gfx_tile_make.specs.Planes.{differences}
 use Rattle.gfx_tile_make.specs.Source.{Planes, sent}
 use Rattle.gfx_tile_make.specs.Levels.{StaysWithin, first_values, positions_at, record_by, summed_at, truncated_plane}
 use Rattle.gfx_tile_make.specs.Upgrade.{entries_of, gained}
-use Rattle.gfx_tile_make.proofs.ByBand.{at-by_band, is-by_band, length-by_band, lies-at}
+use Rattle.gfx_tile_make.proofs.ByBand.{at-by_band, is-by_band, length-by_band}
 use Rattle.gfx_tile_make.proofs.Gains.{sums-go-on}
 
 -- the position of a band
@@ -90,28 +90,6 @@ value-is t base level planes band k long h lies =
     ∙ ap (λ v. coefficient_of v (value_of base band + value_of level band)) (at-by_band t (λ band v. truncated band v (value_of level band)) (sent planes) k (omega arith))
     ∙ ap (λ b. coefficient_of (truncated (band_at t k) (at (sent planes) k) (value_of level (band_at t k))) (value_of base b + value_of level b)) (sym (band_at-is t band k lies))
     ∙ sym (sum-is t base level planes k long h)
-
-pub ends : (t : Transform) (band : Band) → start t band + size t band ≤ 4096
-ends Plain Hl1 = omega arith
-ends Plain Lh1 = omega arith
-ends Plain Hh1 = omega arith
-ends Plain Hl2 = omega arith
-ends Plain Lh2 = omega arith
-ends Plain Hh2 = omega arith
-ends Plain Hl3 = omega arith
-ends Plain Lh3 = omega arith
-ends Plain Hh3 = omega arith
-ends Plain Ll3 = omega arith
-ends Reduced Hl1 = omega arith
-ends Reduced Lh1 = omega arith
-ends Reduced Hh1 = omega arith
-ends Reduced Hl2 = omega arith
-ends Reduced Lh2 = omega arith
-ends Reduced Hh2 = omega arith
-ends Reduced Hl3 = omega arith
-ends Reduced Lh3 = omega arith
-ends Reduced Hh3 = omega arith
-ends Reduced Ll3 = omega arith
 
 inside : (t : Transform) (band : Band) (k : ℕ) → LiesIn t band k → k < 4096
 inside t band k lies = omega (arith, lies.1, ends t band)

@@ -1,5 +1,5 @@
 -- The band of a place.
-use Rattle.std.proofs.Common.{◌≡◌, ℕ, ◌+◌, ◌<◌, ◌≤◌, Bool, cond, ℤ, List, [], ◌∷◌, map, take, refl, sym, ap, ◌∙◌, arith}
+use Rattle.std.proofs.Common.{◌≡◌, ℕ, ◌+◌, ◌<◌, ◌≤◌, Bool, cond, ℤ, List, [], ◌∷◌, map, take, refl, sym, ap, subst, ◌∙◌, arith}
 use Rattle.std.specs.Prelude.{sum, ◌==◌, ◌-◌, slice_index}
 use Rattle.gfx_quant.specs.Quant.{value_of}
 use Rattle.std.proofs.lemmas.Bool.{lt-ltb, le-ltb}
@@ -8,6 +8,7 @@ use Rattle.gfx_dwt.specs.declared.layout.Transform.TheVariants.{Plain, Reduced}
 use Rattle.gfx_dwt.specs.declared.layout.Band.{Band}
 use Rattle.gfx_dwt.specs.declared.layout.Band.TheVariants.{Hl1, Lh1, Hh1, Hl2, Lh2, Hh2, Hl3, Lh3, Hh3, Ll3}
 use Rattle.gfx_dwt.specs.Place.{LiesIn, bands, number, size, start}
+use Rattle.gfx_quant.proofs.Everywhere.{some_band}
 use Rattle.gfx_tile_state.specs.Entries.{band_among, band_at, is_low, AreAlike, pass_of}
 
 -- where the bands of these numbers begin, and the last of them ends
@@ -58,6 +59,35 @@ band_at-is Reduced Hl3 k h = past Reduced k Hl1 (Lh1 ∷ Hh1 ∷ Hl2 ∷ Lh2 ∷
 band_at-is Reduced Lh3 k h = past Reduced k Hl1 (Lh1 ∷ Hh1 ∷ Hl2 ∷ Lh2 ∷ Hh2 ∷ Hl3 ∷ Lh3 ∷ Hh3 ∷ Ll3 ∷ []) (omega (arith, h.0)) ∙ past Reduced k Lh1 (Hh1 ∷ Hl2 ∷ Lh2 ∷ Hh2 ∷ Hl3 ∷ Lh3 ∷ Hh3 ∷ Ll3 ∷ []) (omega (arith, h.0)) ∙ past Reduced k Hh1 (Hl2 ∷ Lh2 ∷ Hh2 ∷ Hl3 ∷ Lh3 ∷ Hh3 ∷ Ll3 ∷ []) (omega (arith, h.0)) ∙ past Reduced k Hl2 (Lh2 ∷ Hh2 ∷ Hl3 ∷ Lh3 ∷ Hh3 ∷ Ll3 ∷ []) (omega (arith, h.0)) ∙ past Reduced k Lh2 (Hh2 ∷ Hl3 ∷ Lh3 ∷ Hh3 ∷ Ll3 ∷ []) (omega (arith, h.0)) ∙ past Reduced k Hh2 (Hl3 ∷ Lh3 ∷ Hh3 ∷ Ll3 ∷ []) (omega (arith, h.0)) ∙ past Reduced k Hl3 (Lh3 ∷ Hh3 ∷ Ll3 ∷ []) (omega (arith, h.0)) ∙ here Reduced k Lh3 (Hh3 ∷ Ll3 ∷ []) (omega (arith, h.1))
 band_at-is Reduced Hh3 k h = past Reduced k Hl1 (Lh1 ∷ Hh1 ∷ Hl2 ∷ Lh2 ∷ Hh2 ∷ Hl3 ∷ Lh3 ∷ Hh3 ∷ Ll3 ∷ []) (omega (arith, h.0)) ∙ past Reduced k Lh1 (Hh1 ∷ Hl2 ∷ Lh2 ∷ Hh2 ∷ Hl3 ∷ Lh3 ∷ Hh3 ∷ Ll3 ∷ []) (omega (arith, h.0)) ∙ past Reduced k Hh1 (Hl2 ∷ Lh2 ∷ Hh2 ∷ Hl3 ∷ Lh3 ∷ Hh3 ∷ Ll3 ∷ []) (omega (arith, h.0)) ∙ past Reduced k Hl2 (Lh2 ∷ Hh2 ∷ Hl3 ∷ Lh3 ∷ Hh3 ∷ Ll3 ∷ []) (omega (arith, h.0)) ∙ past Reduced k Lh2 (Hh2 ∷ Hl3 ∷ Lh3 ∷ Hh3 ∷ Ll3 ∷ []) (omega (arith, h.0)) ∙ past Reduced k Hh2 (Hl3 ∷ Lh3 ∷ Hh3 ∷ Ll3 ∷ []) (omega (arith, h.0)) ∙ past Reduced k Hl3 (Lh3 ∷ Hh3 ∷ Ll3 ∷ []) (omega (arith, h.0)) ∙ past Reduced k Lh3 (Hh3 ∷ Ll3 ∷ []) (omega (arith, h.0)) ∙ here Reduced k Hh3 (Ll3 ∷ []) (omega (arith, h.1))
 band_at-is Reduced Ll3 k h = past Reduced k Hl1 (Lh1 ∷ Hh1 ∷ Hl2 ∷ Lh2 ∷ Hh2 ∷ Hl3 ∷ Lh3 ∷ Hh3 ∷ Ll3 ∷ []) (omega (arith, h.0)) ∙ past Reduced k Lh1 (Hh1 ∷ Hl2 ∷ Lh2 ∷ Hh2 ∷ Hl3 ∷ Lh3 ∷ Hh3 ∷ Ll3 ∷ []) (omega (arith, h.0)) ∙ past Reduced k Hh1 (Hl2 ∷ Lh2 ∷ Hh2 ∷ Hl3 ∷ Lh3 ∷ Hh3 ∷ Ll3 ∷ []) (omega (arith, h.0)) ∙ past Reduced k Hl2 (Lh2 ∷ Hh2 ∷ Hl3 ∷ Lh3 ∷ Hh3 ∷ Ll3 ∷ []) (omega (arith, h.0)) ∙ past Reduced k Lh2 (Hh2 ∷ Hl3 ∷ Lh3 ∷ Hh3 ∷ Ll3 ∷ []) (omega (arith, h.0)) ∙ past Reduced k Hh2 (Hl3 ∷ Lh3 ∷ Hh3 ∷ Ll3 ∷ []) (omega (arith, h.0)) ∙ past Reduced k Hl3 (Lh3 ∷ Hh3 ∷ Ll3 ∷ []) (omega (arith, h.0)) ∙ past Reduced k Lh3 (Hh3 ∷ Ll3 ∷ []) (omega (arith, h.0)) ∙ past Reduced k Hh3 (Ll3 ∷ []) (omega (arith, h.0)) ∙ here Reduced k Ll3 ([]) (omega (arith, h.1))
+
+-- where a band ends
+pub ends : (t : Transform) (band : Band) → start t band + size t band ≤ 4096
+ends Plain Hl1 = omega arith
+ends Plain Lh1 = omega arith
+ends Plain Hh1 = omega arith
+ends Plain Hl2 = omega arith
+ends Plain Lh2 = omega arith
+ends Plain Hh2 = omega arith
+ends Plain Hl3 = omega arith
+ends Plain Lh3 = omega arith
+ends Plain Hh3 = omega arith
+ends Plain Ll3 = omega arith
+ends Reduced Hl1 = omega arith
+ends Reduced Lh1 = omega arith
+ends Reduced Hh1 = omega arith
+ends Reduced Hl2 = omega arith
+ends Reduced Lh2 = omega arith
+ends Reduced Hh2 = omega arith
+ends Reduced Hl3 = omega arith
+ends Reduced Lh3 = omega arith
+ends Reduced Hh3 = omega arith
+ends Reduced Ll3 = omega arith
+
+-- each place lies in its band
+pub lies-at : (t : Transform) (k : ℕ) → k < 4096 → LiesIn t (band_at t k) k
+lies-at t k h =
+    let place : (band : Band) × LiesIn t band k = some_band t k h in
+    subst (λ b. LiesIn t b k) (sym (band_at-is t place.0 k place.1)) place.1
 
 pub low-number : (band : Band) → is_low band ≡ (number band == 9)
 low-number Hl1 = refl

@@ -8,3 +8,5 @@ pub mod Values
 pub mod Positions
 pub mod Parts
 pub mod OneReading
+pub mod Making
+pub mod Said

@@ -1,15 +1,17 @@
 -- What the passes of a component leave.
-use Rattle.std.proofs.Common.{◌≡◌, inl, inr, ℕ, ◌<◌, Bool, true, false, ℤ, pos, negsuc, ◌+ℤ◌, List, [], length, min, replicate, refl, sym, ap, subst, ◌∙◌, arith}
+use Rattle.std.proofs.Common.{Ok, ◌≡◌, inl, inr, ℕ, ◌<◌, Bool, true, false, ℤ, pos, negsuc, ◌+ℤ◌, List, [], length, min, replicate, refl, sym, ap, subst, ◌∙◌, arith}
 use Rattle.std.proofs.Math.IntN.{+ℤ_idl}
 use Rattle.std.proofs.lemmas.Int.{ints}
 use Rattle.std.proofs.lemmas.List.{length-replicate, get_or-replicate}
 use Rattle.gfx_srl.specs.Steps.{HasRead}
 use Rattle.gfx_srl.proofs.Reading.{says}
+use Rattle.gfx_dwt.specs.declared.layout.Transform.{Transform}
 use Rattle.gfx_dwt.specs.Ranges.{IsCoefficient, at}
 use Rattle.gfx_quant.specs.Coefficient.{cut, is_coefficient}
+use Rattle.gfx_quant.specs.Planes.{Dequantises}
 use Rattle.gfx_tile_state.specs.declared.entries.Readers.{Readers}
 use Rattle.gfx_tile_state.specs.Entries.{Pass, AreEntries, Upgraded, pairs_from, raw_from, sum_after}
-use Rattle.gfx_tile_state.specs.Passes.{FitsOnto, LeavesKept, LeavesIt, IsSound, blank, added}
+use Rattle.gfx_tile_state.specs.Passes.{FitsOnto, LeavesKept, LeavesIt, StaysIn, IsSound, Part, ReadsFirst, TakesFirst, blank, added, summed}
 use Rattle.gfx_tile_state.specs.Shape.{AreAtMost, AreWithin}
 use Rattle.gfx_tile_state.proofs.Places.{at-added, length-added, is-coefficient, tests}
 
@@ -57,6 +59,18 @@ coefficients-small kept sums out positions sound e k h =
     let long : length kept ≡ length sums = sound.kept_whole ∙ sym sound.sums_whole in
     let below : k < length kept = omega (arith, ap length e, length-added kept sums long) in
     subst IsCoefficient (sym (ap (λ l. at l k) e ∙ at-added kept sums k long below)) (is-coefficient (at kept k +ℤ at sums k) (sound.fits k (omega (arith, sound.kept_whole))))
+
+-- sums that are a plane of coefficients, which fits onto what is kept, stay in range
+pub stays-in : (kept sums plane : List ℤ) → sums ≡ plane → length plane ≡ 4096 → FitsOnto kept plane → ((k : ℕ) → k < length plane → IsCoefficient (at plane k)) → StaysIn kept (at sums)
+stays-in kept sums plane same long fits small k h =
+    (ap (λ l. is_coefficient (at l k)) same ∙ tests (at plane k) (small k (omega arith)), ap (λ l. is_coefficient (at kept k +ℤ at l k)) same ∙ fits k h)
+
+-- a first pass was taken
+pub takes-first : (done : Unit {0}) (t : Transform) (positions bytes : List ℕ) (kept plane : List ℤ) (old new : Part) → ReadsFirst (Ok done) t positions bytes plane
+    → new.kept ≡ kept → new.sums ≡ plane → new.positions ≡ positions → length plane ≡ 4096 → FitsOnto kept plane → ((k : ℕ) → k < length plane → IsCoefficient (at plane k))
+    → TakesFirst (Ok done) t positions bytes kept old new
+takes-first done t positions bytes kept plane old new read on same place long fits small =
+    (read.0, read.1, subst (Dequantises t positions (summed t read.0)) (sym same) read.2, on, place, ap length same ∙ long, stays-in kept new.sums plane same long fits small)
 
 -- ---- an upgrade
 

@@ -20,7 +20,7 @@ unfolding total running
 running-last sum [] x = refl
 running-last sum (y ∷ xs) x = ap (λ l. (sum +ℤ y) ∷ l) (running-last (sum +ℤ y) xs x)
 
-running-length : (sum : ℤ) (xs : List ℤ) → length (running sum xs) ≡ length xs
+pub running-length : (sum : ℤ) (xs : List ℤ) → length (running sum xs) ≡ length xs
 unfolding running
 running-length sum [] = refl
 running-length sum (x ∷ xs) = ap suc (running-length (sum +ℤ x) xs)

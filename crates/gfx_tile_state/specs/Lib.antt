@@ -3,3 +3,4 @@ pub mod Passes
 pub mod Record
 pub mod Shape
 pub mod Shapes
+pub mod Making

@@ -45,6 +45,10 @@ coefficients part = added part.kept part.sums
 abbrev pub LeavesIt : List ℤ → (ℕ → ℤ) → Type 0
 LeavesIt kept sum = (k : ℕ) × (k < 4096) × ((is_coefficient (sum k) ≡ false) ⊎ (is_coefficient (at kept k +ℤ sum k) ≡ false))
 
+-- or nowhere is either
+abbrev pub StaysIn : List ℤ → (ℕ → ℤ) → Type 0
+StaysIn kept sum = (k : ℕ) → k < 4096 → (is_coefficient (sum k) ≡ true) × (is_coefficient (at kept k +ℤ sum k) ≡ true)
+
 -- why a first pass is refused: its data, a value without a coefficient, or a place that leaves the range
 abbrev pub FirstRefused : Transform → List ℕ → List ℕ → List ℤ → Type 0
 FirstRefused t positions bytes kept =
@@ -52,17 +56,19 @@ FirstRefused t positions bytes kept =
     ⊎ ((values : List ℤ) × Rlgr bytes (Ok values)
     × (LeavesRange t positions (summed t values) ⊎ ((sums : List ℤ) × Dequantises t positions (summed t values) sums × LeavesIt kept (at sums))))
 
--- a first pass over a kept plane: the sums are the coefficients of its values, 4,096 of them
+-- a first pass over a kept plane: the sums are the coefficients of its values, 4,096 of them, and stay in range
 abbrev pub TakesFirst : Result (Unit {0}) Refusal → Transform → List ℕ → List ℕ → List ℤ → Part → Part → Type 0
 TakesFirst (Ok done) t positions bytes kept old new =
     (values : List ℤ) × Rlgr bytes (Ok values) × Dequantises t positions (summed t values) new.sums × (new.kept ≡ kept) × (new.positions ≡ positions) × (length new.sums ≡ 4096)
+    × StaysIn kept (at new.sums)
 TakesFirst (Err refusal) t positions bytes kept old new = (refusal ≡ CoefficientRange) × FirstRefused t positions bytes kept × (new ≡ old)
 
--- an upgrade: each of the 4,096 sums with what the pass adds to it
+-- an upgrade: each of the 4,096 sums with what the pass adds to it, and all stay in range
 abbrev pub Upgrades : Result (Unit {0}) Refusal → Pass → List ℕ → Part → Part → Type 0
 Upgrades (Ok done) pass positions old new =
     (entries : List ℤ) × AreEntries pass entries × ((k : ℕ) → k < 4096 → at new.sums k ≡ sum_after pass entries k) × (new.kept ≡ old.kept) × (new.positions ≡ positions)
     × (length new.sums ≡ 4096)
+    × StaysIn old.kept (at new.sums)
 Upgrades (Err refusal) pass positions old new =
     (refusal ≡ CoefficientRange) × ((entries : List ℤ) × AreEntries pass entries × LeavesIt old.kept (sum_after pass entries)) × (new ≡ old)
 

@@ -13,7 +13,9 @@ mod shape;
 mod state;
 mod upgrading;
 
-pub use laws::one_reading;
+pub use laws::{
+    a_first_pass_is, an_upgrade_is, may_add_is, may_upgrade_is, one_reading, what_data_say,
+};
 pub use part::Part;
 pub use shape::PassShape;
 pub use state::TileState;

@@ -1,5 +1,5 @@
 use Rattle.std.proofs.Common.{refl, arith}
-use Rattle.gfx_tile_make.proofs.Records.{ends}
+use Rattle.gfx_tile_state.proofs.Bands.{ends}
 use Rattle.gfx_tile_make.proofs.Places.{more-bands}
 use Rattle.gfx_tile_make.proofs.fitting.plane_fits.Goals as goal
 

@@ -1,11 +1,10 @@
 use Rattle.std.proofs.Common.{◌≡◌, ◌∙◌, ◌+◌, ap, sym, subst, arith}
 use Rattle.std.specs.Prelude.{◌==◌, slice_index}
 use Rattle.gfx_dwt.specs.Place.{start}
-use Rattle.gfx_tile_state.proofs.Bands.{band_at-is, front, front-more, low-number, whole}
+use Rattle.gfx_tile_state.proofs.Bands.{band_at-is, ends, front, front-more, low-number, whole}
 use Rattle.gfx_tile_make.specs.Upgrade.{entries_of}
 use Rattle.gfx_tile_make.specs.Writing.{HasPassed, upgrade_by}
 use Rattle.gfx_tile_make.proofs.ReadBack.{band-due}
-use Rattle.gfx_tile_make.proofs.Records.{ends}
 use Rattle.gfx_tile_make.proofs.passing.write_plane.Goals as goal
 
 pub loop-index-preserved : goal.loop-index-preserved

@@ -1,0 +1,294 @@
+-- Steps over a list, one after another, and the answers of calls.
+use Rattle.std.proofs.Common.{◌≡◌, ◌∙◌, ap, sym, refl, subst, ℕ, ◌<◌, ◌≤◌, ◌+◌, List, [], ◌∷◌, drop, length, get_or, Result, Ok, Err, Option, Some, None, Bool, T, is_some}
+use Rattle.std.specs.Prelude.{IfSome, IsSome, IsSomeAnd, false, not, true}
+use Rattle.std.specs.FinMap.{get, insert, len}
+use Rattle.std.specs.Borrow.{Bor}
+use Rattle.std.specs.Option.{ok_or, option_copied}
+use Rattle.std.proofs.lemmas.List.{drop_more, drop_all}
+use Rattle.gfx_base.specs.Outcome.{Applies, Gives, Says}
+use Rattle.gfx_base.specs.Results.{and_then, check}
+use Rattle.gfx_base.specs.declared.answer.Cause.{Cause}
+use Rattle.gfx_base.specs.declared.answer.Cause.TheVariants.{Memory, Refused}
+use Rattle.gfx_base.specs.declared.refusal.Refusal.{Refusal}
+use Rattle.gfx_base.specs.declared.refusal.Refusal.TheVariants.{NoFirstPass, QuantRange}
+use Rattle.gfx_base.proofs.ResultLemmas.{and_then_at, and_then_refused}
+use Rattle.gfx_dwt.specs.declared.layout.Transform.{Transform}
+use Rattle.gfx_surface.specs.Picture.{Picture, IsPicture}
+use Rattle.gfx_prog_block.specs.declared.area.Area.{Area}
+use Rattle.gfx_prog_block.specs.declared.block.Block.{Block}
+use Rattle.gfx_prog_block.specs.declared.region.Region.{Region as RegionRead}
+use Rattle.gfx_prog_block.specs.declared.tile.FirstPass.{FirstPass}
+use Rattle.gfx_prog_block.specs.declared.tile.TileHead.{TileHead}
+use Rattle.gfx_prog_block.specs.declared.tile.UpgradePass.{UpgradePass}
+use Rattle.gfx_prog_block.specs.Reading.{blocks_of}
+use Rattle.gfx_tile_state.specs.Record.{fits_transform}
+use Rattle.gfx_tile_state.specs.declared.state.TileState.{TileState}
+use Rattle.gfx_prog_decode.specs.declared.key.Key.{Key}
+use Rattle.gfx_prog_decode.specs.declared.key.Place.{Place}
+use Rattle.gfx_prog_decode.specs.declared.saved.Saved.{Saved}
+use Rattle.gfx_prog_decode.specs.Coding.{Coding, are_bases, coding_of}
+use Rattle.gfx_prog_decode.specs.Inside.{Begins, Passes}
+use Rattle.gfx_prog_decode.specs.Passes.{improved, may_start, start_of, started}
+use Rattle.gfx_prog_decode.specs.Progressive.{after_block, after_first, after_message, after_region, after_tile, after_upgrade, found, is_difference, key_of, with_tile}
+use Rattle.gfx_prog_decode.specs.Records.{Records}
+use Rattle.gfx_prog_decode.specs.Scene.{Scene, in_turn, scene}
+use Rattle.gfx_prog_decode.specs.Showing.{shown_in}
+use Rattle.gfx_prog_decode.specs.Undo.{IsUndoable, Keeps, StaysUndoable, undone}
+use Rattle.gfx_prog_decode.proofs.Keys.{get-inserted}
+use Rattle.gfx_prog_decode.proofs.Tiles.{begun_alike}
+use Rattle.gfx_prog_decode.proofs.Undoing.{only_insert, only_self, only_shown}
+
+-- ---- a loop over a list
+
+module _ {X : Type 0} (step : X → Scene → Result Scene Refusal) where
+  -- what all make of the first scene is what the rest makes of the scene now
+  abbrev pub SoFar : List X → Scene → ℕ → Scene → Type 0
+  SoFar all old i now = in_turn step all old ≡ in_turn step (drop i all) now
+
+  -- one more step, whatever it gives
+  one_more : (all : List X) (now : Scene) (i : ℕ) (d : X) (due : Result Scene Refusal) → i < length all → step (get_or all i d) now ≡ due
+      → in_turn step (drop i all) now ≡ and_then due (in_turn step (drop (i + 1) all))
+  unfolding in_turn
+  one_more all now i d due below did =
+      ap (λ rest. in_turn step rest now) (drop_more all i d below) ∙ ap (λ r. and_then r (in_turn step (drop (i + 1) all))) did
+
+  pub so_more : (all : List X) (old now next : Scene) (i : ℕ) (d : X) → i < length all → step (get_or all i d) now ≡ Ok next
+      → SoFar all old i now → SoFar all old (i + 1) next
+  unfolding and_then
+  so_more all old now next i d below did so = so ∙ one_more all now i d (Ok next) below did
+
+  pub so_ended : (all : List X) (old now : Scene) (i : ℕ) → length all ≤ i → SoFar all old i now → in_turn step all old ≡ Ok now
+  unfolding in_turn
+  so_ended all old now i end so = so ∙ ap (λ rest. in_turn step rest now) (drop_all i all end)
+
+  -- where a step gives none
+  pub so_failed : (fault : Cause Refusal) (all : List X) (old now mid new : Scene) (i : ℕ) (d : X) → i < length all
+      → Gives {X = Unit {0}} (λ _. mid) (Err fault) (step (get_or all i d) now) → SoFar all old i now → Gives {X = Unit {0}} (λ _. new) (Err fault) (in_turn step all old)
+  unfolding and_then
+  so_failed Memory all old now mid new i d below did so = tt
+  so_failed (Refused refusal) all old now mid new i d below did so = so ∙ one_more all now i d (Err refusal) below did
+
+-- ---- what can still be undone
+
+-- step after step
+pub still : (one two three : List Saved) (a b c : Scene) → StaysUndoable one a two b → StaysUndoable two b three c → StaysUndoable one a three c
+still one two three a b c first then before u = then before (first before u)
+
+-- ---- the whole message
+
+-- a message that is refused, or for which memory is wanting, is undone
+pub undone_applies : (fault : Cause Refusal) (due : Result Scene Refusal) (old now new : Scene) (log : List Saved)
+    → Gives {X = Unit {0}} (λ _. now) (Err fault) due → IsUndoable old log now → new ≡ undone log now → Applies (Err fault) old new due
+undone_applies Memory due old now new log told u is = is ∙ u.back
+undone_applies (Refused refusal) due old now new log told u is = (told, is ∙ u.back)
+
+-- ---- a pass of a key's record
+
+module _ (key : Key) (begun after : Records) where
+  -- the record that is there is the one that it is told of
+  pub of_found : (found : Option TileState) (tile : TileState) (result : Result (Unit {0}) Refusal) (due : TileState → Result TileState Refusal) → found ≡ Some tile
+      → IfSome found (λ t. Passes result (due t) key begun after) → Passes result (due tile) key begun after
+  of_found found tile result due is passes = subst (λ o. IfSome o (λ t. Passes result (due t) key begun after)) is passes
+
+  -- what was drawn is the record that it left
+  pub drawn_left : (tile : TileState) (old new : Picture) (areas : List Area) → after ≡ insert begun key tile
+      → IfSome (get after key) (λ t. new ≡ shown_in old key areas t) → new ≡ shown_in old key areas tile
+  drawn_left tile old new areas left shown =
+      subst (λ o. IfSome o (λ t. new ≡ shown_in old key areas t)) (ap (λ r. get r key) left ∙ get-inserted begun key tile) shown
+
+-- the answer of a pass, told of the scene
+pub refused_by : (due : Result TileState Refusal) (view : TileState → Scene) (refusal : Refusal) → due ≡ Err refusal → and_then due (λ tile. Ok (view tile)) ≡ Err refusal
+refused_by due view refusal is = and_then_refused due refusal (λ tile. Ok (view tile)) is
+
+pub left_by : (due : Result TileState Refusal) (view : TileState → Scene) (tile : TileState) (new : Scene) → due ≡ Ok tile → new ≡ view tile → and_then due (λ tile. Ok (view tile)) ≡ Ok new
+left_by due view tile new is shows = and_then_at due tile (λ tile. Ok (view tile)) is ∙ ap Ok (sym shows)
+
+-- ---- a simple or first tile
+
+module _ (place : Place) (region : RegionRead) (head : TileHead) (flags quality : ℕ) (pass : FirstPass) (old : Scene) where
+  abbrev key : Key
+  key = key_of place head
+
+  abbrev pub first_coding : Result Coding Refusal
+  first_coding = coding_of region old.picture.width old.picture.height head quality
+
+  -- its head is refused
+  pub first_uncoded : (refusal : Refusal) → first_coding ≡ Err refusal → after_first place region head flags quality pass old ≡ Err refusal
+  unfolding after_first
+  first_uncoded refusal is = and_then_refused first_coding refusal _ is
+
+  module _ (coding : Coding) (coded : first_coding ≡ Ok coding) where
+    abbrev pub first_may : Result (Unit {0}) Refusal
+    first_may = may_start (is_difference flags) (found old key) (len old.records) coding.transform
+
+    -- it may not begin
+    pub first_unstarted : (refusal : Refusal) → first_may ≡ Err refusal → after_first place region head flags quality pass old ≡ Err refusal
+    unfolding after_first
+    first_unstarted refusal is = and_then_at first_coding coding _ coded ∙ and_then_refused first_may refusal _ is
+
+    -- it is what its pass gives
+    pub first_is : first_may ≡ Ok tt → after_first place region head flags quality pass old
+        ≡ and_then (started (is_difference flags) coding pass (start_of (found old key))) (λ tile. Ok (with_tile old key region.rects tile))
+    unfolding after_first
+    first_is may = and_then_at first_coding coding _ coded ∙ and_then_at first_may tt _ may
+
+    -- its pass is refused
+    pub first_refused : (begun after : Records) (refusal : Refusal) → first_may ≡ Ok tt → Begins key old.records begun
+        → IfSome (get begun key) (λ tile. Passes (Err refusal) (started (is_difference flags) coding pass tile) key begun after)
+        → after_first place region head flags quality pass old ≡ Err refusal
+    first_refused begun after refusal may begins passes =
+        let p = of_found key begun after (get begun key) (start_of (found old key)) (Err refusal) (started (is_difference flags) coding pass) begins.stands passes in
+        first_is may ∙ refused_by (started (is_difference flags) coding pass (start_of (found old key))) (with_tile old key region.rects) refusal p.1
+
+    -- it is kept and drawn
+    pub first_done : (begun after : Records) (new : Picture) → first_may ≡ Ok tt → Begins key old.records begun
+        → IfSome (get begun key) (λ tile. Passes (Ok tt) (started (is_difference flags) coding pass tile) key begun after)
+        → IfSome (get after key) (λ t. new ≡ shown_in old.picture key region.rects t)
+        → after_first place region head flags quality pass old ≡ Ok (scene after new)
+    first_done begun after new may begins passes shown =
+        let p = of_found key begun after (get begun key) (start_of (found old key)) (Ok tt) (started (is_difference flags) coding pass) begins.stands passes in
+        let left : after ≡ insert old.records key p.0 = p.2 ∙ begins.same p.0 in
+        first_is may
+        ∙ left_by (started (is_difference flags) coding pass (start_of (found old key))) (with_tile old key region.rects) p.0 (scene after new) p.1
+        (λ i. scene (left i) (drawn_left key old.records after p.0 old.picture new region.rects left shown i))
+
+-- ---- an upgrade tile
+
+module _ (place : Place) (region : RegionRead) (head : TileHead) (quality : ℕ) (pass : UpgradePass) (old : Scene) where
+  abbrev the_key : Key
+  the_key = key_of place head
+
+  abbrev pub upgrade_coding : Result Coding Refusal
+  upgrade_coding = coding_of region old.picture.width old.picture.height head quality
+
+  -- its head is refused
+  pub upgrade_uncoded : (refusal : Refusal) → upgrade_coding ≡ Err refusal → after_upgrade place region head quality pass old ≡ Err refusal
+  unfolding after_upgrade
+  upgrade_uncoded refusal is = and_then_refused upgrade_coding refusal _ is
+
+  module _ (coding : Coding) (coded : upgrade_coding ≡ Ok coding) where
+    -- there is no record
+    pub upgrade_unfounded : found old the_key ≡ None → after_upgrade place region head quality pass old ≡ Err NoFirstPass
+    unfolding after_upgrade
+    upgrade_unfounded none = and_then_at upgrade_coding coding _ coded ∙ and_then_refused (ok_or (found old the_key) NoFirstPass) NoFirstPass _ (ap (λ o. ok_or o NoFirstPass) none)
+
+    -- it is what its pass gives
+    pub upgrade_is : (before : TileState) → found old the_key ≡ Some before → after_upgrade place region head quality pass old
+        ≡ and_then (improved coding pass before) (λ tile. Ok (with_tile old the_key region.rects tile))
+    unfolding after_upgrade
+    upgrade_is before there = and_then_at upgrade_coding coding _ coded ∙ and_then_at (ok_or (found old the_key) NoFirstPass) before _ (ap (λ o. ok_or o NoFirstPass) there)
+
+    -- its pass is refused
+    pub upgrade_refused : (before : Option TileState) (after : Records) (refusal : Refusal) → found old the_key ≡ before → IsSome before
+        → IfSome before (λ tile. Passes (Err refusal) (improved coding pass tile) the_key old.records after)
+        → after_upgrade place region head quality pass old ≡ Err refusal
+    upgrade_refused None after refusal is some passes = absurd (subst (λ b. T b) (sym some) tt)
+    upgrade_refused (Some tile) after refusal is some (next, says, left) =
+        upgrade_is tile is ∙ refused_by (improved coding pass tile) (with_tile old the_key region.rects) refusal says
+
+    -- it is kept and drawn
+    pub upgrade_done : (before : Option TileState) (after : Records) (new : Picture) → found old the_key ≡ before → IsSome before
+        → IfSome before (λ tile. Passes (Ok tt) (improved coding pass tile) the_key old.records after)
+        → IfSome (get after the_key) (λ t. new ≡ shown_in old.picture the_key region.rects t)
+        → after_upgrade place region head quality pass old ≡ Ok (scene after new)
+    upgrade_done None after new is some passes shown = absurd (subst (λ b. T b) (sym some) tt)
+    upgrade_done (Some tile) after new is some (next, says, left) shown =
+        upgrade_is tile is
+        ∙ left_by (improved coding pass tile) (with_tile old the_key region.rects) next (scene after new) says
+        (λ i. scene (left i) (drawn_left the_key old.records after next old.picture new region.rects left shown i))
+
+-- ---- what a tile leaves can be undone
+
+-- whatever came of its pass
+pub pass_undone : (key : Key) (records begun after : Records) (result : Result (Unit {0}) Refusal) (due : Result TileState Refusal) (picture : Picture) (log more : List Saved)
+    → IsPicture picture → ((tile : TileState) → insert begun key tile ≡ insert records key tile)
+    → Passes result due key begun after → Keeps key (scene records picture) log more → StaysUndoable log (scene records picture) more (scene after picture)
+pass_undone key records begun after result due picture log more shape same (next, says, left) keeps =
+    subst (λ r. StaysUndoable log (scene records picture) more (scene r picture)) (sym (left ∙ same next))
+    (keeps (scene (insert records key next) picture) (only_insert key records next picture shape))
+
+-- and once it is drawn
+pub shown_undone : (key : Key) (records after : Records) (tile : TileState) (old new : Picture) (areas : List Area) (log more : List Saved)
+    → after ≡ insert records key tile → new ≡ shown_in old key areas tile
+    → Keeps key (scene records old) log more → StaysUndoable log (scene records old) more (scene after new)
+shown_undone key records after tile old new areas log more left drawn keeps =
+    subst (StaysUndoable log (scene records old) more) (λ i. scene (sym left i) (sym drawn i))
+    (keeps (scene (insert records key tile) (shown_in old key areas tile)) (only_shown key records tile old areas))
+
+-- a difference tile may be taken in place
+pub may_begin : (key : Key) (records begun : Records) (difference : Bool) (count : ℕ) (t : Transform) → Begins key records begun
+    → Ok tt ≡ may_start difference (get records key) count t
+    → IsSomeAnd (get begun key) (λ tile. difference ≡ true → fits_transform tile.transform t ≡ true)
+may_begin key records begun difference count t begins may =
+    subst (λ o. IsSomeAnd o (λ tile. difference ≡ true → fits_transform tile.transform t ≡ true)) (sym begins.stands)
+    (begun_alike (get records key) count t difference may)
+
+-- whether a record was found
+pub not_found : (o : Option (Bor TileState)) (b : Bool) (found : Option TileState) → is_some o ≡ not b → b ≡ true → option_copied o ≡ found → found ≡ None
+not_found None b found is none copied = sym copied
+not_found (Some tile) b found is none copied = absurd (subst (λ z. T z) (is ∙ ap not none) tt)
+
+pub was_found : (o : Option (Bor TileState)) (b : Bool) (found : Option TileState) → is_some o ≡ not b → b ≡ false → option_copied o ≡ found → IsSome found
+was_found None b found is some copied = absurd (subst (λ z. T z) (sym (is ∙ ap not some)) tt)
+was_found (Some tile) b found is some copied = ap is_some (sym copied)
+
+-- the answer of a pass of a record that was found, and what it leaves can be undone
+pub found_undone : (key : Key) (records after : Records) (before : Option TileState) (result : Result (Unit {0}) Refusal) (due : TileState → Result TileState Refusal) (picture : Picture)
+    (log more : List Saved) → IsPicture picture → IsSome before → IfSome before (λ tile. Passes result (due tile) key records after)
+    → Keeps key (scene records picture) log more → StaysUndoable log (scene records picture) more (scene after picture)
+found_undone key records after None result due picture log more shape some passes keeps = absurd (subst (λ b. T b) (sym some) tt)
+found_undone key records after (Some tile) result due picture log more shape some passes keeps =
+    pass_undone key records records after result (due tile) picture log more shape (λ t. refl) passes keeps
+
+pub found_shown : (key : Key) (records begun after : Records) (before : Option TileState) (due : TileState → Result TileState Refusal) (old new : Picture) (areas : List Area)
+    (log more : List Saved) → ((tile : TileState) → insert begun key tile ≡ insert records key tile) → IsSome before → IfSome before (λ tile. Passes (Ok tt) (due tile) key begun after)
+    → IfSome (get after key) (λ t. new ≡ shown_in old key areas t)
+    → Keeps key (scene records old) log more → StaysUndoable log (scene records old) more (scene after new)
+found_shown key records begun after None due old new areas log more same some passes shown keeps = absurd (subst (λ b. T b) (sym some) tt)
+found_shown key records begun after (Some tile) due old new areas log more same some (next, says, left) shown keeps =
+    shown_undone key records after next old new areas log more (left ∙ same next) (drawn_left key begun after next old new areas left shown) keeps
+
+-- a record that was begun is there
+pub begun_there : (key : Key) (records begun : Records) → Begins key records begun → IsSome (get begun key)
+begun_there key records begun begins = ap is_some begins.stands
+
+pub begun_undone : (key : Key) (records begun after : Records) (result : Result (Unit {0}) Refusal) (due : TileState → Result TileState Refusal) (picture : Picture)
+    (log more : List Saved) → IsPicture picture → Begins key records begun → IfSome (get begun key) (λ tile. Passes result (due tile) key begun after)
+    → Keeps key (scene records picture) log more → StaysUndoable log (scene records picture) more (scene after picture)
+begun_undone key records begun after result due picture log more shape begins passes keeps =
+    pass_undone key records begun after result (due (start_of (get records key))) picture log more shape begins.same
+    (of_found key begun after (get begun key) (start_of (get records key)) result due begins.stands passes) keeps
+
+-- nothing was done yet
+pub self_undone : (key : Key) (records after : Records) (picture : Picture) (log more : List Saved) → IsPicture picture → after ≡ records
+    → Keeps key (scene records picture) log more → StaysUndoable log (scene records picture) more (scene after picture)
+self_undone key records after picture log more shape same keeps =
+    subst (λ r. StaysUndoable log (scene records picture) more (scene r picture)) (sym same) (keeps (scene records picture) (only_self key (scene records picture) shape))
+
+-- ---- a region
+
+-- a base is wrong
+pub region_unbased : (place : Place) (region : RegionRead) (old : Scene) (refusal : Refusal) → Err refusal ≡ check QuantRange (are_bases region.quants) → after_region place region old ≡ Err refusal
+unfolding after_region
+region_unbased place region old refusal is = and_then_refused (check QuantRange (are_bases region.quants)) refusal _ (sym is)
+
+-- or its tiles are what it gives
+pub region_gives : (place : Place) (region : RegionRead) (old : Scene) (result : Result (Unit {0}) (Cause Refusal)) (new : Scene) → Ok tt ≡ check QuantRange (are_bases region.quants)
+    → Gives {X = Unit {0}} (λ _. new) result (in_turn (after_tile place region) region.tiles old) → Gives {X = Unit {0}} (λ _. new) result (after_region place region old)
+unfolding after_region
+region_gives place region old result new is gives =
+    subst (Gives {X = Unit {0}} (λ _. new) result) (sym (and_then_at (check QuantRange (are_bases region.quants)) tt (λ _. in_turn (after_tile place region) region.tiles old) (sym is))) gives
+
+-- ---- the data
+
+pub data_unread : (place : Place) (bytes : List ℕ) (fault : Cause Refusal) (blocks : Result (List Block) Refusal) (old new : Scene) → blocks_of bytes ≡ blocks
+    → Gives {X = List Block} (λ all. all) (Err fault) blocks → new ≡ old → Applies (Err fault) old new (after_message place bytes old)
+unfolding after_message
+data_unread place bytes Memory blocks old new is told same = same
+data_unread place bytes (Refused refusal) blocks old new is told same = (and_then_refused (blocks_of bytes) refusal _ (is ∙ told), same)
+
+pub data_read : (place : Place) (bytes : List ℕ) (all : List Block) (result : Result (Unit {0}) (Cause Refusal)) (old new : Scene) → blocks_of bytes ≡ Ok all
+    → Applies result old new (in_turn (after_block place) all old) → Applies result old new (after_message place bytes old)
+unfolding after_message
+data_read place bytes all result old new is applies =
+    subst (Applies result old new) (sym (and_then_at (blocks_of bytes) all (λ all. in_turn (after_block place) all old) is)) applies

@@ -1,0 +1,14 @@
+use Rattle.gfx_prog_decode.specs.Inside.{IsCanvas}
+use Rattle.gfx_prog_decode.specs.Progressive.{after_block}
+use Rattle.gfx_prog_decode.specs.Scene.{scene}
+use Rattle.gfx_prog_decode.specs.Undo.{StaysUndoable}
+use Rattle.gfx_prog_decode.proofs.Steps.{SoFar}
+use Rattle.gfx_prog_decode.proofs.applying.apply_blocks.Given as goal
+
+-- what the blocks so far made, and that it can be undone
+abbrev pub invariant-all : goal.invariant-all
+invariant-all l = record {
+  so : SoFar (after_block l.place) l.blocks (scene l.initial.records l.initial.surface) l.block-index (scene l.records l.surface);
+  undo : StaysUndoable l.initial.log.items (scene l.initial.records l.initial.surface) l.log.items (scene l.records l.surface);
+  drawing : IsCanvas l.canvas;
+}

@@ -1,0 +1,76 @@
+-- How records are kept, and what the calls between them hand on.
+use Rattle.std.specs.Prelude.{◌≡◌, ℕ, ◌+◌, ◌-◌, min, max, Bool, ◌&&◌, IsTrue, if◌then◌else◌, List, Option, Some, None, Result, Ok, Err}
+use Rattle.std.specs.FinMap as finmap
+use Rattle.std.specs.FinMap.{from_entries}
+use Rattle.gfx_base.specs.declared.format.Format.TheVariants.{Argb}
+use Rattle.gfx_base.specs.declared.geometry.Rect.{Rect}
+use Rattle.gfx_base.specs.declared.refusal.Refusal.{Refusal}
+use Rattle.gfx_base.specs.Geometry.{holds}
+use Rattle.gfx_base.specs.Outcome.{Says}
+use Rattle.gfx_prog_block.specs.declared.area.Area.{Area}
+use Rattle.gfx_quant.specs.declared.setting.Level.{Level}
+use Rattle.gfx_quant.specs.Quant.{is_base}
+use Rattle.gfx_surface.specs.Picture.{Picture, pixel_at, redrawn, shade}
+use Rattle.gfx_tile_state.specs.declared.shape.PassShape.{PassShape}
+use Rattle.gfx_tile_state.specs.declared.state.TileState.{TileState}
+use Rattle.gfx_prog_decode.specs.declared.key.Key.{Key}
+use Rattle.gfx_prog_decode.specs.declared.records.Records.TheInside.{Inside}
+use Rattle.gfx_prog_decode.specs.Coding.{Coding, Numbers}
+use Rattle.gfx_prog_decode.specs.Passes.{start_of}
+use Rattle.gfx_prog_decode.specs.Records.{Records}
+use Rattle.gfx_prog_decode.specs.Showing.{covered, has_pixel}
+
+-- the map that the entries stand for
+abbrev pub records_of : Inside → Records
+records_of a = from_entries a.tiles.entries
+
+-- a key has a record, which is before its first pass where the key had none; all else is as it was
+pub record Begins (key : Key) (old new : Records) : Type 0 where
+  pub stands : finmap.get new key ≡ Some (start_of (finmap.get old key))
+  pub same : (tile : TileState) → finmap.insert new key tile ≡ finmap.insert old key tile
+
+-- the coding that a shape says
+abbrev pub coding_seen : PassShape → Coding
+coding_seen shape = record { transform = shape.transform; y = shape.y; cb = shape.cb; cr = shape.cr }
+
+-- the numbers of a level
+abbrev pub level_seen : Level → Numbers
+level_seen level = record { y = level.y.values; cb = level.cb.values; cr = level.cr.values }
+
+-- each component's numbers may be bases
+pub record HaveBases (level : Level) : Type 0 where
+  pub y : IsTrue (is_base level.y.values)
+  pub cb : IsTrue (is_base level.cb.values)
+  pub cr : IsTrue (is_base level.cr.values)
+
+-- a pass of a key's record: whatever comes of it, all else is as it was
+abbrev pub Passes : Result (Unit {0}) Refusal → Result TileState Refusal → Key → Records → Records → Type 0
+Passes result due key old new = (next : TileState) × Says (λ _. next) result due × (new ≡ finmap.insert old key next)
+
+-- a surface of one tile
+pub record IsCanvas (picture : Picture) : Type 0 where
+  pub width : picture.width ≡ 64
+  pub height : picture.height ≡ 64
+  pub format : picture.format ≡ Argb
+
+-- a picture with a canvas drawn where a test holds of a cell's pixels
+abbrev pub canvas_shown : (ℕ → ℕ → Bool) → Picture → Rect → Picture → Picture
+canvas_shown test picture cell canvas =
+    redrawn picture (λ x y. if holds cell x y && test x y then shade picture.format (pixel_at canvas (x - cell.left) (y - cell.top)) else pixel_at picture x y)
+
+-- where an area has it
+abbrev pub area_shown : Picture → Rect → Area → Picture → Picture
+area_shown picture cell area canvas = canvas_shown (λ x y. has_pixel x y area) picture cell canvas
+
+-- where one of these areas has it
+abbrev pub areas_shown : Picture → Rect → List Area → Picture → Picture
+areas_shown picture cell areas canvas = canvas_shown (covered areas) picture cell canvas
+
+-- the part of a cell that an area has; it may be upside down. No cell reaches past 65,535
+abbrev pub overlap : Rect → Area → Rect
+overlap cell area = record {
+  left = max cell.left area.x;
+  top = max cell.top area.y;
+  right = min cell.right (min (area.x + area.width) 65535);
+  bottom = min cell.bottom (min (area.y + area.height) 65535);
+}

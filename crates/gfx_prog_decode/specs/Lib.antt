@@ -1,0 +1,10 @@
+pub mod Codes
+pub mod Records
+pub mod Coding
+pub mod Passes
+pub mod Showing
+pub mod Scene
+pub mod Progressive
+pub mod Undo
+pub mod Inside
+pub mod Lending

@@ -1,0 +1,320 @@
+//! The data of a message, applied block after block. Where a step gives no answer, the caller undoes the message.
+ghost use Rattle.std.specs.Prelude.{◌≡◌, IfSome, IsSome, IsSomeAnd, IsTrue, true};
+ghost use Rattle.std.specs.FinMap as finmap;
+ghost use Rattle.gfx_base.specs.Outcome.{Applies, Gives};
+ghost use Rattle.gfx_prog_decode.specs.Coding.{are_bases, begins_in};
+ghost use Rattle.gfx_prog_decode.specs.Inside.{IsCanvas, Passes, coding_seen};
+ghost use Rattle.gfx_prog_decode.specs.Passes.{improved, started};
+ghost use Rattle.gfx_prog_decode.specs.Progressive.{after_block, after_first, after_message, after_region, after_tile, after_upgrade};
+ghost use Rattle.gfx_prog_decode.specs.Scene.{in_turn, scene};
+ghost use Rattle.gfx_prog_decode.specs.Showing.{shown_in};
+ghost use Rattle.gfx_prog_decode.specs.Undo.{StaysUndoable};
+ghost use Rattle.gfx_tile_state.specs.Record.{fits_transform};
+
+use crate::coding::{check_bases, shape_of};
+use crate::key::{Key, Place};
+use crate::log::{keep, undo};
+use crate::passing::{check_start, improve_tile, start_tile};
+use crate::records::Records;
+use crate::saved::Saved;
+use crate::showing::{canvas, show};
+use gfx_base::{Fault, Refusal};
+use gfx_prog_block::{
+    Area, Block, DIFFERENCE, FirstPass, NO_QUALITY, Region, Tile, TileHead, UpgradePass,
+    read_blocks,
+};
+use gfx_surface::Surface;
+use gfx_tile_state::PassShape;
+use std::alloc::Global;
+
+/// Applies the data of a message. Any fault leaves records and surface as they were.
+pub(crate) fn apply_data(
+    alloc: Global,
+    records: &mut Records,
+    surface: &mut Surface,
+    place: Place,
+    bytes: &[u8],
+) -> Result<(), Fault>
+    ensures { Applies result (scene records.old surface.old) (scene records.new surface.new) (after_message place bytes.now (scene records.old surface.old)) }
+{
+    let blocks = read_blocks(alloc, bytes)?;
+    let mut canvas = canvas(alloc)?;
+    apply_all(
+        alloc,
+        records,
+        surface,
+        &mut canvas,
+        place,
+        blocks.as_slice(),
+    )
+}
+
+/// Applies blocks, or none of them.
+fn apply_all(
+    alloc: Global,
+    records: &mut Records,
+    surface: &mut Surface,
+    canvas: &mut Surface,
+    place: Place,
+    blocks: &[Block<'_>],
+) -> Result<(), Fault>
+    requires { IsCanvas canvas.old }
+    ensures { Applies result (scene records.old surface.old) (scene records.new surface.new) (in_turn (after_block place) blocks.now (scene records.old surface.old)) }
+{
+    let mut log = Vec::new(alloc);
+    match apply_blocks(alloc, records, surface, canvas, &mut log, place, blocks) {
+        Ok(()) => Ok(()),
+        Err(fault) => {
+            undo(records, surface, log);
+            Err(fault)
+        }
+    }
+}
+
+/// Applies blocks in turn.
+fn apply_blocks(
+    alloc: Global,
+    records: &mut Records,
+    surface: &mut Surface,
+    canvas: &mut Surface,
+    log: &mut Vec<Saved>,
+    place: Place,
+    blocks: &[Block<'_>],
+) -> Result<(), Fault>
+    requires { IsCanvas canvas.old }
+    ensures gives { Gives (λ _. scene records.new surface.new) result (in_turn (after_block place) blocks.now (scene records.old surface.old)) }
+    ensures undo { StaysUndoable log.old.items (scene records.old surface.old) log.new.items (scene records.new surface.new) }
+{
+    'all: for block in blocks {
+        apply_block(alloc, records, surface, canvas, log, place, block)?;
+    }
+    Ok(())
+}
+
+/// Applies a block.
+fn apply_block(
+    alloc: Global,
+    records: &mut Records,
+    surface: &mut Surface,
+    canvas: &mut Surface,
+    log: &mut Vec<Saved>,
+    place: Place,
+    block: &Block<'_>,
+) -> Result<(), Fault>
+    requires { IsCanvas canvas.old }
+    ensures gives { Gives (λ _. scene records.new surface.new) result (after_block place block.now (scene records.old surface.old)) }
+    ensures undo { StaysUndoable log.old.items (scene records.old surface.old) log.new.items (scene records.new surface.new) }
+    ensures canvas { IsCanvas canvas.new }
+{
+    match block {
+        Block::Region(region) => apply_region(alloc, records, surface, canvas, log, place, region),
+        Block::Sync | Block::FrameBegin { .. } | Block::FrameEnd | Block::Context { .. } => Ok(()),
+    }
+}
+
+/// Applies a region.
+fn apply_region(
+    alloc: Global,
+    records: &mut Records,
+    surface: &mut Surface,
+    canvas: &mut Surface,
+    log: &mut Vec<Saved>,
+    place: Place,
+    region: &Region<'_>,
+) -> Result<(), Fault>
+    requires { IsCanvas canvas.old }
+    ensures gives { Gives (λ _. scene records.new surface.new) result (after_region place region.now (scene records.old surface.old)) }
+    ensures undo { StaysUndoable log.old.items (scene records.old surface.old) log.new.items (scene records.new surface.new) }
+    ensures canvas { IsCanvas canvas.new }
+{
+    check_bases(region.quants.as_slice())?;
+    apply_tiles(
+        alloc,
+        records,
+        surface,
+        canvas,
+        log,
+        place,
+        region,
+        region.tiles.as_slice(),
+    )
+}
+
+/// Applies tiles of a region in turn.
+fn apply_tiles(
+    alloc: Global,
+    records: &mut Records,
+    surface: &mut Surface,
+    canvas: &mut Surface,
+    log: &mut Vec<Saved>,
+    place: Place,
+    region: &Region<'_>,
+    tiles: &[Tile<'_>],
+) -> Result<(), Fault>
+    requires canvas { IsCanvas canvas.old }
+    requires bases { IsTrue (are_bases region.now.quants) }
+    ensures gives { Gives (λ _. scene records.new surface.new) result (in_turn (after_tile place region.now) tiles.now (scene records.old surface.old)) }
+    ensures undo { StaysUndoable log.old.items (scene records.old surface.old) log.new.items (scene records.new surface.new) }
+    ensures canvas { IsCanvas canvas.new }
+{
+    'tiles: for tile in tiles {
+        apply_tile(alloc, records, surface, canvas, log, place, region, tile)?;
+    }
+    Ok(())
+}
+
+/// Applies a tile.
+fn apply_tile(
+    alloc: Global,
+    records: &mut Records,
+    surface: &mut Surface,
+    canvas: &mut Surface,
+    log: &mut Vec<Saved>,
+    place: Place,
+    region: &Region<'_>,
+    tile: &Tile<'_>,
+) -> Result<(), Fault>
+    requires canvas { IsCanvas canvas.old }
+    requires bases { IsTrue (are_bases region.now.quants) }
+    ensures gives { Gives (λ _. scene records.new surface.new) result (after_tile place region.now tile.now (scene records.old surface.old)) }
+    ensures undo { StaysUndoable log.old.items (scene records.old surface.old) log.new.items (scene records.new surface.new) }
+    ensures canvas { IsCanvas canvas.new }
+{
+    match tile {
+        Tile::Simple { head, flags, pass } => apply_first(
+            alloc, records, surface, canvas, log, place, region, head, *flags, NO_QUALITY, pass,
+        ),
+        Tile::First {
+            head,
+            flags,
+            quality,
+            pass,
+        } => apply_first(
+            alloc, records, surface, canvas, log, place, region, head, *flags, *quality, pass,
+        ),
+        Tile::Upgrade {
+            head,
+            quality,
+            pass,
+        } => apply_upgrade(
+            alloc, records, surface, canvas, log, place, region, head, *quality, pass,
+        ),
+    }
+}
+
+/// Applies a simple or first tile.
+fn apply_first(
+    alloc: Global,
+    records: &mut Records,
+    surface: &mut Surface,
+    canvas: &mut Surface,
+    log: &mut Vec<Saved>,
+    place: Place,
+    region: &Region<'_>,
+    head: &TileHead,
+    flags: u8,
+    quality: u8,
+    pass: &FirstPass<'_>,
+) -> Result<(), Fault>
+    requires canvas { IsCanvas canvas.old }
+    requires bases { IsTrue (are_bases region.now.quants) }
+    ensures gives { Gives (λ _. scene records.new surface.new) result (after_first place region.now head.now flags quality pass.now (scene records.old surface.old)) }
+    ensures undo { StaysUndoable log.old.items (scene records.old surface.old) log.new.items (scene records.new surface.new) }
+    ensures canvas { IsCanvas canvas.new }
+{
+    let shape = shape_of(region, surface.size(), head, quality)?;
+    let key = place.key(head);
+    let difference = flags % 2 == DIFFERENCE;
+    check_start(
+        difference,
+        records.get(key),
+        records.count(),
+        shape.transform,
+    )?;
+    keep(alloc, log, records, surface, key)?;
+    records.begin(alloc, key)?;
+    start_record(records, key, difference, &shape, pass)?;
+    show_record(records, canvas, surface, key, region.rects.as_slice());
+    Ok(())
+}
+
+/// Applies an upgrade tile.
+fn apply_upgrade(
+    alloc: Global,
+    records: &mut Records,
+    surface: &mut Surface,
+    canvas: &mut Surface,
+    log: &mut Vec<Saved>,
+    place: Place,
+    region: &Region<'_>,
+    head: &TileHead,
+    quality: u8,
+    pass: &UpgradePass<'_>,
+) -> Result<(), Fault>
+    requires canvas { IsCanvas canvas.old }
+    requires bases { IsTrue (are_bases region.now.quants) }
+    ensures gives { Gives (λ _. scene records.new surface.new) result (after_upgrade place region.now head.now quality pass.now (scene records.old surface.old)) }
+    ensures undo { StaysUndoable log.old.items (scene records.old surface.old) log.new.items (scene records.new surface.new) }
+    ensures canvas { IsCanvas canvas.new }
+{
+    let shape = shape_of(region, surface.size(), head, quality)?;
+    let key = place.key(head);
+    if records.get(key).is_none() {
+        return Err(Fault::Refused(Refusal::NoFirstPass));
+    }
+    keep(alloc, log, records, surface, key)?;
+    improve_record(records, key, &shape, pass)?;
+    show_record(records, canvas, surface, key, region.rects.as_slice());
+    Ok(())
+}
+
+/// A first pass of a key's record.
+fn start_record(
+    records: &mut Records,
+    key: Key,
+    difference: bool,
+    shape: &PassShape,
+    pass: &FirstPass<'_>,
+) -> Result<(), Refusal>
+    requires { IsSomeAnd (finmap.get records.old key) (λ tile. difference ≡ true → fits_transform tile.transform shape.now.transform ≡ true) }
+    ensures { IfSome (finmap.get records.old key) (λ tile. Passes result (started difference (coding_seen shape.now) pass.now tile) key records.old records.new) }
+{
+    match records.get_mut(key) {
+        Some(tile) => start_tile(tile, difference, shape, pass),
+        None => Ok(()),
+    }
+}
+
+/// An upgrade of a key's record.
+fn improve_record(
+    records: &mut Records,
+    key: Key,
+    shape: &PassShape,
+    pass: &UpgradePass<'_>,
+) -> Result<(), Refusal>
+    requires { IsSome (finmap.get records.old key) }
+    ensures { IfSome (finmap.get records.old key) (λ tile. Passes result (improved (coding_seen shape.now) pass.now tile) key records.old records.new) }
+{
+    match records.get_mut(key) {
+        Some(tile) => improve_tile(tile, shape, pass),
+        None => Ok(()),
+    }
+}
+
+/// Draws the tile of a key's record.
+fn show_record(
+    records: &Records,
+    canvas: &mut Surface,
+    surface: &mut Surface,
+    key: Key,
+    areas: &[Area],
+)
+    requires canvas { IsCanvas canvas.old }
+    requires begins { IsTrue (begins_in surface.old.width surface.old.height key.x key.y) }
+    ensures shown { IfSome (finmap.get records.now key) (λ tile. surface.new ≡ shown_in surface.old key areas.now tile) }
+    ensures canvas { IsCanvas canvas.new }
+{
+    if let Some(tile) = records.get(key) {
+        show(tile, canvas, surface, key, areas);
+    }
+}

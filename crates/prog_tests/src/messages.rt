@@ -1,0 +1,191 @@
+//! Messages on one surface and one set of records.
+use gfx_base::{Fault, Format, Pixel, Refusal};
+use gfx_prog_decode::Records;
+use gfx_surface::Surface;
+use std::alloc::Global;
+use std::process::Abort;
+use std::test::Fail;
+
+// A region of one first tile of grey.
+const GREY: &[u8] = b"\xc4\xcc\x59\0\0\0\x40\x01\0\x03\x01\x01\x01\0\x20\0\0\0\0\0\0\0\x40\0\x40\0\
+\x66\x66\x66\x66\x66\x66\x66\x66\x66\x66\x66\x66\x66\x66\x66\
+\0\x44\x44\x44\x44\x44\x44\x44\x44\x44\x44\x44\x44\x44\x44\x44\
+\xc6\xcc\x20\0\0\0\0\x01\x02\0\0\0\0\0\0\x03\0\x03\0\x03\0\0\0\0\0\0\0\0\0\0\0\0";
+
+// The same as a difference tile, and as one of the plain transform.
+const DIFFERENCE: &[u8] =
+    b"\xc4\xcc\x59\0\0\0\x40\x01\0\x03\x01\x01\x01\0\x20\0\0\0\0\0\0\0\x40\0\x40\0\
+\x66\x66\x66\x66\x66\x66\x66\x66\x66\x66\x66\x66\x66\x66\x66\
+\0\x44\x44\x44\x44\x44\x44\x44\x44\x44\x44\x44\x44\x44\x44\x44\
+\xc6\xcc\x20\0\0\0\0\x01\x02\0\0\0\0\x01\0\x03\0\x03\0\x03\0\0\0\0\0\0\0\0\0\0\0\0";
+
+const PLAIN: &[u8] = b"\xc4\xcc\x59\0\0\0\x40\x01\0\x03\x01\0\x01\0\x20\0\0\0\0\0\0\0\x40\0\x40\0\
+\x66\x66\x66\x66\x66\x66\x66\x66\x66\x66\x66\x66\x66\x66\x66\
+\0\x44\x44\x44\x44\x44\x44\x44\x44\x44\x44\x44\x44\x44\x44\x44\
+\xc6\xcc\x20\0\0\0\0\x01\x02\0\0\0\0\x01\0\x03\0\x03\0\x03\0\0\0\0\0\0\0\0\0\0\0\0";
+
+// A white tile as a server paints it, and the upgrade that makes it whole.
+const WHITE: &[u8] =
+    b"\xc0\xcc\x0c\0\0\0\xca\xac\xcc\xca\0\x01\xc3\xcc\x0a\0\0\0\x01\x40\0\0\xc1\xcc\x0c\0\0\0\0\0\0\0\x01\0\
+\xc4\xcc\x5b\0\0\0\x40\x01\0\x03\x01\x01\x01\0\x22\0\0\0\0\0\0\0\x40\0\x40\0\
+\x66\x66\x66\x66\x66\x66\x66\x66\x66\x66\x66\x66\x66\x66\x66\
+\0\x44\x44\x44\x44\x44\x44\x44\x44\x44\x44\x44\x44\x44\x44\x44\
+\xc6\xcc\x22\0\0\0\0\x01\x02\0\0\0\0\0\0\x05\0\x03\0\x03\0\0\0\0\0\x1e\xcd\xc0\0\0\0\0\0\0\xc2\xcc\x06\0\0\0";
+
+const WHITER: &[u8] =
+    b"\xc4\xcc\xd7\0\0\0\x40\x01\0\x03\x01\x01\x01\0\x9e\0\0\0\0\0\0\0\x40\0\x40\0\
+\x66\x66\x66\x66\x66\x66\x66\x66\x66\x66\x66\x66\x66\x66\x66\
+\0\x44\x44\x44\x44\x44\x44\x44\x44\x44\x44\x44\x44\x44\x44\x44\
+\xc7\xcc\x9e\0\0\0\0\x01\x02\0\0\0\0\xff\x03\0\x29\0\x03\0\x29\0\x03\0\x29\0\0\0\0\
+\xff\xff\xff\xff\xff\xff\xff\xff\xff\xff\xff\xff\xff\xff\xff\xff\xff\xff\xff\xff\
+\xff\xff\xff\xff\xff\xff\xff\xff\xff\xff\xff\xff\xff\xff\xff\xff\xff\xff\xff\xff\xf0\
+\0\0\0\0\0\0\0\0\0\0\0\0\0\0\0\0\0\0\0\0\0\0\0\0\0\0\0\0\0\0\0\0\0\0\0\0\0\0\0\0\0\0\0\0\
+\0\0\0\0\0\0\0\0\0\0\0\0\0\0\0\0\0\0\0\0\0\0\0\0\0\0\0\0\0\0\0\0\0\0\0\0\0\0\0\0\0\0\0\0";
+
+// A region of an upgrade to the same level: nothing falls.
+const SAME: &[u8] = b"\xc4\xcc\x53\0\0\0\x40\x01\0\x03\x01\x01\x01\0\x1a\0\0\0\0\0\0\0\x40\0\x40\0\
+\x66\x66\x66\x66\x66\x66\x66\x66\x66\x66\x66\x66\x66\x66\x66\
+\0\x44\x44\x44\x44\x44\x44\x44\x44\x44\x44\x44\x44\x44\x44\x44\
+\xc7\xcc\x1a\0\0\0\0\x01\x02\0\0\0\0\0\0\0\0\0\0\0\0\0\0\0\0\0";
+
+// A grey tile, and one in a cell outside.
+const OUTSIDE: &[u8] =
+    b"\xc4\xcc\x6f\0\0\0\x40\x01\0\x03\x01\x01\x02\0\x36\0\0\0\0\0\0\0\x40\0\x40\0\
+\x66\x66\x66\x66\x66\x66\x66\x66\x66\x66\x66\x66\x66\x66\x66\
+\0\x44\x44\x44\x44\x44\x44\x44\x44\x44\x44\x44\x44\x44\x44\x44\
+\xc6\xcc\x20\0\0\0\0\x01\x02\0\0\0\0\0\0\x03\0\x03\0\x03\0\0\0\0\0\0\0\0\0\0\0\0\
+\xc5\xcc\x16\0\0\0\0\x01\x02\x05\0\0\0\0\0\0\0\0\0\0\0\0";
+
+fn grey(value: u8) -> Pixel {
+    Pixel {
+        b: value,
+        g: value,
+        r: value,
+        a: 0xff,
+    }
+}
+
+// The pixel in a column and a row, if the surface has it.
+fn pixel_at(surface: &Surface, x: u16, y: u16) -> Option<Pixel> {
+    let (width, height) = surface.size();
+    if x < width && y < height {
+        Some(surface.pixel(x, y))
+    } else {
+        None
+    }
+}
+
+// A message, what it is answered, and the grey that stands in a corner after it.
+struct Case {
+    bytes: &'static [u8],
+    due: Result<(), Fault>,
+    shade: u8,
+}
+
+const CASES: [Case; 11] = [
+    Case {
+        bytes: SAME,
+        due: Err(Fault::Refused(Refusal::NoFirstPass)),
+        shade: 0,
+    },
+    Case {
+        bytes: OUTSIDE,
+        due: Err(Fault::Refused(Refusal::TileOutside)),
+        shade: 0,
+    },
+    Case {
+        bytes: DIFFERENCE,
+        due: Ok(()),
+        shade: 0x80,
+    },
+    Case {
+        bytes: PLAIN,
+        due: Err(Fault::Refused(Refusal::TransformChanged)),
+        shade: 0x80,
+    },
+    Case {
+        bytes: WHITE,
+        due: Ok(()),
+        shade: 0xf0,
+    },
+    Case {
+        bytes: SAME,
+        due: Ok(()),
+        shade: 0xf0,
+    },
+    Case {
+        bytes: WHITER,
+        due: Ok(()),
+        shade: 0xff,
+    },
+    Case {
+        bytes: SAME,
+        due: Err(Fault::Refused(Refusal::QualityWorse)),
+        shade: 0xff,
+    },
+    Case {
+        bytes: OUTSIDE,
+        due: Err(Fault::Refused(Refusal::TileOutside)),
+        shade: 0xff,
+    },
+    Case {
+        bytes: DIFFERENCE,
+        due: Ok(()),
+        shade: 0xff,
+    },
+    Case {
+        bytes: GREY,
+        due: Ok(()),
+        shade: 0x80,
+    },
+];
+
+// Whether a message is answered and drawn so.
+fn is_so(alloc: Global, records: &mut Records, surface: &mut Surface, case: &Case) -> bool {
+    records.apply(alloc, surface, 1, 1, case.bytes) == case.due
+        && pixel_at(surface, 63, 63) == Some(grey(case.shade))
+        && pixel_at(surface, 64, 63) == Some(grey(0))
+}
+
+// Messages one after the other, as an independent program answers them.
+#[test]
+fn messages_in_turn(rt: HostRuntime) -> Result<(), Fail> {
+    let mut records = Records::new(rt.alloc());
+    let mut surface = Surface::new(rt.alloc(), 70, 64, Format::Xrgb).map_err(|_| "no memory")?;
+    let mut all = true;
+    for case in &CASES {
+        all = is_so(rt.alloc(), &mut records, &mut surface, case) && all;
+    }
+    assert!(rt; all);
+    Ok(())
+}
+
+// How many records there are after each call.
+fn counts(alloc: Global) -> Option<[usize; 3]> {
+    let mut records = Records::new(alloc);
+    let mut surface = Surface::new(alloc, 64, 64, Format::Argb).ok()?;
+    let mut all = true;
+    for (id, context) in [(1, 1), (1, 2), (2, 1), (2, 1)] {
+        all = records
+            .apply(alloc, &mut surface, id, context, GREY)
+            .is_ok()
+            && all;
+    }
+    let first = records.count();
+    records.drop_context(1, 2);
+    let second = records.count();
+    records.drop_surface(1);
+    let third = records.count();
+    if all {
+        Some([first, second, third])
+    } else {
+        None
+    }
+}
+
+// Records go with their surface and their context.
+#[test]
+fn records_dropped(rt: HostRuntime) -> Result<(), Fail> {
+    assert_eq!(rt; counts(rt.alloc()), Some([3, 2, 1]));
+    Ok(())
+}

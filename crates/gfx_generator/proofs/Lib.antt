@@ -1,0 +1,3 @@
+pub mod Severals
+pub mod Joining
+pub mod Examples

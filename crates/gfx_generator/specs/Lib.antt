@@ -1,0 +1,5 @@
+pub mod Draws
+pub mod Steps
+pub mod Rounds
+pub mod Texts
+pub mod Script

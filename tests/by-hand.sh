@@ -1,6 +1,6 @@
 #!/usr/bin/env bash
 # Runs the built program where the machine refuses it a stream, at the limit of its input and, where a
-# reference program is given, beside that one on many streams. It takes some minutes, and needs python3.
+# reference program is given, beside that one on many streams. It takes some minutes, and needs python3 and xz.
 #
 #     tests/by-hand.sh PROGRAM [REFERENCE [SEEDS]]
 #
@@ -145,6 +145,8 @@ example outside "1 message 4: 14 RectOutside"
 "$program" render --output < "$examples/output.bin" > "$work/out" 2> "$work/err"
 report "the example output" "0 " "$(ended $?)"
 report "the example output, the output" "same" "$(cmp -s "$work/out" "$examples/output.txt" && echo same)"
+report "the recording of a real server" "cd0976e038ed9c2cac37714d1eec4f5a36ba689aa7fb5ce8e61ebe6710708b53  -" \
+    "$(xz -dc "$examples/gnome.bin.xz" | "$program" render | sha256sum)"
 for name in fill desktop output pictures text; do
     "$program" encode < "$examples/$name.toml" > "$work/out" 2> "$work/err"
     report "the script $name" "0 " "$(ended $?)"
@@ -198,12 +200,14 @@ if [ -n "$reference" ]; then
         cmp -s "$work/out" "$work/wanted" && cmp -s "$work/err" "$work/wanted.err" || different="$different $seed"
     }
     built="surface delete reset map fill copy paint kinds=raw,residual,bands,palette,plain glyph argb keep show forget clients"
+    # The client's end draws more than the server's sends.
+    drawn="surface delete reset map fill copy paint kinds=raw,residual,bands,palette,plain,progressive improve difference glyph argb keep show forget clients"
     for way in whole cut pieces; do
         for words in "render" "render --output"; do
             different=
             for seed in $(seq "$seeds"); do
                 # shellcheck disable=SC2086
-                "$reference" --random-stream "$seed" $built > "$work/input"
+                "$reference" --random-stream "$seed" $drawn > "$work/input"
                 if [ $way = cut ]; then
                     RANDOM=$seed
                     size=$(stat -c %s "$work/input")

@@ -22,6 +22,37 @@ fn new_client(alloc: Global) -> Result<Client, NoMemory> {
     Client::new(alloc, Offers::new(alloc))
 }
 
+/// What a client made of the bytes that it was given.
+#[derive(Drop)]
+struct Played {
+    applied: u64,
+    has_surface: bool,
+    takes_slot: bool,
+    replies: Bytes,
+    needs: bool,
+}
+
+/// Gives bytes to a new client, and lets go of it at one place.
+fn bytes_played(alloc: Global, bytes: &[u8]) -> Result<Played, Fail> {
+    let mut client = new_client(alloc)?;
+    let played = play(alloc, &mut client, bytes);
+    client.let_go();
+    played
+}
+
+fn play(alloc: Global, client: &mut Client, bytes: &[u8]) -> Result<Played, Fail> {
+    let mut replies = Bytes::new(alloc);
+    client.take(bytes)?;
+    step_on(client, &mut replies)?;
+    Ok(Played {
+        applied: client.applied(),
+        has_surface: client.surfaces().contains(1),
+        takes_slot: client.cache().takes_slot(1),
+        replies,
+        needs: needs(client.step()?),
+    })
+}
+
 /// Applies messages until more bytes are needed, ten at most, and gathers what the server is told of them.
 fn step_on(client: &mut Client, replies: &mut Bytes) -> Result<(), Fail> {
     for _ in 0..10 {
@@ -49,15 +80,12 @@ const ACKNOWLEDGED: [u8; 24] = [
 
 #[test]
 fn a_frame_is_stepped_through(rt: HostRuntime) -> Result<(), Fail> {
-    let mut client = new_client(rt.alloc())?;
-    let mut replies = Bytes::new(rt.alloc());
-    client.take(&FILL)?;
-    step_on(&mut client, &mut replies)?;
-    assert_eq!(rt; client.applied(), 4);
-    assert!(rt; client.surfaces().contains(1));
-    assert!(rt; client.cache().takes_slot(1));
-    assert_eq!(rt; replies.as_slice(), ACKNOWLEDGED.as_slice());
-    assert!(rt; needs(client.step()?));
+    let played = bytes_played(rt.alloc(), &FILL)?;
+    assert_eq!(rt; played.applied, 4);
+    assert!(rt; played.has_surface);
+    assert!(rt; played.takes_slot);
+    assert_eq!(rt; played.replies.as_slice(), ACKNOWLEDGED.as_slice());
+    assert!(rt; played.needs);
     Ok(())
 }
 
@@ -83,11 +111,8 @@ const BOTH_ACKNOWLEDGED: [u8; 48] = [
 
 #[test]
 fn each_frame_is_acknowledged(rt: HostRuntime) -> Result<(), Fail> {
-    let mut client = new_client(rt.alloc())?;
-    let mut replies = Bytes::new(rt.alloc());
-    client.take(&FRAMES)?;
-    step_on(&mut client, &mut replies)?;
-    assert_eq!(rt; replies.as_slice(), BOTH_ACKNOWLEDGED.as_slice());
+    let played = bytes_played(rt.alloc(), &FRAMES)?;
+    assert_eq!(rt; played.replies.as_slice(), BOTH_ACKNOWLEDGED.as_slice());
     Ok(())
 }
 
@@ -96,15 +121,22 @@ const HELLO: [u8; 26] = [
     0x16, 0, 0, 0, 0x12, 0, 0, 0, 0x16, 0, 0, 0, 1, 0, 2, 0, 0xa, 0, 4, 0, 0, 0, 0x22, 0, 0, 0,
 ];
 
-#[test]
-fn a_client_offers_its_versions(rt: HostRuntime) -> Result<(), Fail> {
-    let mut offers = Offers::new(rt.alloc());
+/// What a client with one offer says first.
+fn hello_of(alloc: Global) -> Result<Bytes, Fail> {
+    let mut offers = Offers::new(alloc);
     offers.push(Offer {
         version: VERSION_10,
         small: true,
     })?;
-    let client = Client::new(rt.alloc(), offers)?;
-    let hello = client.hello()?;
+    let client = Client::new(alloc, offers)?;
+    let hello = client.hello();
+    client.let_go();
+    Ok(hello?)
+}
+
+#[test]
+fn a_client_offers_its_versions(rt: HostRuntime) -> Result<(), Fail> {
+    let hello = hello_of(rt.alloc())?;
     assert_eq!(rt; hello.as_slice(), HELLO.as_slice());
     Ok(())
 }
@@ -117,19 +149,28 @@ const FULL: [u8; 42] = [
     0x11, 0, 0, 0, 0xe0, 4, 9, 0, 0, 0, 0xf, 0, 0, 0, 2, 0, 1, 0, 1, 0, 0x20,
 ];
 
+/// The fault of the second message, and that of the end behind it.
+fn overfill(client: &mut Client) -> Result<Option<(ClientFault, Option<ClientFault>)>, Fail> {
+    client.take(&FULL)?;
+    client.step()?;
+    match client.step() {
+        Ok(_) => Ok(None),
+        Err(fault) => Ok(Some((fault, client.finish().err()))),
+    }
+}
+
+fn overfilled(alloc: Global) -> Result<Option<(ClientFault, Option<ClientFault>)>, Fail> {
+    let mut client = new_client(alloc)?;
+    let faults = overfill(&mut client);
+    client.let_go();
+    faults
+}
+
 #[test]
 fn surface_budget(rt: HostRuntime) -> Result<(), Fail> {
-    let mut client = new_client(rt.alloc())?;
-    client.take(&FULL)?;
-    assert!(rt; !needs(client.step()?));
     let (number, refusal) = (2, Refusal::SurfaceBudget);
-    assert_eq!(rt;
-        client.step().err(),
-        Some(ClientFault::Refused { number, refusal })
-    );
-    assert_eq!(rt;
-        client.finish(),
-        Err(ClientFault::ClosedRefused { number, refusal })
-    );
+    let second = ClientFault::Refused { number, refusal };
+    let end = ClientFault::ClosedRefused { number, refusal };
+    assert_eq!(rt; overfilled(rt.alloc())?, Some((second, Some(end))));
     Ok(())
 }

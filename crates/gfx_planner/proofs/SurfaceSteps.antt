@@ -48,9 +48,10 @@ use Rattle.gfx_script.specs.declared.error.ScriptKind.{ScriptKind}
 use Rattle.gfx_script.specs.declared.error.ScriptKind.TheVariants as fault
 use Rattle.gfx_script.specs.declared.step.Step.TheVariants.{Surface, Delete, Reset, Map, Fill, Copy, Paint, Frame}
 use Rattle.gfx_clear.specs.State.{without_sequence}
+use Rattle.gfx_prog_decode.specs.Records.{without_surface as records_but}
 use Rattle.gfx_state.specs.State.{State}
 use Rattle.gfx_state.specs.Step as message
-use Rattle.gfx_state.specs.Step.{graphics_reset, frame_started, frame_ended, is_open, surface_created, showing}
+use Rattle.gfx_state.specs.Step.{graphics_reset, frame_started, frame_ended, is_open, surface_created, surface_ended, showing}
 use Rattle.gfx_state.specs.Sending.{all_steps, IsCarried}
 use Rattle.gfx_planner.specs.Agree.{Agree, sides_of, HoldsSurfaces, Holds}
 use Rattle.gfx_planner.specs.Want.{Wanted, drawn_on, drawing, without_surface, with_map, with_copy, pixels_in, with_painting, wanted_as, wanted_after}
@@ -274,10 +275,14 @@ found_there held surfaces id sides holds e =
     let found = some_of (get surfaces id) sides (sym (holds.sides id) ∙ ok_or_some (get held.sides id) fault.SurfaceAbsent sides e) in
     record { picture = found.0; there = found.1; same = found.2 }
 
-deleted : (state : State) (id : ℕ) → contains_key state.shown.surfaces id ≡ true → message.step state (DeleteSurface id) ≡ Ok (record state { shown = without_surface state.shown id })
-unfolding message.step showing surface_deleted
+-- a state without a surface, and without its records
+abbrev bereft : State → ℕ → State
+bereft state id = record state { shown = without_surface state.shown id; records = records_but state.records id }
+
+deleted : (state : State) (id : ℕ) → contains_key state.shown.surfaces id ≡ true → message.step state (DeleteSurface id) ≡ Ok (bereft state id)
+unfolding message.step surface_ended surface_deleted
 deleted state id there =
-    and_then_at (surface_deleted state.shown id) (without_surface state.shown id) (λ shown. Ok (record state { shown = shown }))
+    and_then_at (surface_deleted state.shown id) (without_surface state.shown id) (λ shown. Ok (record state { shown = shown; records = records_but state.records id }))
     (and_then_at (check refusal.NoSurface (contains_key state.shown.surfaces id)) tt (λ _. Ok (without_surface state.shown id)) (ap (check refusal.NoSurface) there))
 
 pub delete_fine : (script : Script) (server : Server) (kind : Option Kind) (held after : Held) (id : ℕ) → Holds script held server → IsStep (Delete id) → held_after held (Delete id) ≡ Ok after → Fine script server (as_kind kind (Delete id)) after
@@ -287,20 +292,20 @@ delete_fine script server kind held after id holds numbers checked =
     let sides : Sides = first.0 in
     let found = found_there held server.state.shown.surfaces id sides holds.surfaces first.1 in
     let gone : Held = check_of.without_surface held id sides in
-    let shown = without_surface server.state.shown id in
+    let next : State = bereft server.state id in
     let is : gone ≡ after = (let same = first.2 in cc) in
+    let left = subst (λ (s : Sides). HoldsSurfaces (remove held.sides id) (held.cells - cells s.width s.height) (remove server.state.shown.surfaces id)) found.same
+    (holds-deleted held.sides held.cells server.state.shown.surfaces id found.picture holds.surfaces found.there) in
     record {
       into = record { pdus = DeleteSurface id ∷ []; plan = server.plan };
       is = refl;
-      next = record server.state { shown = shown };
+      next = next;
       accepted = all_steps-one server.state _ _ (deleted server.state id (ap is_some found.there));
       carried = (carried-delete id numbers, tt);
-      holds = subst (λ h. Holds script h (shows server shown)) is
-          (holds_shown script held server _ _ shown holds
-          (subst (λ (s : Sides). HoldsSurfaces (remove held.sides id) (held.cells - cells s.width s.height) (remove server.state.shown.surfaces id)) found.same
-          (holds-deleted held.sides held.cells server.state.shown.surfaces id found.picture holds.surfaces found.there)));
+      holds = subst (λ h. Holds script h (going server next server.plan)) is
+          record { drawn = holds.drawn; same = holds.same; surfaces = left; bitmaps = holds.bitmaps; rings = holds.rings };
       frame = refl;
-      agrees = λ wanted agree. agree_shown server wanted _ _ agree (ap (λ (z : Shown). without_surface z id) agree.shown);
+      agrees = λ wanted agree. record { shown = ap (λ (z : Shown). without_surface z id) agree.shown; slots = agree.slots; plan = agree.plan };
     }
 
 pub output_side : (side : ℕ) → 1 ≤ side → side ≤ MOST_OUTPUT_SIDE → is_output_side side ≡ true

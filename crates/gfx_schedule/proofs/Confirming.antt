@@ -170,7 +170,7 @@ confirms script good =
           record {
             last = limited client (has_flag some.chosen.flags SMALL_CACHE);
             accepted = accepted;
-            wider = record { shown = wider.shown; slots = wider.slots; clear = wider.clear; frame = wider.frame; decoded = wider.decoded; only_small = λ e. sym small ∙ e };
+            wider = record { shown = wider.shown; slots = wider.slots; clear = wider.clear; records = wider.records; frame = wider.frame; decoded = wider.decoded; only_small = λ e. sym small ∙ e };
             frames = frames_inside client (limited client (has_flag some.chosen.flags SMALL_CACHE)) (confirm some.chosen ∷ []) (refl, tt) accepted;
           };
     }

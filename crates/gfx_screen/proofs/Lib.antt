@@ -1,2 +1,3 @@
 pub mod ScreenLemmas
 pub mod StreamLemmas
+pub mod TileLemmas

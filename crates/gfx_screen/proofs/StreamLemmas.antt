@@ -39,7 +39,7 @@ unfolding data_painted and_then
 data_painted_by state id number byte rect payload picture codec format found built named inside = rw (found, built, named, inside) refl
 
 -- to put what is there changes nothing
-insert_found : {X : Type 0} (m : FinMap nat_cmp X) (k : ℕ) (v : X) → get m k ≡ Some v → insert m k v ≡ m
+pub insert_found : {X : Type 0} (m : FinMap nat_cmp X) (k : ℕ) (v : X) → get m k ≡ Some v → insert m k v ≡ m
 insert_found m k v there = same_map nat_cmp_total nat_cmp-IsAntisymmetric _ _ (λ q.
     get-insert nat_cmp_total m k v q ∙ by q (cases_eq q k))
   where

@@ -4,15 +4,15 @@ ghost use Rattle.std.specs.List.{list_all};
 ghost use Rattle.gfx_base.specs.Geometry.{lies_in, width_of, height_of};
 ghost use Rattle.gfx_base.specs.Format.{format_of};
 ghost use Rattle.gfx_base.specs.Outcome.{Applies, Performs};
-ghost use Rattle.gfx_surface_map.specs.Shown.{surface_deleted, surface_copied, output_mapped};
+ghost use Rattle.gfx_surface_map.specs.Shown.{surface_copied, output_mapped};
 ghost use Rattle.gfx_bitmap_cache.specs.Slots.{evicted};
 ghost use Rattle.gfx_clear.specs.Sending.{MaySend, sent};
 ghost use Rattle.gfx_pdu.specs.declared.pdu.Pdu.TheVariants.{WireToSurface1};
 ghost use Rattle.gfx_state.specs.declared.codec.Codec.{Codec as AnyCodec};
-ghost use Rattle.gfx_state.specs.Codecs.{CLEARCODEC};
+ghost use Rattle.gfx_state.specs.Codecs.{CLEARCODEC, PROGRESSIVE};
 ghost use Rattle.gfx_state.specs.State.{started};
 ghost use Rattle.gfx_screen.specs.Memory.{takes_memory, may_take_memory, WantsOnlyIf};
-ghost use Rattle.gfx_state.specs.Step.{step, showing, caching, frame_started, frame_ended, surface_created, rects_filled, bytes_painted, stream_painted, data_painted, tiles_painted, rect_stored, slot_put, graphics_reset, caps_confirmed};
+ghost use Rattle.gfx_state.specs.Step.{step, showing, caching, frame_started, frame_ended, surface_created, rects_filled, bytes_painted, stream_painted, data_painted, tiles_drawn, tiles_painted, context_deleted, surface_ended, rect_stored, slot_put, graphics_reset, caps_confirmed};
 
 use crate::bitmaps::{bitmap_of, lies_on};
 use crate::flags::{has_small_cache, is_confirmed};
@@ -21,20 +21,22 @@ use gfx_base::{
 };
 use gfx_bitmap_cache::Cache;
 use gfx_clear::{ClearState, Layer};
-use gfx_pdu::Pdu;
+use gfx_pdu::{PROGRESSIVE, Pdu};
+use gfx_prog_decode::Records;
 use gfx_state::Codec;
 use gfx_surface_map::{SurfaceMap, fits_size};
 use std::alloc::Global;
 use std::marker::Model;
 
-/// What the messages change: what is shown, the cache, what ClearCodec streams left for later ones, the
-/// open frame and the count of frames. Contracts see the state. No surface has more pixels than there is
+/// What the messages change: what is shown, the cache, what ClearCodec streams and progressive messages
+/// left for later ones, the open frame and the count of frames. Contracts see the state. No surface has more pixels than there is
 /// room to copy.
 #[derive(Drop)]
 pub struct State {
     surfaces: SurfaceMap,
     cache: Cache,
     clear: ClearState,
+    records: Records,
     frame: Option<u32>,
     decoded: u32,
 }
@@ -47,7 +49,7 @@ impl Model for State {
 
     ghost coded = { state_code };
 
-    ghost view = { λ s. record { shown = s.surfaces.shown; cache = s.cache; clear = s.clear; frame = s.frame; decoded = s.decoded } };
+    ghost view = { λ s. record { shown = s.surfaces.shown; cache = s.cache; clear = s.clear; records = s.records; frame = s.frame; decoded = s.decoded } };
 
     ghost use Rattle.gfx_surface_map.specs.Shown.{AllHaveRoom};
 
@@ -67,6 +69,7 @@ impl State {
             surfaces: SurfaceMap::new(alloc),
             cache,
             clear,
+            records: Records::new(alloc),
             frame: None,
             decoded: 0,
         })
@@ -91,6 +94,13 @@ impl State {
         ensures { result.now ≡ self.now.clear }
     {
         &self.clear
+    }
+
+    /// The records of tiles that the progressive messages so far have left for later ones.
+    pub fn records(&self) -> &Records
+        ensures { result.now ≡ self.now.records }
+    {
+        &self.records
     }
 
     /// The frame that has started and not ended.
@@ -121,6 +131,20 @@ impl State {
                 rect,
                 payload,
             } => self.paint_data(*surface, *codec, *format, *rect, payload.as_slice()),
+            Pdu::WireToSurface2 {
+                surface,
+                codec,
+                context,
+                format,
+                payload,
+            } => self.paint_tiles(
+                alloc,
+                *surface,
+                *codec,
+                *context,
+                *format,
+                payload.as_slice(),
+            ),
             Pdu::SurfaceToCache {
                 surface,
                 key,
@@ -148,7 +172,9 @@ impl State {
         ensures { Performs result self.old self.new (step self.old pdu.now) }
     {
         match pdu {
-            Pdu::WireToSurface2 { surface, .. } => self.paint_tiles(*surface),
+            Pdu::DeleteEncodingContext { surface, context } => {
+                self.delete_context(*surface, *context)
+            }
             Pdu::SolidFill {
                 surface,
                 colour,
@@ -173,8 +199,8 @@ impl State {
             Pdu::CapsConfirm { version, payload } => {
                 self.confirm_caps(*version, payload.as_slice())
             }
-            Pdu::DeleteEncodingContext { .. } => Err(Refusal::PduUnknown),
             Pdu::WireToSurface1 { .. }
+            | Pdu::WireToSurface2 { .. }
             | Pdu::SurfaceToCache { .. }
             | Pdu::CreateSurface { .. }
             | Pdu::MapSurfaceToOutput { .. } => unreachable!(),
@@ -342,15 +368,60 @@ impl State {
         }
     }
 
-    /// No codec of this message is built yet.
+    /// Applies data to a surface by the codec of tiles. Any fault leaves all as it was.
     #[tactic(auto, unfolding(gfx_state::specs::Step::tiles_painted, gfx_base::specs::Results::and_then))]
-    fn paint_tiles(&mut self, id: u16) -> Result<(), Refusal>
-        ensures { Performs result self.old self.new (tiles_painted self.old id) }
+    fn paint_tiles(
+        &mut self,
+        alloc: Global,
+        id: u16,
+        codec: u16,
+        context: u32,
+        format: u8,
+        payload: &[u8],
+    ) -> Result<(), Fault>
+        ensures applies { Applies result self.old self.new (tiles_painted self.old id codec context format payload.now) }
+        ensures memory { WantsOnlyIf result (codec == PROGRESSIVE) }
+    {
+        if !self.surfaces.contains(id) {
+            return Err(Fault::Refused(Refusal::NoSurface));
+        }
+        if codec != PROGRESSIVE {
+            return Err(Fault::Refused(Refusal::CodecRefused));
+        }
+        if Format::from_byte(format).is_none() {
+            return Err(Fault::Refused(Refusal::PixelFormat));
+        }
+        self.draw_tiles(alloc, id, context, payload)
+    }
+
+    /// Applies progressive data to a surface that there is.
+    fn draw_tiles(
+        &mut self,
+        alloc: Global,
+        id: u16,
+        context: u32,
+        payload: &[u8],
+    ) -> Result<(), Fault>
+        requires { IsSome (map.get self.old.shown.surfaces id) }
+        ensures { IfSome (map.get self.old.shown.surfaces id)
+            (λ picture. Applies result self.old self.new (tiles_drawn self.old id picture context payload.now)) }
+    {
+        match self.surfaces.get_mut(id) {
+            Some(surface) => self.records.apply(alloc, surface, id, context, payload),
+            None => unreachable!(),
+        }
+    }
+
+    /// Lets go of the records of a surface's context.
+    #[tactic(auto, unfolding(gfx_state::specs::Step::context_deleted, gfx_base::specs::Results::and_then))]
+    fn delete_context(&mut self, id: u16, context: u32) -> Result<(), Refusal>
+        ensures { Performs result self.old self.new (context_deleted self.old id context) }
     {
         if !self.surfaces.contains(id) {
             return Err(Refusal::NoSurface);
         }
-        Err(Refusal::CodecRefused)
+        self.records.drop_context(id, context);
+        Ok(())
     }
 
     #[tactic(auto, unfolding(gfx_state::specs::Step::showing, gfx_base::specs::Results::and_then))]
@@ -414,11 +485,14 @@ impl State {
         Ok(())
     }
 
-    #[tactic(auto, unfolding(gfx_state::specs::Step::showing, gfx_base::specs::Results::and_then))]
+    /// Deletes a surface, and its records with it.
+    #[tactic(auto, unfolding(gfx_state::specs::Step::surface_ended, gfx_base::specs::Results::and_then))]
     fn delete_surface(&mut self, id: u16) -> Result<(), Refusal>
-        ensures { Performs result self.old self.new (showing self.old (surface_deleted self.old.shown id)) }
+        ensures { Performs result self.old self.new (surface_ended self.old id) }
     {
-        self.surfaces.delete(id)
+        self.surfaces.delete(id)?;
+        self.records.drop_surface(id);
+        Ok(())
     }
 
     #[tactic(auto, unfolding(gfx_state::specs::Step::graphics_reset, gfx_base::specs::Results::and_then))]

@@ -18,12 +18,13 @@ use Rattle.gfx_bitmap_cache.specs.Slots.{Cached, Entry, cached, entry, takes_slo
 use Rattle.gfx_bitmap_cache.specs.Slots.{shown as image_at}
 use Rattle.gfx_bitmap_cache.specs.declared.limits.TheConstants.{MOST_SLOTS, MOST_SMALL_SLOTS, MOST_BYTES, MOST_SMALL_BYTES}
 use Rattle.gfx_surface.specs.Picture.{Picture}
-use Rattle.gfx_surface_map.specs.Shown.{Shown}
+use Rattle.gfx_prog_decode.specs.Records.{Records, without_context, without_surface}
+use Rattle.gfx_surface_map.specs.Shown.{Shown, with_picture}
 use Rattle.gfx_state.specs.declared.codec.Codec.{Codec}
 use Rattle.gfx_state.specs.declared.codec.Codec.TheVariants.{Uncompressed, ClearCodec}
 use Rattle.gfx_state.specs.State.{State, started, fresh}
 use Rattle.gfx_state.specs.Same.{Same, Wider}
-use Rattle.gfx_state.specs.Step.{step, frame_started, frame_ended, showing, surface_created, rects_filled, bytes_painted, stream_painted, painted_by, data_painted, tiles_painted, caching, image_in, rect_stored, slot_put, graphics_reset, caps_confirmed}
+use Rattle.gfx_state.specs.Step.{step, frame_started, frame_ended, showing, surface_created, rects_filled, bytes_painted, stream_painted, painted_by, data_painted, tiles_drawn, tiles_painted, context_deleted, surface_ended, caching, image_in, rect_stored, slot_put, graphics_reset, caps_confirmed}
 use Rattle.gfx_state.specs.Sending.{all_steps, sent, IsCarried, standing, count_after}
 use Rattle.gfx_state.specs.Run.{eats}
 use Rattle.gfx_pdu.specs.Spelling.{spelling}
@@ -109,7 +110,7 @@ limited s wide = record s { cache = cached s.cache.slots wide }
 
 -- what is shown changes alike
 drawn_wider : (s : State) (wide : Bool) (shown : Shown) → (wide ≡ true → s.cache.small ≡ true) → Wider (record s { shown = shown }) (record (limited s wide) { shown = shown })
-drawn_wider s wide shown only = record { shown = refl; slots = refl; clear = refl; frame = refl; decoded = refl; only_small = only }
+drawn_wider s wide shown only = record { shown = refl; slots = refl; clear = refl; records = refl; frame = refl; decoded = refl; only_small = only }
 
 showing_wider : (s : State) (wide : Bool) (due : Result Shown Refusal) → (wide ≡ true → s.cache.small ≡ true) → Follows Wider (showing s due) (showing (limited s wide) due)
 unfolding showing
@@ -118,15 +119,15 @@ showing_wider s wide due only = after Wider due _ _ (λ shown. gives Wider _ _ (
 caching_wider : (s : State) (wide : Bool) (due loose : Result Cached Refusal) → Follows WiderCache due loose → Follows Wider (caching s due) (caching (limited s wide) loose)
 unfolding caching
 caching_wider s wide due loose cache = both WiderCache Wider due loose _ _ cache (λ c d r.
-    gives Wider _ _ (record { shown = refl; slots = r.slots; clear = refl; frame = refl; decoded = refl; only_small = r.only_small }))
+    gives Wider _ _ (record { shown = refl; slots = r.slots; clear = refl; records = refl; frame = refl; decoded = refl; only_small = r.only_small }))
 
 started_wider : (s : State) (wide : Bool) (frame : ℕ) → (wide ≡ true → s.cache.small ≡ true) → Follows Wider (frame_started s frame) (frame_started (limited s wide) frame)
 unfolding frame_started
-started_wider s wide frame only = after Wider _ _ _ (λ free. gives Wider _ _ (record { shown = refl; slots = refl; clear = refl; frame = refl; decoded = refl; only_small = only }))
+started_wider s wide frame only = after Wider _ _ _ (λ free. gives Wider _ _ (record { shown = refl; slots = refl; clear = refl; records = refl; frame = refl; decoded = refl; only_small = only }))
 
 closed_wider : (s : State) (wide : Bool) (frame : ℕ) → (wide ≡ true → s.cache.small ≡ true) → Follows Wider (frame_ended s frame) (frame_ended (limited s wide) frame)
 unfolding frame_ended
-closed_wider s wide frame only = after Wider _ _ _ (λ free. gives Wider _ _ (record { shown = refl; slots = refl; clear = refl; frame = refl; decoded = refl; only_small = only }))
+closed_wider s wide frame only = after Wider _ _ _ (λ free. gives Wider _ _ (record { shown = refl; slots = refl; clear = refl; records = refl; frame = refl; decoded = refl; only_small = only }))
 
 created_wider : (s : State) (wide : Bool) (id width height byte : ℕ) → (wide ≡ true → s.cache.small ≡ true) → Follows Wider (surface_created s id width height byte) (surface_created (limited s wide) id width height byte)
 unfolding surface_created
@@ -146,7 +147,7 @@ by_bytes_wider s wide id picture format rect payload only = after Wider _ _ _ (�
 by_stream_wider : (s : State) (wide : Bool) (id : ℕ) (picture : Picture) (rect : Rect) (payload : List ℕ) → (wide ≡ true → s.cache.small ≡ true) → Follows Wider (stream_painted s id picture rect payload) (stream_painted (limited s wide) id picture rect payload)
 unfolding stream_painted
 by_stream_wider s wide id picture rect payload only =
-    after Wider _ _ _ (λ new. gives Wider _ _ (record { shown = refl; slots = refl; clear = refl; frame = refl; decoded = refl; only_small = only }))
+    after Wider _ _ _ (λ new. gives Wider _ _ (record { shown = refl; slots = refl; clear = refl; records = refl; frame = refl; decoded = refl; only_small = only }))
 
 by_codec_wider : (codec : Codec) (s : State) (wide : Bool) (id : ℕ) (picture : Picture) (format : Format) (rect : Rect) (payload : List ℕ) → (wide ≡ true → s.cache.small ≡ true) → Follows Wider (painted_by codec s id picture format rect payload) (painted_by codec (limited s wide) id picture format rect payload)
 by_codec_wider Uncompressed s wide id picture format rect payload only = by_bytes_wider s wide id picture format rect payload only
@@ -158,9 +159,30 @@ painted_wider s wide id codec byte rect payload only =
     after Wider _ _ _ (λ picture. after Wider _ _ _ (λ built. after Wider _ _ _ (λ format. after Wider _ _ _ (λ inside.
     by_codec_wider built s wide id picture format rect payload only))))
 
-tiles_wider : (s : State) (wide : Bool) (id : ℕ) → Follows Wider (tiles_painted s id) (tiles_painted (limited s wide) id)
+-- the records change alike, and what is shown
+recorded_wider : (s : State) (wide : Bool) (shown : Shown) (records : Records) → (wide ≡ true → s.cache.small ≡ true)
+    → Wider (record s { shown = shown; records = records }) (record (limited s wide) { shown = shown; records = records })
+recorded_wider s wide shown records only = record { shown = refl; slots = refl; clear = refl; records = refl; frame = refl; decoded = refl; only_small = only }
+
+by_tiles_wider : (s : State) (wide : Bool) (id : ℕ) (picture : Picture) (context : ℕ) (payload : List ℕ) → (wide ≡ true → s.cache.small ≡ true)
+    → Follows Wider (tiles_drawn s id picture context payload) (tiles_drawn (limited s wide) id picture context payload)
+unfolding tiles_drawn
+by_tiles_wider s wide id picture context payload only =
+    after Wider _ _ _ (λ new. gives Wider _ _ (recorded_wider s wide (with_picture s.shown id new.picture) new.records only))
+
+tiles_wider : (s : State) (wide : Bool) (id codec context byte : ℕ) (payload : List ℕ) → (wide ≡ true → s.cache.small ≡ true)
+    → Follows Wider (tiles_painted s id codec context byte payload) (tiles_painted (limited s wide) id codec context byte payload)
 unfolding tiles_painted
-tiles_wider s wide id = after Wider _ _ _ (λ picture. never Wider _ _)
+tiles_wider s wide id codec context byte payload only =
+    after Wider _ _ _ (λ picture. after Wider _ _ _ (λ built. after Wider _ _ _ (λ format. by_tiles_wider s wide id picture context payload only)))
+
+context_wider : (s : State) (wide : Bool) (id context : ℕ) → (wide ≡ true → s.cache.small ≡ true) → Follows Wider (context_deleted s id context) (context_deleted (limited s wide) id context)
+unfolding context_deleted
+context_wider s wide id context only = after Wider _ _ _ (λ there. gives Wider _ _ (recorded_wider s wide s.shown (without_context s.records id context) only))
+
+ended_surface_wider : (s : State) (wide : Bool) (id : ℕ) → (wide ≡ true → s.cache.small ≡ true) → Follows Wider (surface_ended s id) (surface_ended (limited s wide) id)
+unfolding surface_ended
+ended_surface_wider s wide id only = after Wider _ _ _ (λ shown. gives Wider _ _ (recorded_wider s wide shown (without_surface s.records id) only))
 
 store_wider : (s : State) (wide : Bool) (id key slot : ℕ) (rect : Rect) → (wide ≡ true → s.cache.small ≡ true) → Follows Wider (rect_stored s id key slot rect) (rect_stored (limited s wide) id key slot rect)
 unfolding rect_stored
@@ -175,37 +197,37 @@ put_wider s wide slot id points only = after Wider _ _ _ (λ image. showing_wide
 reset_wider : (s : State) (wide : Bool) (width height : ℕ) → (wide ≡ true → s.cache.small ≡ true) → Follows Wider (graphics_reset s width height) (graphics_reset (limited s wide) width height)
 unfolding graphics_reset
 reset_wider s wide width height only =
-    after Wider _ _ _ (λ shown. gives Wider _ _ (record { shown = refl; slots = refl; clear = refl; frame = refl; decoded = refl; only_small = only }))
+    after Wider _ _ _ (λ shown. gives Wider _ _ (record { shown = refl; slots = refl; clear = refl; records = refl; frame = refl; decoded = refl; only_small = only }))
 
 -- both get the limits of the message
 confirmed_wider : (s : State) (wide : Bool) (version : ℕ) (flags : List ℕ) → Follows Wider (caps_confirmed s version flags) (caps_confirmed (limited s wide) version flags)
 unfolding caps_confirmed
 confirmed_wider s wide version flags =
-    after Wider _ _ _ (λ known. gives Wider _ _ (record { shown = refl; slots = refl; clear = refl; frame = refl; decoded = refl; only_small = λ e. e }))
+    after Wider _ _ _ (λ known. gives Wider _ _ (record { shown = refl; slots = refl; clear = refl; records = refl; frame = refl; decoded = refl; only_small = λ e. e }))
 
 limited_follows : (s : State) (wide : Bool) (pdu : Pdu) → (wide ≡ true → s.cache.small ≡ true) → Follows Wider (step s pdu) (step (limited s wide) pdu)
 unfolding step
 limited_follows s wide (pdus.WireToSurface1 surface codec format rect payload) only = painted_wider s wide surface codec format rect payload only
-limited_follows s wide (pdus.WireToSurface2 surface codec context format payload) only = tiles_wider s wide surface
+limited_follows s wide (pdus.WireToSurface2 surface codec context format payload) only = tiles_wider s wide surface codec context format payload only
+limited_follows s wide (pdus.DeleteEncodingContext surface context) only = context_wider s wide surface context only
 limited_follows s wide (pdus.SolidFill surface colour rects) only = filled_wider s wide surface colour rects only
 limited_follows s wide (pdus.SurfaceToSurface source destination rect points) only = showing_wider s wide _ only
 limited_follows s wide (pdus.SurfaceToCache surface key slot rect) only = store_wider s wide surface key slot rect only
 limited_follows s wide (pdus.CacheToSurface slot surface points) only = put_wider s wide slot surface points only
 limited_follows s wide (pdus.EvictCacheEntry slot) only = caching_wider s wide _ _ (evicted_wider s.cache wide slot only)
 limited_follows s wide (pdus.CreateSurface id width height format) only = created_wider s wide id width height format only
-limited_follows s wide (pdus.DeleteSurface id) only = showing_wider s wide _ only
+limited_follows s wide (pdus.DeleteSurface id) only = ended_surface_wider s wide id only
 limited_follows s wide (pdus.StartFrame timestamp frame) only = started_wider s wide frame only
 limited_follows s wide (pdus.EndFrame frame) only = closed_wider s wide frame only
 limited_follows s wide (pdus.ResetGraphics width height monitors) only = reset_wider s wide width height only
 limited_follows s wide (pdus.MapSurfaceToOutput id reserved x y) only = showing_wider s wide _ only
 limited_follows s wide (pdus.CapsConfirm version flags) only = confirmed_wider s wide version flags
-limited_follows s wide other only = never Wider _ _
 
 -- any two states -----------------------------------------------------------------------------------------
 
 -- a wider state is the narrower one with another word
 wider_limited : (s t : State) → Wider s t → limited s t.cache.small ≡ t
-wider_limited s t w = λ i. record { shown = w.shown i; cache = cached (w.slots i) t.cache.small; clear = w.clear i; frame = w.frame i; decoded = w.decoded i }
+wider_limited s t w = λ i. record { shown = w.shown i; cache = cached (w.slots i) t.cache.small; clear = w.clear i; records = w.records i; frame = w.frame i; decoded = w.decoded i }
 
 -- what a state accepts a wider one accepts alike
 pub step_wider : (s s' t : State) (pdu : Pdu) → step s pdu ≡ Ok s' → Wider s t → (t' : State) × (step t pdu ≡ Ok t') × Wider s' t'
@@ -233,7 +255,7 @@ Wider_same s t w = record { surfaces = ap (λ z. z.surfaces) w.shown; slots = w.
 
 -- a stream's state at its start accepts more than any other at a start
 pub started_fresh : (small : Bool) → Wider (started small) fresh
-started_fresh small = record { shown = refl; slots = refl; clear = refl; frame = refl; decoded = refl; only_small = λ e. absurd cc }
+started_fresh small = record { shown = refl; slots = refl; clear = refl; records = refl; frame = refl; decoded = refl; only_small = λ e. absurd cc }
 
 -- the ends of frames ---------------------------------------------------------------------------------------
 

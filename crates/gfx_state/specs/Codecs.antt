@@ -11,6 +11,10 @@ UNCOMPRESSED = 0
 abbrev pub CLEARCODEC : ℕ
 CLEARCODEC = 8
 
+-- RDPGFX_CODECID_CAPROGRESSIVE, the one codec of RDPGFX_WIRE_TO_SURFACE_PDU_2 that is built ([MS-RDPEGFX] 2.2.2.2)
+abbrev pub PROGRESSIVE : ℕ
+PROGRESSIVE = 9
+
 -- the codec of an id, if it is built
 unfoldable pub codec_of : ℕ → Option Codec
 codec_of id = if id == UNCOMPRESSED then Some Uncompressed else if id == CLEARCODEC then Some ClearCodec else None

@@ -8,6 +8,7 @@ use Rattle.gfx_surface_map.specs.Shown.{Shown, shown_code}
 use Rattle.gfx_clear_store.specs.Rings.{Places, Rings}
 use Rattle.gfx_glyph.specs.declared.glyph.Glyph.{Glyph}
 use Rattle.gfx_clear.specs.State.{State as ClearState}
+use Rattle.gfx_prog_decode.specs.Records.{Records, records_code}
 use Rattle.gfx_state.specs.State.{State}
 
 -- a colour as three numbers
@@ -35,6 +36,7 @@ clear_code =
 
 abbrev pub state_code : Coded State
 state_code =
-    code_by (Shown × (Cached × (ClearState × (Option ℕ × ℕ)))) (coded× shown_code (coded× cached_code (coded× clear_code (coded× (coded_option coded_ℕ) coded_ℕ))))
-    (λ s. (s.shown, (s.cache, (s.clear, (s.frame, s.decoded)))))
-    (λ t. record { shown = t.0; cache = t.1.0; clear = t.1.1.0; frame = t.1.1.1.0; decoded = t.1.1.1.1 }) (λ _. refl)
+    code_by (Shown × (Cached × (ClearState × (Records × (Option ℕ × ℕ)))))
+    (coded× shown_code (coded× cached_code (coded× clear_code (coded× records_code (coded× (coded_option coded_ℕ) coded_ℕ)))))
+    (λ s. (s.shown, (s.cache, (s.clear, (s.records, (s.frame, s.decoded))))))
+    (λ t. record { shown = t.0; cache = t.1.0; clear = t.1.1.0; records = t.1.1.1.0; frame = t.1.1.1.1.0; decoded = t.1.1.1.1.1 }) (λ _. refl)

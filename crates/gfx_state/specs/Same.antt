@@ -3,8 +3,8 @@ use Rattle.std.specs.Prelude.{◌≡◌, true}
 use Rattle.gfx_state.specs.State.{State}
 
 -- two states with equal surfaces, equal slots, and equal ClearCodec stores: the rings with their cursors, and the
--- glyphs. The output and what is mapped to it, the sequence number that is expected, the open frame, the count of
--- frames and the word small are not in it
+-- glyphs. The output and what is mapped to it, the sequence number that is expected, the records of tiles, the open
+-- frame, the count of frames and the word small are not in it
 pub record Same (s t : State) : Type 0 where
   pub surfaces : s.shown.surfaces ≡ t.shown.surfaces
   pub slots : s.cache.slots ≡ t.cache.slots
@@ -16,6 +16,7 @@ pub record Wider (s t : State) : Type 0 where
   pub shown : s.shown ≡ t.shown
   pub slots : s.cache.slots ≡ t.cache.slots
   pub clear : s.clear ≡ t.clear
+  pub records : s.records ≡ t.records
   pub frame : s.frame ≡ t.frame
   pub decoded : s.decoded ≡ t.decoded
   pub only_small : t.cache.small ≡ true → s.cache.small ≡ true

@@ -14,11 +14,11 @@ use Rattle.gfx_base.specs.declared.geometry.Point.{Point}
 use Rattle.gfx_base.specs.declared.geometry.Rect.{Rect}
 use Rattle.gfx_base.specs.declared.pixel.Pixel.{Pixel}
 use Rattle.gfx_base.specs.declared.refusal.Refusal.{Refusal}
-use Rattle.gfx_base.specs.declared.refusal.Refusal.TheVariants.{PduUnknown, NoSurface, SurfaceExists, SurfaceSize, RectOutside, PixelFormat, CodecRefused, PayloadLength, SlotRange, FrameOpen, FrameMismatch, CapsVersion}
+use Rattle.gfx_base.specs.declared.refusal.Refusal.TheVariants.{NoSurface, SurfaceExists, SurfaceSize, RectOutside, PixelFormat, CodecRefused, PayloadLength, SlotRange, FrameOpen, FrameMismatch, CapsVersion}
 use Rattle.gfx_caps.specs.Choice.{has_flag}
 use Rattle.gfx_caps.specs.declared.versions.TheConstants.{VERSION_8, VERSION_8_1, VERSION_10, FLAGS_SIZE, SMALL_CACHE}
 use Rattle.gfx_pdu.specs.declared.pdu.Pdu.{Pdu}
-use Rattle.gfx_pdu.specs.declared.pdu.Pdu.TheVariants.{WireToSurface1, WireToSurface2, SolidFill, SurfaceToSurface, SurfaceToCache, CacheToSurface, EvictCacheEntry, CreateSurface, DeleteSurface, StartFrame, EndFrame, ResetGraphics, MapSurfaceToOutput, CapsConfirm}
+use Rattle.gfx_pdu.specs.declared.pdu.Pdu.TheVariants.{WireToSurface1, WireToSurface2, DeleteEncodingContext, SolidFill, SurfaceToSurface, SurfaceToCache, CacheToSurface, EvictCacheEntry, CreateSurface, DeleteSurface, StartFrame, EndFrame, ResetGraphics, MapSurfaceToOutput, CapsConfirm}
 use Rattle.gfx_bitmap_cache.specs.Slots.{Cached, Image, cached, entry, takes_slot, stored, evicted}
 use Rattle.gfx_bitmap_cache.specs.Slots.{shown as image_at}
 use Rattle.gfx_surface.specs.Picture.{Picture, overlaid, raw_pixels, rect_of}
@@ -26,9 +26,12 @@ use Rattle.gfx_surface_map.specs.Surfaces.{is_size, painted}
 use Rattle.gfx_surface_map.specs.Shown.{Shown, with_picture, surface_made, surface_deleted, surface_copied, pixels_put, output_reset, output_mapped}
 use Rattle.gfx_clear.specs.State.{without_sequence}
 use Rattle.gfx_clear.specs.Painting.{scene, decoded}
+use Rattle.gfx_prog_decode.specs.Progressive.{after_message}
+use Rattle.gfx_prog_decode.specs.Records.{without_context, without_surface}
+use Rattle.gfx_prog_decode.specs.Scene.{scene as tiles_on}
 use Rattle.gfx_state.specs.declared.codec.Codec.{Codec}
 use Rattle.gfx_state.specs.declared.codec.Codec.TheVariants.{Uncompressed, ClearCodec}
-use Rattle.gfx_state.specs.Codecs.{codec_of}
+use Rattle.gfx_state.specs.Codecs.{PROGRESSIVE, codec_of}
 use Rattle.gfx_state.specs.State.{State}
 
 -- RDPGFX_START_FRAME_PDU: no frame may be open
@@ -95,11 +98,31 @@ data_painted state id codec byte rect payload = do
   inside ← check RectOutside (lies_in picture.width picture.height rect)
   painted_by built state id picture format rect payload
 
--- RDPGFX_WIRE_TO_SURFACE_PDU_2: no codec is built yet
-unfoldable pub tiles_painted : State → ℕ → Result State Refusal
-tiles_painted state id = do
+-- progressive data, which go on from the records that the messages before left
+unfoldable pub tiles_drawn : State → ℕ → Picture → ℕ → List ℕ → Result State Refusal
+tiles_drawn state id picture context payload = do
+  new ← after_message (record { surface = id; context = context }) payload (tiles_on state.records picture)
+  Ok (record state { shown = with_picture state.shown id new.picture; records = new.records })
+
+-- RDPGFX_WIRE_TO_SURFACE_PDU_2
+unfoldable pub tiles_painted : State → ℕ → ℕ → ℕ → ℕ → List ℕ → Result State Refusal
+tiles_painted state id codec context byte payload = do
   picture ← ok_or (finmap.get state.shown.surfaces id) NoSurface
-  Err CodecRefused
+  built ← check CodecRefused (codec == PROGRESSIVE)
+  format ← ok_or (format_of byte) PixelFormat
+  tiles_drawn state id picture context payload
+
+-- RDPGFX_DELETE_ENCODING_CONTEXT_PDU: the records of the surface's context go
+unfoldable pub context_deleted : State → ℕ → ℕ → Result State Refusal
+context_deleted state id context = do
+  there ← check NoSurface (finmap.contains_key state.shown.surfaces id)
+  Ok (record state { records = without_context state.records id context })
+
+-- RDPGFX_DELETE_SURFACE_PDU: its records go with it
+unfoldable pub surface_ended : State → ℕ → Result State Refusal
+surface_ended state id = do
+  shown ← surface_deleted state.shown id
+  Ok (record state { shown = shown; records = without_surface state.records id })
 
 -- only the cache changes
 unfoldable pub caching : State → Result Cached Refusal → Result State Refusal
@@ -145,20 +168,20 @@ caps_confirmed state version flags = do
   known ← check CapsVersion (is_version version && length flags == FLAGS_SIZE)
   Ok (record state { cache = cached state.cache.slots (has_small_cache flags) })
 
--- one message. Those whose effect isn't built yet are refused once they are read
+-- one message
 unfoldable pub step : State → Pdu → Result State Refusal
 step state (WireToSurface1 surface codec format rect payload) = data_painted state surface codec format rect payload
-step state (WireToSurface2 surface codec context format payload) = tiles_painted state surface
+step state (WireToSurface2 surface codec context format payload) = tiles_painted state surface codec context format payload
+step state (DeleteEncodingContext surface context) = context_deleted state surface context
 step state (SolidFill surface colour rects) = rects_filled state surface colour rects
 step state (SurfaceToSurface source destination rect points) = showing state (surface_copied state.shown source destination rect points)
 step state (SurfaceToCache surface key slot rect) = rect_stored state surface key slot rect
 step state (CacheToSurface slot surface points) = slot_put state slot surface points
 step state (EvictCacheEntry slot) = caching state (evicted state.cache slot)
 step state (CreateSurface id width height format) = surface_created state id width height format
-step state (DeleteSurface id) = showing state (surface_deleted state.shown id)
+step state (DeleteSurface id) = surface_ended state id
 step state (StartFrame timestamp frame) = frame_started state frame
 step state (EndFrame frame) = frame_ended state frame
 step state (ResetGraphics width height monitors) = graphics_reset state width height
 step state (MapSurfaceToOutput id reserved x y) = showing state (output_mapped state.shown id (record { x = x; y = y }))
 step state (CapsConfirm version flags) = caps_confirmed state version flags
-step state other = Err PduUnknown

@@ -10,6 +10,6 @@ invariant_of-self c =
 
 pub returns-in-Some : goal.returns-in-Some
 returns-in-Some c =
-    let state : State = record { shown = c.self.inside.surfaces.shown; cache = c.self.inside.cache; clear = c.self.inside.clear; frame = c.self.inside.frame; decoded = c.self.inside.decoded } in
+    let state : State = record { shown = c.self.inside.surfaces.shown; cache = c.self.inside.cache; clear = c.self.inside.clear; records = c.self.inside.records; frame = c.self.inside.frame; decoded = c.self.inside.decoded } in
     rw (← c.self.view_is, surface_created_so state c.args.id c.args.width c.args.height c.args.format c.in-Some.format (sym c.from_byte.ensures ∙ c.in-Some.is))
     (showing_applies c.create.result state c.create.new.self.shown _ c.create.ensures.made)

@@ -17,7 +17,7 @@ invariant_of-self c =
 
 pub returns-clause-step : goal.returns-clause-step
 returns-clause-step c =
-    let state : State = record { shown = c.self.inside.surfaces.shown; cache = c.self.inside.cache; clear = c.self.inside.clear; frame = c.self.inside.frame; decoded = c.self.inside.decoded } in
+    let state : State = record { shown = c.self.inside.surfaces.shown; cache = c.self.inside.cache; clear = c.self.inside.clear; records = c.self.inside.records; frame = c.self.inside.frame; decoded = c.self.inside.decoded } in
     rw (← c.self.view_is)
     (sent_steps c.send.result state c.args.id c.in-Some.surface.now (scene c.send.new.self c.send.new.surface) c.args.rect (sym c.in-Some.ensures.value)
     (subst (λ (s : State). IsSomeAnd (get s.shown.surfaces c.args.id) (λ picture. IsTrue (lies_in picture.width picture.height c.args.rect))) (sym c.self.view_is) c.requires.inside)
@@ -25,6 +25,6 @@ returns-clause-step c =
 
 pub returns-clause-err : goal.returns-clause-err
 returns-clause-err c =
-    let state : State = record { shown = c.self.inside.surfaces.shown; cache = c.self.inside.cache; clear = c.self.inside.clear; frame = c.self.inside.frame; decoded = c.self.inside.decoded } in
+    let state : State = record { shown = c.self.inside.surfaces.shown; cache = c.self.inside.cache; clear = c.self.inside.clear; records = c.self.inside.records; frame = c.self.inside.frame; decoded = c.self.inside.decoded } in
     rw (← c.self.view_is)
     (not_sent c.send.result state c.args.id c.in-Some.surface.now (scene c.send.new.self c.send.new.surface) (sym c.in-Some.ensures.value) c.send.ensures.state c.send.ensures.surface)

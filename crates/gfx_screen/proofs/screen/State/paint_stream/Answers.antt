@@ -14,6 +14,6 @@ invariant_of-self c =
 
 pub returns : goal.returns
 returns c =
-    let state : State = record { shown = c.self.inside.surfaces.shown; cache = c.self.inside.cache; clear = c.self.inside.clear; frame = c.self.inside.frame; decoded = c.self.inside.decoded } in
+    let state : State = record { shown = c.self.inside.surfaces.shown; cache = c.self.inside.cache; clear = c.self.inside.clear; records = c.self.inside.records; frame = c.self.inside.frame; decoded = c.self.inside.decoded } in
     rw (← c.self.view_is)
     (stream_answers c.decode.result state c.args.id c.in-Some.surface.now (scene c.decode.new.self c.decode.new.surface) c.args.rect c.args.stream.now (sym c.in-Some.ensures.value) c.decode.ensures)

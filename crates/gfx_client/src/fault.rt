@@ -6,13 +6,13 @@ use thiserror::Error;
 #[derive(Clone, Copy, Debug, PartialEq, Eq, Error)]
 pub enum ClientFault {
     /// The message of this number, counted from 1, is refused.
-    #[error("the stream is refused")]
+    #[error("message {number} is refused: {refusal}")]
     Refused { number: u64, refusal: Refusal },
     /// No memory is left.
     #[error("no memory is left")]
     Memory,
     /// A message was refused before.
-    #[error("the stream was refused before")]
+    #[error("message {number} was refused before: {refusal}")]
     ClosedRefused { number: u64, refusal: Refusal },
     /// Memory ran out before.
     #[error("memory ran out before")]

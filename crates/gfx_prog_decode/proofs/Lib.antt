@@ -1,9 +1,9 @@
-mod Keys
-mod Ties
+pub mod Keys
+pub mod Ties
 mod Lent
 mod Begun
 mod Maps
-mod Pictures
+pub mod Pictures
 mod Undoing
 mod Areas
 mod Bases

@@ -1,12 +1,9 @@
 -- A message changes no picture's sides.
-use Rattle.std.proofs.Common.{◌≡◌, ◌∙◌, ap, sym, refl, ℕ, List, [], ◌∷◌, Option, Some, None, Result, Ok, Err}
-use Rattle.std.specs.FinMap.{len}
-use Rattle.std.specs.Option.{ok_or}
-use Rattle.gfx_base.specs.Results.{and_then, check}
+use Rattle.std.proofs.Common.{◌≡◌, ◌∙◌, ap, sym, refl, ℕ, List, [], ◌∷◌, Result, Ok}
+use Rattle.gfx_base.specs.Results.{check}
 use Rattle.gfx_base.specs.declared.refusal.Refusal.{Refusal}
-use Rattle.gfx_base.specs.declared.refusal.Refusal.TheVariants.{NoFirstPass, QuantRange}
+use Rattle.gfx_base.specs.declared.refusal.Refusal.TheVariants.{QuantRange}
 use Rattle.gfx_base.proofs.ResultLemmas.{and_then_ok}
-use Rattle.gfx_surface.specs.Picture.{Picture}
 use Rattle.gfx_prog_block.specs.declared.area.Area.{Area}
 use Rattle.gfx_prog_block.specs.declared.block.Block.{Block}
 use Rattle.gfx_prog_block.specs.declared.block.Block.TheVariants as blocks
@@ -23,7 +20,7 @@ use Rattle.gfx_prog_decode.specs.declared.key.Key.{Key}
 use Rattle.gfx_prog_decode.specs.declared.key.Place.{Place}
 use Rattle.gfx_prog_decode.specs.Coding.{are_bases}
 use Rattle.gfx_prog_decode.specs.Progressive.{after_block, after_first, after_message, after_region, after_tile, after_upgrade, with_tile}
-use Rattle.gfx_prog_decode.specs.Scene.{Scene, in_turn, scene}
+use Rattle.gfx_prog_decode.specs.Scene.{Scene, in_turn}
 use Rattle.gfx_prog_decode.specs.Showing.{shown_in}
 
 -- the sides of two scenes are the same

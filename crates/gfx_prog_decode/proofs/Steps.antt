@@ -1,18 +1,17 @@
 -- Steps over a list, one after another, and the answers of calls.
-use Rattle.std.proofs.Common.{◌≡◌, ◌∙◌, ap, sym, refl, subst, ℕ, ◌<◌, ◌≤◌, ◌+◌, List, [], ◌∷◌, drop, length, get_or, Result, Ok, Err, Option, Some, None, Bool, T, is_some}
-use Rattle.std.specs.Prelude.{IfSome, IsSome, IsSomeAnd, false, not, true}
+use Rattle.std.proofs.Common.{◌≡◌, ◌∙◌, ap, sym, refl, subst, ℕ, ◌<◌, ◌≤◌, ◌+◌, List, drop, length, get_or, Result, Ok, Err, Option, Some, None, Bool, T, is_some}
+use Rattle.std.specs.Prelude.{IfSome, IsSome, OnErr, false, not, true}
 use Rattle.std.specs.FinMap.{get, insert, len}
 use Rattle.std.specs.Borrow.{Bor}
 use Rattle.std.specs.Option.{ok_or, option_copied}
 use Rattle.std.proofs.lemmas.List.{drop_more, drop_all}
-use Rattle.gfx_base.specs.Outcome.{Applies, Gives, Says}
+use Rattle.gfx_base.specs.Outcome.{Applies, Gives}
 use Rattle.gfx_base.specs.Results.{and_then, check}
 use Rattle.gfx_base.specs.declared.answer.Cause.{Cause}
 use Rattle.gfx_base.specs.declared.answer.Cause.TheVariants.{Memory, Refused}
 use Rattle.gfx_base.specs.declared.refusal.Refusal.{Refusal}
 use Rattle.gfx_base.specs.declared.refusal.Refusal.TheVariants.{NoFirstPass, QuantRange}
 use Rattle.gfx_base.proofs.ResultLemmas.{and_then_at, and_then_refused}
-use Rattle.gfx_dwt.specs.declared.layout.Transform.{Transform}
 use Rattle.gfx_surface.specs.Picture.{Picture, IsPicture}
 use Rattle.gfx_prog_block.specs.declared.area.Area.{Area}
 use Rattle.gfx_prog_block.specs.declared.block.Block.{Block}
@@ -21,13 +20,12 @@ use Rattle.gfx_prog_block.specs.declared.tile.FirstPass.{FirstPass}
 use Rattle.gfx_prog_block.specs.declared.tile.TileHead.{TileHead}
 use Rattle.gfx_prog_block.specs.declared.tile.UpgradePass.{UpgradePass}
 use Rattle.gfx_prog_block.specs.Reading.{blocks_of}
-use Rattle.gfx_tile_state.specs.Record.{fits_transform}
 use Rattle.gfx_tile_state.specs.declared.state.TileState.{TileState}
 use Rattle.gfx_prog_decode.specs.declared.key.Key.{Key}
 use Rattle.gfx_prog_decode.specs.declared.key.Place.{Place}
 use Rattle.gfx_prog_decode.specs.declared.saved.Saved.{Saved}
 use Rattle.gfx_prog_decode.specs.Coding.{Coding, are_bases, coding_of}
-use Rattle.gfx_prog_decode.specs.Inside.{Begins, Passes}
+use Rattle.gfx_prog_decode.specs.Inside.{Begins, Passes, Starts}
 use Rattle.gfx_prog_decode.specs.Passes.{improved, may_start, start_of, started}
 use Rattle.gfx_prog_decode.specs.Progressive.{after_block, after_first, after_message, after_region, after_tile, after_upgrade, found, is_difference, key_of, with_tile}
 use Rattle.gfx_prog_decode.specs.Records.{Records}
@@ -35,7 +33,6 @@ use Rattle.gfx_prog_decode.specs.Scene.{Scene, in_turn, scene}
 use Rattle.gfx_prog_decode.specs.Showing.{shown_in}
 use Rattle.gfx_prog_decode.specs.Undo.{IsUndoable, Keeps, StaysUndoable, undone}
 use Rattle.gfx_prog_decode.proofs.Keys.{get-inserted}
-use Rattle.gfx_prog_decode.proofs.Tiles.{begun_alike}
 use Rattle.gfx_prog_decode.proofs.Undoing.{only_insert, only_self, only_shown}
 
 -- ---- a loop over a list
@@ -132,25 +129,23 @@ module _ (place : Place) (region : RegionRead) (head : TileHead) (flags quality 
     unfolding after_first
     first_is may = and_then_at first_coding coding _ coded ∙ and_then_at first_may tt _ may
 
-    -- its pass is refused
-    pub first_refused : (begun after : Records) (refusal : Refusal) → first_may ≡ Ok tt → Begins key old.records begun
-        → IfSome (get begun key) (λ tile. Passes (Err refusal) (started (is_difference flags) coding pass tile) key begun after)
-        → after_first place region head flags quality pass old ≡ Err refusal
-    first_refused begun after refusal may begins passes =
-        let p = of_found key begun after (get begun key) (start_of (found old key)) (Err refusal) (started (is_difference flags) coding pass) begins.stands passes in
-        first_is may ∙ refused_by (started (is_difference flags) coding pass (start_of (found old key))) (with_tile old key region.rects) refusal p.1
+    -- its pass is refused, or memory is wanting
+    pub first_failed : (fault : Cause Refusal) (after : Records) (new : Scene) → first_may ≡ Ok tt
+        → Starts (Err fault) (started (is_difference flags) coding pass (start_of (found old key))) key old.records after
+        → Gives {X = Unit {0}} (λ _. new) (Err fault) (after_first place region head flags quality pass old)
+    first_failed Memory after new may is = tt
+    first_failed (Refused refusal) after new may is =
+        first_is may ∙ refused_by (started (is_difference flags) coding pass (start_of (found old key))) (with_tile old key region.rects) refusal is
 
     -- it is kept and drawn
-    pub first_done : (begun after : Records) (new : Picture) → first_may ≡ Ok tt → Begins key old.records begun
-        → IfSome (get begun key) (λ tile. Passes (Ok tt) (started (is_difference flags) coding pass tile) key begun after)
+    pub first_done : (after : Records) (new : Picture) → first_may ≡ Ok tt
+        → Starts (Ok tt) (started (is_difference flags) coding pass (start_of (found old key))) key old.records after
         → IfSome (get after key) (λ t. new ≡ shown_in old.picture key region.rects t)
         → after_first place region head flags quality pass old ≡ Ok (scene after new)
-    first_done begun after new may begins passes shown =
-        let p = of_found key begun after (get begun key) (start_of (found old key)) (Ok tt) (started (is_difference flags) coding pass) begins.stands passes in
-        let left : after ≡ insert old.records key p.0 = p.2 ∙ begins.same p.0 in
+    first_done after new may (next, is, left) shown =
         first_is may
-        ∙ left_by (started (is_difference flags) coding pass (start_of (found old key))) (with_tile old key region.rects) p.0 (scene after new) p.1
-        (λ i. scene (left i) (drawn_left key old.records after p.0 old.picture new region.rects left shown i))
+        ∙ left_by (started (is_difference flags) coding pass (start_of (found old key))) (with_tile old key region.rects) next (scene after new) is
+        (λ i. scene (left i) (drawn_left key old.records after next old.picture new region.rects left shown i))
 
 -- ---- an upgrade tile
 
@@ -215,14 +210,6 @@ shown_undone key records after tile old new areas log more left drawn keeps =
     subst (StaysUndoable log (scene records old) more) (λ i. scene (sym left i) (sym drawn i))
     (keeps (scene (insert records key tile) (shown_in old key areas tile)) (only_shown key records tile old areas))
 
--- a difference tile may be taken in place
-pub may_begin : (key : Key) (records begun : Records) (difference : Bool) (count : ℕ) (t : Transform) → Begins key records begun
-    → Ok tt ≡ may_start difference (get records key) count t
-    → IsSomeAnd (get begun key) (λ tile. difference ≡ true → fits_transform tile.transform t ≡ true)
-may_begin key records begun difference count t begins may =
-    subst (λ o. IsSomeAnd o (λ tile. difference ≡ true → fits_transform tile.transform t ≡ true)) (sym begins.stands)
-    (begun_alike (get records key) count t difference may)
-
 -- whether a record was found
 pub not_found : (o : Option (Bor TileState)) (b : Bool) (found : Option TileState) → is_some o ≡ not b → b ≡ true → option_copied o ≡ found → found ≡ None
 not_found None b found is none copied = sym copied
@@ -248,16 +235,25 @@ found_shown key records begun after None due old new areas log more same some pa
 found_shown key records begun after (Some tile) due old new areas log more same some (next, says, left) shown keeps =
     shown_undone key records after next old new areas log more (left ∙ same next) (drawn_left key begun after next old new areas left shown) keeps
 
--- a record that was begun is there
-pub begun_there : (key : Key) (records begun : Records) → Begins key records begun → IsSome (get begun key)
-begun_there key records begun begins = ap is_some begins.stands
-
+-- a record that was begun
 pub begun_undone : (key : Key) (records begun after : Records) (result : Result (Unit {0}) Refusal) (due : TileState → Result TileState Refusal) (picture : Picture)
     (log more : List Saved) → IsPicture picture → Begins key records begun → IfSome (get begun key) (λ tile. Passes result (due tile) key begun after)
     → Keeps key (scene records picture) log more → StaysUndoable log (scene records picture) more (scene after picture)
 begun_undone key records begun after result due picture log more shape begins passes keeps =
     pass_undone key records begun after result (due (start_of (get records key))) picture log more shape begins.same
     (of_found key begun after (get begun key) (start_of (get records key)) result due begins.stands passes) keeps
+
+-- a record that took a pass and was drawn
+pub started_shown : (key : Key) (records after : Records) (due : Result TileState Refusal) (old new : Picture) (areas : List Area) (log more : List Saved)
+    → Starts (Ok tt) due key records after → IfSome (get after key) (λ t. new ≡ shown_in old key areas t)
+    → Keeps key (scene records old) log more → StaysUndoable log (scene records old) more (scene after new)
+started_shown key records after due old new areas log more (next, is, left) shown keeps =
+    shown_undone key records after next old new areas log more left (drawn_left key records after next old new areas left shown) keeps
+
+-- what holds in any case holds where there is no answer
+pub where_err : {A E : Type 0} (result : Result A E) (P : Type 0) → P → OnErr result P
+where_err (Ok x) P holds = tt
+where_err (Err e) P holds = holds
 
 -- nothing was done yet
 pub self_undone : (key : Key) (records after : Records) (picture : Picture) (log more : List Saved) → IsPicture picture → after ≡ records

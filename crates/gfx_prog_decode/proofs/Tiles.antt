@@ -1,5 +1,5 @@
 -- Passes over all components.
-use Rattle.std.proofs.Common.{◌≡◌, ◌∙◌, ap, sym, refl, subst, ◌≤◌, Bool, true, false, ℕ, List, Option, Some, None, Result, Ok, Err, T, arith}
+use Rattle.std.proofs.Common.{◌≡◌, ◌∙◌, ap, sym, refl, subst, Bool, true, false, ℕ, List, Option, Some, Result, Ok, Err, T, arith}
 use Rattle.std.specs.Prelude.{ℤ, OnOk}
 use Rattle.gfx_base.specs.Outcome.{Performs, Says}
 use Rattle.gfx_base.specs.Results.{and_then}
@@ -8,7 +8,6 @@ use Rattle.gfx_base.specs.declared.refusal.Refusal.TheVariants.{TransformChanged
 use Rattle.gfx_base.proofs.ResultLemmas.{and_then_at, and_then_refused}
 use Rattle.gfx_dwt.specs.declared.layout.Transform.{Transform}
 use Rattle.gfx_dwt.specs.declared.layout.Transform.TheVariants.{Plain, Reduced}
-use Rattle.gfx_quant.specs.declared.quant.Component.{Component}
 use Rattle.gfx_quant.specs.declared.quant.Component.TheVariants.{Y, Cb, Cr}
 use Rattle.gfx_prog_block.specs.declared.tile.FirstPass.{FirstPass}
 use Rattle.gfx_prog_block.specs.declared.tile.UpgradePass.{UpgradePass}
@@ -22,8 +21,8 @@ use Rattle.gfx_tile_state.specs.Record.{MayAdd, MayBeUpgraded, MayUpgrade, Start
 use Rattle.gfx_tile_state.specs.Shape.{AreBelow}
 use Rattle.gfx_tile_state.proofs.Making.{first-is, upgrade-is, upgrades-is}
 use Rattle.gfx_prog_decode.specs.Inside.{coding_seen}
-use Rattle.gfx_prog_decode.specs.Coding.{positions_in}
-use Rattle.gfx_prog_decode.specs.Passes.{improved, kept_of, may_start, part_improved, part_started, start_of, started}
+use Rattle.gfx_prog_decode.specs.Coding.{Coding, positions_in}
+use Rattle.gfx_prog_decode.specs.Passes.{improved, kept_of, may_start, start_of, started}
 
 -- what was performed is what is said
 performed : {S : Type 0} (result : Result (Unit {0}) Refusal) (old new : S) (due : Result S Refusal) → Performs result old new due → Says (λ _. new) result due
@@ -60,6 +59,11 @@ begun_alike old count t true may is = by (fits_transform (start_of old).transfor
     by : (b : Bool) → fits_transform (start_of old).transform t ≡ b → b ≡ true
     by true fits = refl
     by false unlike = let no : ◌≡◌ {A = Result (Unit {0}) Refusal} (Ok tt) (Err TransformChanged) = may ∙ rw unlike refl in cc
+
+-- a plain first pass doesn't read the record
+pub started_anew : (coding : Coding) (pass : FirstPass) (one other : TileState) → started false coding pass one ≡ started false coding pass other
+unfolding started
+started_anew coding pass one other = refl
 
 -- a transform is like itself
 pub alike : (t : Transform) → fits_transform (Some t) t ≡ true

@@ -1,6 +1,6 @@
 -- How a tile is coded, by its head and its region ([MS-RDPEGFX] 2.2.4.2.1.5, RFX_PROGRESSIVE_TILE_SIMPLE, _FIRST and
 -- _UPGRADE). The order of the checks is this project's own rule.
-use Rattle.std.specs.Prelude.{ℕ, ◌+◌, ◌*◌, ◌%◌, ◌==◌, Bool, ◌&&◌, nat_lt, List, [], ◌∷◌, slice_get, Result, Ok, Err, if◌then◌else◌}
+use Rattle.std.specs.Prelude.{ℕ, ◌+◌, ◌*◌, ◌%◌, ◌==◌, Bool, ◌&&◌, nat_lt, List, [], ◌∷◌, slice_get, Result, Ok, if◌then◌else◌}
 use Rattle.std.specs.List.{list_all}
 use Rattle.std.specs.Option.{ok_or}
 use Rattle.gfx_base.specs.declared.refusal.Refusal.{Refusal}

@@ -1,7 +1,9 @@
 -- How records are kept, and what the calls between them hand on.
-use Rattle.std.specs.Prelude.{◌≡◌, ℕ, ◌+◌, ◌-◌, min, max, Bool, ◌&&◌, IsTrue, if◌then◌else◌, List, Option, Some, None, Result, Ok, Err}
+use Rattle.std.specs.Prelude.{◌≡◌, ℕ, ◌+◌, ◌-◌, min, max, Bool, ◌&&◌, IsTrue, if◌then◌else◌, List, Some, Result, Ok, Err}
 use Rattle.std.specs.FinMap as finmap
 use Rattle.std.specs.FinMap.{from_entries}
+use Rattle.gfx_base.specs.declared.answer.Cause.{Cause}
+use Rattle.gfx_base.specs.declared.answer.Cause.TheVariants.{Memory, Refused}
 use Rattle.gfx_base.specs.declared.format.Format.TheVariants.{Argb}
 use Rattle.gfx_base.specs.declared.geometry.Rect.{Rect}
 use Rattle.gfx_base.specs.declared.refusal.Refusal.{Refusal}
@@ -46,6 +48,12 @@ pub record HaveBases (level : Level) : Type 0 where
 -- a pass of a key's record: whatever comes of it, all else is as it was
 abbrev pub Passes : Result (Unit {0}) Refusal → Result TileState Refusal → Key → Records → Records → Type 0
 Passes result due key old new = (next : TileState) × Says (λ _. next) result due × (new ≡ finmap.insert old key next)
+
+-- a first pass of a key's record, or the record that takes its place: what comes of it
+abbrev pub Starts : Result (Unit {0}) (Cause Refusal) → Result TileState Refusal → Key → Records → Records → Type 0
+Starts (Ok done) due key old new = (next : TileState) × (due ≡ Ok next) × (new ≡ finmap.insert old key next)
+Starts (Err Memory) due key old new = Unit {0}
+Starts (Err (Refused refusal)) due key old new = due ≡ Err refusal
 
 -- a surface of one tile
 pub record IsCanvas (picture : Picture) : Type 0 where

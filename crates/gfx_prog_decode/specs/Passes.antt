@@ -1,6 +1,6 @@
 -- What a tile's data make of the record of its cell ([MS-RDPEGFX] 3.2.8; difference tiles, the number of records and the
 -- order of the checks are this project's own rules).
-use Rattle.std.specs.Prelude.{ℕ, ℤ, Bool, true, false, ◌||◌, not, nat_lt, is_some, List, Option, Some, None, Result, Ok, Err}
+use Rattle.std.specs.Prelude.{ℕ, ℤ, Bool, true, false, ◌||◌, not, nat_lt, is_some, List, Option, Some, None, Result, Ok}
 use Rattle.gfx_base.specs.declared.refusal.Refusal.{Refusal}
 use Rattle.gfx_base.specs.declared.refusal.Refusal.TheVariants.{TileBudget, TransformChanged}
 use Rattle.gfx_base.specs.Results.{◌>>=◌, check}

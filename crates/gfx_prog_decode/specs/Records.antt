@@ -1,6 +1,6 @@
 -- The records that progressive messages leave ([MS-RDPEGFX] 3.2.8): at most one for each surface, encoding context
 -- and cell. How many there may be is this project's own rule.
-use Rattle.std.specs.Prelude.{refl, ◌≡◌, ℕ, ◌==◌, Bool, ◌&&◌, not, List, [], ◌∷◌}
+use Rattle.std.specs.Prelude.{refl, ℕ, ◌==◌, ◌&&◌, not, List, [], ◌∷◌}
 use Rattle.std.specs.Coded.{Coded, code_by, coded×, coded_ℕ}
 use Rattle.std.specs.Cmp.Lexicographic.{slice_cmp}
 use Rattle.std.specs.FinMap as finmap

@@ -1,23 +1,22 @@
 //! The data of a message, applied block after block. Where a step gives no answer, the caller undoes the message.
-ghost use Rattle.std.specs.Prelude.{◌≡◌, IfSome, IsSome, IsSomeAnd, IsTrue, true};
+ghost use Rattle.std.specs.Prelude.{◌≡◌, [], IfSome, IsSome, IsTrue};
 ghost use Rattle.std.specs.FinMap as finmap;
 ghost use Rattle.gfx_base.specs.Outcome.{Applies, Gives};
 ghost use Rattle.gfx_prog_decode.specs.Coding.{are_bases, begins_in};
 ghost use Rattle.gfx_prog_decode.specs.Inside.{IsCanvas, Passes, coding_seen};
-ghost use Rattle.gfx_prog_decode.specs.Passes.{improved, started};
+ghost use Rattle.gfx_prog_decode.specs.Passes.{improved};
 ghost use Rattle.gfx_prog_decode.specs.Progressive.{after_block, after_first, after_message, after_region, after_tile, after_upgrade};
 ghost use Rattle.gfx_prog_decode.specs.Scene.{in_turn, scene};
 ghost use Rattle.gfx_prog_decode.specs.Showing.{shown_in};
 ghost use Rattle.gfx_prog_decode.specs.Undo.{StaysUndoable};
-ghost use Rattle.gfx_tile_state.specs.Record.{fits_transform};
 
 use crate::coding::{check_bases, shape_of};
 use crate::key::{Key, Place};
-use crate::log::{keep, undo};
-use crate::passing::{check_start, improve_tile, start_tile};
+use crate::log::{Log, keep, undo};
+use crate::passing::{check_start, improve_tile};
 use crate::records::Records;
-use crate::saved::Saved;
 use crate::showing::{canvas, show};
+use crate::starting::start;
 use gfx_base::{Fault, Refusal};
 use gfx_prog_block::{
     Area, Block, DIFFERENCE, FirstPass, NO_QUALITY, Region, Tile, TileHead, UpgradePass,
@@ -61,8 +60,27 @@ fn apply_all(
     requires { IsCanvas canvas.old }
     ensures { Applies result (scene records.old surface.old) (scene records.new surface.new) (in_turn (after_block place) blocks.now (scene records.old surface.old)) }
 {
-    let mut log = Vec::new(alloc);
-    match apply_blocks(alloc, records, surface, canvas, &mut log, place, blocks) {
+    let mut log = records.take_log(alloc);
+    let result = apply_whole(alloc, records, surface, canvas, &mut log, place, blocks);
+    records.give_back(log);
+    result
+}
+
+/// The same with a log, which is empty.
+fn apply_whole(
+    alloc: Global,
+    records: &mut Records,
+    surface: &mut Surface,
+    canvas: &mut Surface,
+    log: &mut Log,
+    place: Place,
+    blocks: &[Block<'_>],
+) -> Result<(), Fault>
+    requires canvas { IsCanvas canvas.old }
+    requires empty { log.old.cells.items ≡ [] }
+    ensures { Applies result (scene records.old surface.old) (scene records.new surface.new) (in_turn (after_block place) blocks.now (scene records.old surface.old)) }
+{
+    match apply_blocks(alloc, records, surface, canvas, log, place, blocks) {
         Ok(()) => Ok(()),
         Err(fault) => {
             undo(records, surface, log);
@@ -77,13 +95,13 @@ fn apply_blocks(
     records: &mut Records,
     surface: &mut Surface,
     canvas: &mut Surface,
-    log: &mut Vec<Saved>,
+    log: &mut Log,
     place: Place,
     blocks: &[Block<'_>],
 ) -> Result<(), Fault>
     requires { IsCanvas canvas.old }
     ensures gives { Gives (λ _. scene records.new surface.new) result (in_turn (after_block place) blocks.now (scene records.old surface.old)) }
-    ensures undo { StaysUndoable log.old.items (scene records.old surface.old) log.new.items (scene records.new surface.new) }
+    ensures undo { StaysUndoable log.old.cells.items (scene records.old surface.old) log.new.cells.items (scene records.new surface.new) }
 {
     'all: for block in blocks {
         apply_block(alloc, records, surface, canvas, log, place, block)?;
@@ -97,13 +115,13 @@ fn apply_block(
     records: &mut Records,
     surface: &mut Surface,
     canvas: &mut Surface,
-    log: &mut Vec<Saved>,
+    log: &mut Log,
     place: Place,
     block: &Block<'_>,
 ) -> Result<(), Fault>
     requires { IsCanvas canvas.old }
     ensures gives { Gives (λ _. scene records.new surface.new) result (after_block place block.now (scene records.old surface.old)) }
-    ensures undo { StaysUndoable log.old.items (scene records.old surface.old) log.new.items (scene records.new surface.new) }
+    ensures undo { StaysUndoable log.old.cells.items (scene records.old surface.old) log.new.cells.items (scene records.new surface.new) }
     ensures canvas { IsCanvas canvas.new }
 {
     match block {
@@ -118,13 +136,13 @@ fn apply_region(
     records: &mut Records,
     surface: &mut Surface,
     canvas: &mut Surface,
-    log: &mut Vec<Saved>,
+    log: &mut Log,
     place: Place,
     region: &Region<'_>,
 ) -> Result<(), Fault>
     requires { IsCanvas canvas.old }
     ensures gives { Gives (λ _. scene records.new surface.new) result (after_region place region.now (scene records.old surface.old)) }
-    ensures undo { StaysUndoable log.old.items (scene records.old surface.old) log.new.items (scene records.new surface.new) }
+    ensures undo { StaysUndoable log.old.cells.items (scene records.old surface.old) log.new.cells.items (scene records.new surface.new) }
     ensures canvas { IsCanvas canvas.new }
 {
     check_bases(region.quants.as_slice())?;
@@ -146,7 +164,7 @@ fn apply_tiles(
     records: &mut Records,
     surface: &mut Surface,
     canvas: &mut Surface,
-    log: &mut Vec<Saved>,
+    log: &mut Log,
     place: Place,
     region: &Region<'_>,
     tiles: &[Tile<'_>],
@@ -154,7 +172,7 @@ fn apply_tiles(
     requires canvas { IsCanvas canvas.old }
     requires bases { IsTrue (are_bases region.now.quants) }
     ensures gives { Gives (λ _. scene records.new surface.new) result (in_turn (after_tile place region.now) tiles.now (scene records.old surface.old)) }
-    ensures undo { StaysUndoable log.old.items (scene records.old surface.old) log.new.items (scene records.new surface.new) }
+    ensures undo { StaysUndoable log.old.cells.items (scene records.old surface.old) log.new.cells.items (scene records.new surface.new) }
     ensures canvas { IsCanvas canvas.new }
 {
     'tiles: for tile in tiles {
@@ -169,7 +187,7 @@ fn apply_tile(
     records: &mut Records,
     surface: &mut Surface,
     canvas: &mut Surface,
-    log: &mut Vec<Saved>,
+    log: &mut Log,
     place: Place,
     region: &Region<'_>,
     tile: &Tile<'_>,
@@ -177,7 +195,7 @@ fn apply_tile(
     requires canvas { IsCanvas canvas.old }
     requires bases { IsTrue (are_bases region.now.quants) }
     ensures gives { Gives (λ _. scene records.new surface.new) result (after_tile place region.now tile.now (scene records.old surface.old)) }
-    ensures undo { StaysUndoable log.old.items (scene records.old surface.old) log.new.items (scene records.new surface.new) }
+    ensures undo { StaysUndoable log.old.cells.items (scene records.old surface.old) log.new.cells.items (scene records.new surface.new) }
     ensures canvas { IsCanvas canvas.new }
 {
     match tile {
@@ -208,7 +226,7 @@ fn apply_first(
     records: &mut Records,
     surface: &mut Surface,
     canvas: &mut Surface,
-    log: &mut Vec<Saved>,
+    log: &mut Log,
     place: Place,
     region: &Region<'_>,
     head: &TileHead,
@@ -219,7 +237,7 @@ fn apply_first(
     requires canvas { IsCanvas canvas.old }
     requires bases { IsTrue (are_bases region.now.quants) }
     ensures gives { Gives (λ _. scene records.new surface.new) result (after_first place region.now head.now flags quality pass.now (scene records.old surface.old)) }
-    ensures undo { StaysUndoable log.old.items (scene records.old surface.old) log.new.items (scene records.new surface.new) }
+    ensures undo { StaysUndoable log.old.cells.items (scene records.old surface.old) log.new.cells.items (scene records.new surface.new) }
     ensures canvas { IsCanvas canvas.new }
 {
     let shape = shape_of(region, surface.size(), head, quality)?;
@@ -231,9 +249,7 @@ fn apply_first(
         records.count(),
         shape.transform,
     )?;
-    keep(alloc, log, records, surface, key)?;
-    records.begin(alloc, key)?;
-    start_record(records, key, difference, &shape, pass)?;
+    start(alloc, log, records, surface, key, difference, &shape, pass)?;
     show_record(records, canvas, surface, key, region.rects.as_slice());
     Ok(())
 }
@@ -244,7 +260,7 @@ fn apply_upgrade(
     records: &mut Records,
     surface: &mut Surface,
     canvas: &mut Surface,
-    log: &mut Vec<Saved>,
+    log: &mut Log,
     place: Place,
     region: &Region<'_>,
     head: &TileHead,
@@ -254,7 +270,7 @@ fn apply_upgrade(
     requires canvas { IsCanvas canvas.old }
     requires bases { IsTrue (are_bases region.now.quants) }
     ensures gives { Gives (λ _. scene records.new surface.new) result (after_upgrade place region.now head.now quality pass.now (scene records.old surface.old)) }
-    ensures undo { StaysUndoable log.old.items (scene records.old surface.old) log.new.items (scene records.new surface.new) }
+    ensures undo { StaysUndoable log.old.cells.items (scene records.old surface.old) log.new.cells.items (scene records.new surface.new) }
     ensures canvas { IsCanvas canvas.new }
 {
     let shape = shape_of(region, surface.size(), head, quality)?;
@@ -266,23 +282,6 @@ fn apply_upgrade(
     improve_record(records, key, &shape, pass)?;
     show_record(records, canvas, surface, key, region.rects.as_slice());
     Ok(())
-}
-
-/// A first pass of a key's record.
-fn start_record(
-    records: &mut Records,
-    key: Key,
-    difference: bool,
-    shape: &PassShape,
-    pass: &FirstPass<'_>,
-) -> Result<(), Refusal>
-    requires { IsSomeAnd (finmap.get records.old key) (λ tile. difference ≡ true → fits_transform tile.transform shape.now.transform ≡ true) }
-    ensures { IfSome (finmap.get records.old key) (λ tile. Passes result (started difference (coding_seen shape.now) pass.now tile) key records.old records.new) }
-{
-    match records.get_mut(key) {
-        Some(tile) => start_tile(tile, difference, shape, pass),
-        None => Ok(()),
-    }
 }
 
 /// An upgrade of a key's record.

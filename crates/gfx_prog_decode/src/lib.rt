@@ -13,6 +13,8 @@ mod passing;
 mod records;
 mod saved;
 mod showing;
+mod spare;
+mod starting;
 
 pub use key::{Key, Place};
 pub use records::Records;

@@ -1,18 +1,58 @@
 //! Cells as they stood before a message, kept and put back.
-ghost use Rattle.std.specs.Prelude.{◌≡◌, IfOk, IsTrue, OnErr, OnOk};
+ghost use Rattle.std.specs.Prelude.{◌≡◌, [], IfOk, IsTrue, OnErr, OnOk};
+ghost use Rattle.std.specs.FinMap as finmap;
+ghost use Rattle.gfx_base.specs.Geometry.{lies_in};
 ghost use Rattle.gfx_prog_decode.specs.Coding.{begins_in};
 ghost use Rattle.gfx_prog_decode.specs.Scene.{scene};
 ghost use Rattle.gfx_prog_decode.specs.Showing.{cell_in};
 ghost use Rattle.gfx_prog_decode.specs.Undo.{CanBack, HasPlace, IsSavedOf, Keeps, fills_in, fits_in, is_of, is_saved, picture_back, put_back, undone};
+ghost use Rattle.gfx_surface.specs.Picture.{rect_of};
 
 use crate::coding::begins_in;
 use crate::key::Key;
 use crate::records::Records;
 use crate::saved::Saved;
 use crate::showing::cell_in;
-use gfx_base::{NoMemory, Pixel};
+use crate::spare::Spare;
+use gfx_base::{NoMemory, Pixel, Rect};
 use gfx_surface::Surface;
+use gfx_tile_state::TileState;
 use std::alloc::Global;
+
+/// The cells that a message touched, and memory for more of them.
+#[derive(Drop)]
+pub(crate) struct Log {
+    pub(crate) cells: Vec<Saved>,
+    spare: Spare,
+}
+
+impl Log {
+    /// No cells. It takes no memory.
+    pub(crate) fn new(alloc: Global) -> Log
+        ensures { result.cells.items ≡ [] }
+    {
+        Log {
+            cells: Vec::new(alloc),
+            spare: Spare::new(alloc),
+        }
+    }
+
+    /// A record, of any state.
+    pub(crate) fn tile(&mut self, alloc: Global) -> Result<TileState, NoMemory>
+        ensures { self.new.cells.items ≡ self.old.cells.items }
+    {
+        self.spare.tile(alloc)
+    }
+
+    /// Lets go of all cells and keeps their memory.
+    pub(crate) fn spend(&mut self)
+        ensures { self.new.cells.items ≡ [] }
+    {
+        'cells: while let Some(saved) = self.cells.pop() {
+            self.spare.take(saved);
+        }
+    }
+}
 
 /// Whether saved pixels are those of a cell on a surface of these sides.
 fn fits(saved: &Saved, size: (u16, u16)) -> bool
@@ -44,38 +84,108 @@ fn is_of(saved: &Saved, size: (u16, u16), key: Key) -> bool
     saved.key == key && fits(saved, size)
 }
 
+/// The pixels of a rectangle.
+fn read(
+    alloc: Global,
+    spare: &mut Spare,
+    surface: &Surface,
+    rect: Rect,
+) -> Result<Vec<Pixel>, NoMemory>
+    requires { IsTrue (lies_in surface.now.width surface.now.height rect) }
+    ensures { IfOk result (λ pixels. pixels.items ≡ rect_of surface.now rect) }
+{
+    let count = usize::from(rect.width()) * usize::from(rect.height());
+    let mut pixels = spare.pixels(alloc, count)?;
+    surface.read(rect, &mut pixels);
+    Ok(pixels)
+}
+
 /// A cell as it stands.
-fn save(alloc: Global, records: &Records, surface: &Surface, key: Key) -> Result<Saved, NoMemory>
+fn save(
+    alloc: Global,
+    spare: &mut Spare,
+    records: &Records,
+    surface: &Surface,
+    key: Key,
+) -> Result<Saved, NoMemory>
     requires { IsTrue (begins_in surface.now.width surface.now.height key.x key.y) }
     ensures { IfOk result (IsSavedOf key (scene records.now surface.now)) }
 {
     let tile = match records.get(key) {
-        Some(tile) => Some(tile.copy()?),
+        Some(tile) => Some(spare.copy(tile)?),
         None => None,
     };
-    let rect = cell_in(surface.size(), key);
-    let count = usize::from(rect.width()) * usize::from(rect.height());
-    let mut pixels = vec![in alloc; Pixel::default(); count]?;
-    surface.read(rect, &mut pixels);
+    let pixels = read(alloc, spare, surface, cell_in(surface.size(), key))?;
     Ok(Saved { key, tile, pixels })
 }
 
 /// Keeps a cell before its first change.
 pub(crate) fn keep(
     alloc: Global,
-    log: &mut Vec<Saved>,
+    log: &mut Log,
     records: &Records,
     surface: &Surface,
     key: Key,
 ) -> Result<(), NoMemory>
     requires { IsTrue (begins_in surface.now.width surface.now.height key.x key.y) }
-    ensures ok { OnOk result (Keeps key (scene records.now surface.now) log.old.items log.new.items) }
-    ensures err { OnErr result (log.new.items ≡ log.old.items) }
+    ensures ok { OnOk result (Keeps key (scene records.now surface.now) log.old.cells.items log.new.cells.items) }
+    ensures err { OnErr result (log.new.cells.items ≡ log.old.cells.items) }
 {
     let size = surface.size();
-    if !is_kept(log, size, key) {
-        log.push(save(alloc, records, surface, key)?)?;
+    if !is_kept(&log.cells, size, key) {
+        let saved = save(alloc, &mut log.spare, records, surface, key)?;
+        log.cells.push(saved)?;
     }
+    Ok(())
+}
+
+/// Puts a record in the place of a key's own, and keeps the cell before its first change.
+pub(crate) fn exchange(
+    alloc: Global,
+    log: &mut Log,
+    records: &mut Records,
+    surface: &Surface,
+    key: Key,
+    tile: TileState,
+) -> Result<(), NoMemory>
+    requires { IsTrue (begins_in surface.now.width surface.now.height key.x key.y) }
+    ensures exchanged { OnOk result (records.new ≡ finmap.insert records.old key tile) }
+    ensures keeps { OnOk result (Keeps key (scene records.old surface.now) log.old.cells.items log.new.cells.items) }
+    ensures same { OnErr result (records.new ≡ records.old) }
+    ensures log { OnErr result (log.new.cells.items ≡ log.old.cells.items) }
+{
+    let size = surface.size();
+    if is_kept(&log.cells, size, key) {
+        let old = records.exchange(key, tile)?;
+        log.spare.take_record(old);
+        return Ok(());
+    }
+    exchange_first(alloc, log, records, surface, key, tile)
+}
+
+/// The same where the cell isn't kept yet: the record that was there is moved to the log.
+fn exchange_first(
+    alloc: Global,
+    log: &mut Log,
+    records: &mut Records,
+    surface: &Surface,
+    key: Key,
+    tile: TileState,
+) -> Result<(), NoMemory>
+    requires { IsTrue (begins_in surface.now.width surface.now.height key.x key.y) }
+    ensures exchanged { OnOk result (records.new ≡ finmap.insert records.old key tile) }
+    ensures keeps { OnOk result (Keeps key (scene records.old surface.now) log.old.cells.items log.new.cells.items) }
+    ensures same { OnErr result (records.new ≡ records.old) }
+    ensures log { OnErr result (log.new.cells.items ≡ log.old.cells.items) }
+{
+    let pixels = read(alloc, &mut log.spare, surface, cell_in(surface.size(), key))?;
+    log.cells.reserve(1)?;
+    let old = records.exchange(key, tile)?;
+    log.cells.push_reserved(Saved {
+        key,
+        tile: old,
+        pixels,
+    });
     Ok(())
 }
 
@@ -99,12 +209,11 @@ fn put_pixels_back(surface: &mut Surface, saved: &Saved)
 }
 
 /// Puts all cells back, the last one first.
-pub(crate) fn undo(records: &mut Records, surface: &mut Surface, log: Vec<Saved>)
-    requires { CanBack log.items (scene records.old surface.old) }
-    ensures { scene records.new surface.new ≡ undone log.items (scene records.old surface.old) }
+pub(crate) fn undo(records: &mut Records, surface: &mut Surface, log: &mut Log)
+    requires { CanBack log.old.cells.items (scene records.old surface.old) }
+    ensures { scene records.new surface.new ≡ undone log.old.cells.items (scene records.old surface.old) }
 {
-    let mut log = log;
-    'cells: while let Some(saved) = log.pop() {
+    'cells: while let Some(saved) = log.cells.pop() {
         put_back(records, surface, saved);
     }
 }

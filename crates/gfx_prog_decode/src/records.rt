@@ -1,4 +1,4 @@
-ghost use Rattle.std.specs.Prelude.{◌≡◌, ◌==◌, ◌&&◌, not, IsSome, OnErr, OnOk};
+ghost use Rattle.std.specs.Prelude.{◌≡◌, [], ◌==◌, ◌&&◌, not, IfOk, IsSome, OnErr, OnOk};
 ghost use Rattle.std.specs.FinMap as finmap;
 ghost use Rattle.std.specs.Option.{option_copied, option_copied_mut};
 ghost use Rattle.std.specs.Borrow.{sem};
@@ -12,18 +12,22 @@ ghost use Rattle.gfx_prog_decode.specs.Undo.{HasPlace, records_back};
 
 use crate::applying::apply_data;
 use crate::key::{Key, Place};
+use crate::log::Log;
 use gfx_base::{Fault, NoMemory};
 use gfx_surface::Surface;
 use gfx_tile_state::TileState;
 use indexmap::IndexMap;
 use std::alloc::Global;
 use std::marker::Model;
+use std::mem;
 
 /// The records of tiles that progressive messages left, each by its surface, its encoding context and its cell.
-/// Contracts see the map.
+/// Contracts see the map. Beside it stands memory that messages took, kept so that the next one takes none.
 #[derive(Drop)]
 pub struct Records {
     tiles: IndexMap<Key, TileState>,
+    /// Between messages it has no cells, only memory for them.
+    log: Log,
 }
 
 impl Model for Records {
@@ -45,6 +49,7 @@ impl Records {
     {
         Records {
             tiles: IndexMap::new(alloc),
+            log: Log::new(alloc),
         }
     }
 
@@ -98,6 +103,24 @@ impl Records {
         );
     }
 
+    /// A log without cells, in the memory of messages before. It takes none itself.
+    pub(crate) fn take_log(&mut self, alloc: Global) -> Log
+        ensures empty { result.cells.items ≡ [] }
+        ensures same { self.new ≡ self.old }
+    {
+        let mut log = mem::replace(&mut self.log, Log::new(alloc));
+        log.cells.clear();
+        log
+    }
+
+    /// Keeps the memory of a log for the next message.
+    pub(crate) fn give_back(&mut self, log: Log)
+        ensures { self.new ≡ self.old }
+    {
+        self.log = log;
+        self.log.spend();
+    }
+
     /// The record of a key, if there is one.
     pub(crate) fn get(&self, key: Key) -> Option<&TileState>
         ensures { option_copied result ≡ finmap.get self.now key }
@@ -124,6 +147,20 @@ impl Records {
         let tile = TileState::new(alloc)?;
         self.tiles.insert(key, tile)?;
         Ok(())
+    }
+
+    /// Puts a record in the place of a key's own, which it gives.
+    pub(crate) fn exchange(
+        &mut self,
+        key: Key,
+        tile: TileState,
+    ) -> Result<Option<TileState>, NoMemory>
+        ensures given { IfOk result (λ old. old ≡ finmap.get self.old key) }
+        ensures exchanged { OnOk result (self.new ≡ finmap.insert self.old key tile) }
+        ensures err { OnErr result (self.new ≡ self.old) }
+    {
+        let old = self.tiles.insert(key, tile)?;
+        Ok(old)
     }
 
     /// Puts back what a key had.

@@ -58,6 +58,15 @@ impl Part {
         })
     }
 
+    /// What another component is. It takes no memory.
+    pub fn copy_from(&mut self, other: &Part)
+        ensures { self.new ≡ other.now }
+    {
+        self.kept.copy_from_slice(&other.kept);
+        self.sums.copy_from_slice(&other.sums);
+        self.positions = other.positions;
+    }
+
     /// The bit positions of its bands.
     pub fn positions(&self) -> [u8; 10]
         ensures { result ≡ self.now.positions }

@@ -46,6 +46,16 @@ impl TileState {
         })
     }
 
+    /// What another state is. It takes no memory.
+    pub fn copy_from(&mut self, other: &TileState)
+        ensures { self.new ≡ other.now }
+    {
+        self.transform = other.transform;
+        self.y.copy_from(&other.y);
+        self.cb.copy_from(&other.cb);
+        self.cr.copy_from(&other.cr);
+    }
+
     /// A plain first pass of one component; what was there of it before is gone. An `Err` changes
     /// nothing.
     pub fn first(

@@ -9,6 +9,6 @@ use Rattle.gfx_prog_decode.proofs.applying.apply_blocks.Given as goal
 abbrev pub invariant-all : goal.invariant-all
 invariant-all l = record {
   so : SoFar (after_block l.place) l.blocks (scene l.initial.records l.initial.surface) l.block-index (scene l.records l.surface);
-  undo : StaysUndoable l.initial.log.items (scene l.initial.records l.initial.surface) l.log.items (scene l.records l.surface);
+  undo : StaysUndoable l.initial.log.cells.items (scene l.initial.records l.initial.surface) l.log.cells.items (scene l.records l.surface);
   drawing : IsCanvas l.canvas;
 }

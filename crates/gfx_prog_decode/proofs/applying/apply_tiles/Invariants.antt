@@ -9,6 +9,6 @@ use Rattle.gfx_prog_decode.proofs.applying.apply_tiles.Given as goal
 abbrev pub invariant-tiles : goal.invariant-tiles
 invariant-tiles l = record {
   so : SoFar (after_tile l.place l.region) l.tiles (scene l.initial.records l.initial.surface) l.tile-index (scene l.records l.surface);
-  undo : StaysUndoable l.initial.log.items (scene l.initial.records l.initial.surface) l.log.items (scene l.records l.surface);
+  undo : StaysUndoable l.initial.log.cells.items (scene l.initial.records l.initial.surface) l.log.cells.items (scene l.records l.surface);
   drawing : IsCanvas l.canvas;
 }

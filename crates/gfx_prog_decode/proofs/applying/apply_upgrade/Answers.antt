@@ -30,7 +30,7 @@ returns-in_err-improve_record-clause-gives c =
 pub returns-in_err-improve_record-clause-undo : goal.returns-in_err-improve_record-clause-undo
 returns-in_err-improve_record-clause-undo c =
     found_undone c.key-key.result c.args.records.now c.improve_record.new.records (get c.args.records.now c.key-key.result) c.improve_record.result
-    (improved (coding_seen c.in_ok-shape.shape) c.args.pass.now) c.args.surface.now c.args.log.now.items c.keep.new.log.items c.size.ensures.shape
+    (improved (coding_seen c.in_ok-shape.shape) c.args.pass.now) c.args.surface.now c.args.log.now.cells.items c.keep.new.log.cells.items c.size.ensures.shape
     (was_found c.get.result c.is_none.result _ c.is_none.ensures c.if-is_none.false c.get.ensures) c.improve_record.ensures c.in_ok-keep.ensures.ok
 
 pub returns-clause-gives : goal.returns-clause-gives
@@ -43,6 +43,6 @@ returns-clause-gives c =
 pub returns-clause-undo : goal.returns-clause-undo
 returns-clause-undo c =
     found_shown c.key-key.result c.args.records.now c.args.records.now c.improve_record.new.records (get c.args.records.now c.key-key.result)
-    (improved (coding_seen c.in_ok-shape.shape) c.args.pass.now) c.args.surface.now c.show_record.new.surface c.as_slice.result.now c.args.log.now.items c.keep.new.log.items
+    (improved (coding_seen c.in_ok-shape.shape) c.args.pass.now) c.args.surface.now c.show_record.new.surface c.as_slice.result.now c.args.log.now.cells.items c.keep.new.log.cells.items
     (λ tile. refl) (was_found c.get.result c.is_none.result _ c.is_none.ensures c.if-is_none.false c.get.ensures) c.in_ok-improve_record.ensures
     c.show_record.ensures.shown c.in_ok-keep.ensures.ok

@@ -4,10 +4,10 @@ use Rattle.gfx_prog_decode.proofs.log.keep.Goals as goal
 
 pub returns-in_ok-push-clause-ok : goal.returns-in_ok-push-clause-ok
 returns-in_ok-push-clause-ok c =
-    keeps_pushed c.args.key c.in_ok-save.field-0 (scene c.args.records.now c.args.surface.now) c.args.log.now.items c.push.new.self.items
-    c.in_ok-push.ensures.items c.size-size.ensures.shape c.requires c.in_ok-save.ensures
+    keeps_pushed c.args.key c.in_ok-saved.saved (scene c.args.records.now c.args.surface.now) c.args.log.now.cells.items c.push.new.self.items
+    c.in_ok-push.ensures.items c.size-size.ensures.shape c.requires c.in_ok-saved.ensures
 
 pub returns-else-not-is_kept-clause-ok : goal.returns-else-not-is_kept-clause-ok
 returns-else-not-is_kept-clause-ok c =
-    keeps_found c.args.key (scene c.args.records.now c.args.surface.now) c.args.log.now.items c.deref.result.now c.size-size.result c.is_kept.result
+    keeps_found c.args.key (scene c.args.records.now c.args.surface.now) c.args.log.now.cells.items c.deref.result.now c.size-size.result c.is_kept.result
     c.size-size.ensures.size c.deref.ensures.value c.is_kept.ensures c.if-not-is_kept.false

@@ -1,5 +1,5 @@
 use Rattle.std.proofs.lemmas.Result.{err_from_is_err_and}
-use Rattle.gfx_prog_decode.proofs.Tiles.{cb_spoiled, cr_done, may_after_cb, may_after_y, may_not, y_spoiled}
+use Rattle.gfx_prog_decode.proofs.Tiles.{cb_spoiled, cr_done, may_not, y_spoiled}
 use Rattle.gfx_prog_decode.proofs.passing.improve_tile.Goals as goal
 
 pub returns-in_err-may_upgrade : goal.returns-in_err-may_upgrade

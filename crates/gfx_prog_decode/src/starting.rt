@@ -1,0 +1,105 @@
+//! First passes of records, with their cells kept before.
+ghost use Rattle.std.specs.Prelude.{◌≡◌, IfSome, IsSomeAnd, IsTrue, OnErr, OnOk, false, true};
+ghost use Rattle.std.specs.FinMap as finmap;
+ghost use Rattle.gfx_prog_decode.specs.Coding.{begins_in};
+ghost use Rattle.gfx_prog_decode.specs.Inside.{Passes, Starts, coding_seen};
+ghost use Rattle.gfx_prog_decode.specs.Passes.{start_of, started};
+ghost use Rattle.gfx_prog_decode.specs.Scene.{scene};
+ghost use Rattle.gfx_prog_decode.specs.Undo.{Keeps, StaysUndoable};
+ghost use Rattle.gfx_surface.specs.Picture.{IsPicture};
+ghost use Rattle.gfx_tile_state.specs.Record.{fits_transform};
+
+use crate::key::Key;
+use crate::log::{Log, exchange, keep};
+use crate::passing::start_tile;
+use crate::records::Records;
+use gfx_base::{Fault, Refusal};
+use gfx_prog_block::FirstPass;
+use gfx_surface::Surface;
+use gfx_tile_state::PassShape;
+use std::alloc::Global;
+
+/// A first pass of a key's record, plain or over what it shows.
+pub(crate) fn start(
+    alloc: Global,
+    log: &mut Log,
+    records: &mut Records,
+    surface: &Surface,
+    key: Key,
+    difference: bool,
+    shape: &PassShape,
+    pass: &FirstPass<'_>,
+) -> Result<(), Fault>
+    requires shape { IsPicture surface.now }
+    requires begins { IsTrue (begins_in surface.now.width surface.now.height key.x key.y) }
+    requires fits { difference ≡ true → fits_transform (start_of (finmap.get records.old key)).transform shape.now.transform ≡ true }
+    ensures starts { Starts result (started difference (coding_seen shape.now) pass.now (start_of (finmap.get records.old key))) key records.old records.new }
+    ensures keeps { OnOk result (Keeps key (scene records.old surface.now) log.old.cells.items log.new.cells.items) }
+    ensures undo { OnErr result (StaysUndoable log.old.cells.items (scene records.old surface.now) log.new.cells.items (scene records.new surface.now)) }
+{
+    if difference {
+        start_over(alloc, log, records, surface, key, shape, pass)
+    } else {
+        start_anew(alloc, log, records, surface, key, shape, pass)
+    }
+}
+
+/// A first pass over what the record shows.
+fn start_over(
+    alloc: Global,
+    log: &mut Log,
+    records: &mut Records,
+    surface: &Surface,
+    key: Key,
+    shape: &PassShape,
+    pass: &FirstPass<'_>,
+) -> Result<(), Fault>
+    requires shape { IsPicture surface.now }
+    requires begins { IsTrue (begins_in surface.now.width surface.now.height key.x key.y) }
+    requires fits { IsTrue (fits_transform (start_of (finmap.get records.old key)).transform shape.now.transform) }
+    ensures starts { Starts result (started true (coding_seen shape.now) pass.now (start_of (finmap.get records.old key))) key records.old records.new }
+    ensures keeps { OnOk result (Keeps key (scene records.old surface.now) log.old.cells.items log.new.cells.items) }
+    ensures undo { OnErr result (StaysUndoable log.old.cells.items (scene records.old surface.now) log.new.cells.items (scene records.new surface.now)) }
+{
+    keep(alloc, log, records, surface, key)?;
+    records.begin(alloc, key)?;
+    start_record(records, key, shape, pass)?;
+    Ok(())
+}
+
+/// A plain first pass. What the record was doesn't count, so another is made and takes its place.
+fn start_anew(
+    alloc: Global,
+    log: &mut Log,
+    records: &mut Records,
+    surface: &Surface,
+    key: Key,
+    shape: &PassShape,
+    pass: &FirstPass<'_>,
+) -> Result<(), Fault>
+    requires { IsTrue (begins_in surface.now.width surface.now.height key.x key.y) }
+    ensures starts { Starts result (started false (coding_seen shape.now) pass.now (start_of (finmap.get records.old key))) key records.old records.new }
+    ensures keeps { OnOk result (Keeps key (scene records.old surface.now) log.old.cells.items log.new.cells.items) }
+    ensures undo { OnErr result (StaysUndoable log.old.cells.items (scene records.old surface.now) log.new.cells.items (scene records.new surface.now)) }
+{
+    let mut tile = log.tile(alloc)?;
+    start_tile(&mut tile, false, shape, pass)?;
+    exchange(alloc, log, records, surface, key, tile)?;
+    Ok(())
+}
+
+/// A difference pass of a key's record.
+fn start_record(
+    records: &mut Records,
+    key: Key,
+    shape: &PassShape,
+    pass: &FirstPass<'_>,
+) -> Result<(), Refusal>
+    requires { IsSomeAnd (finmap.get records.old key) (λ tile. IsTrue (fits_transform tile.transform shape.now.transform)) }
+    ensures { IfSome (finmap.get records.old key) (λ tile. Passes result (started true (coding_seen shape.now) pass.now tile) key records.old records.new) }
+{
+    match records.get_mut(key) {
+        Some(tile) => start_tile(tile, true, shape, pass),
+        None => Ok(()),
+    }
+}

@@ -1,12 +1,13 @@
 -- Which progressive settings are accepted (this project's own rule).
 use Prim.Native.Nat.{zero, suc}
-use Rattle.std.specs.Prelude.{ℕ, ◌+◌, Bool, true, ◌&&◌, List, [], ◌∷◌, length, nat_lt, nat_le, slice_index}
+use Rattle.std.specs.Prelude.{ℕ, ◌+◌, ◌≤◌, ◌≡◌, Bool, true, ◌&&◌, List, [], ◌∷◌, length, nat_lt, nat_le, slice_index}
+use Rattle.std.specs.List.{All}
 use Rattle.gfx_quant.specs.declared.quant.Component.{Component}
 use Rattle.gfx_quant.specs.declared.quant.Component.TheVariants.{Y, Cb, Cr}
 use Rattle.gfx_quant.specs.declared.setting.Level.{Level}
 use Rattle.gfx_quant.specs.declared.setting.Setting.{Setting}
 use Rattle.gfx_quant.specs.declared.quant.TheConstants.{MOST_BITS}
-use Rattle.gfx_quant.specs.declared.setting.TheConstants.{MOST_FALL}
+use Rattle.gfx_quant.specs.declared.setting.TheConstants.{MOST_FALL, MOST_LEVELS}
 use Rattle.gfx_quant.specs.Quant.{is_base, noughts}
 
 -- whether a test holds of each number below n
@@ -50,3 +51,10 @@ abbrev pub is_accepted : Setting → Bool
 is_accepted setting =
     nat_lt 0 (length setting.levels)
     && (is_fine Y setting.y.values setting.levels && (is_fine Cb setting.cb.values setting.levels && is_fine Cr setting.cr.values setting.levels))
+
+-- what is known of an accepted setting of the code: ten numbers for each component, and no more levels than there may be
+pub record IsSetting (setting : Setting) : Type 0 where
+  pub accepted : is_accepted setting ≡ true
+  pub bases : (component : Component) → length (base_of component setting) ≡ 10
+  pub levels : All (λ (level : Level). (component : Component) → length (of_level component level) ≡ 10) setting.levels
+  pub few : length setting.levels ≤ MOST_LEVELS

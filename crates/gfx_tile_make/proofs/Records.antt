@@ -95,7 +95,7 @@ inside : (t : Transform) (band : Band) (k : ℕ) → LiesIn t band k → k < 409
 inside t band k lies = omega (arith, lies.1, ends t band)
 
 -- all values of the level have coefficients
-values-have : (t : Transform) (base level : List ℕ) (planes : Planes) (band : Band) (k : ℕ) → length (sent planes) ≡ 4096 → StaysWithin (record_by t base level planes) → LiesIn t band k
+pub values-have : (t : Transform) (base level : List ℕ) (planes : Planes) (band : Band) (k : ℕ) → length (sent planes) ≡ 4096 → StaysWithin (record_by t base level planes) → LiesIn t band k
     → dequantised (at (truncated_plane t level (sent planes)) k) (value_of (positions_at base level) band) ≡ Some (at (record_by t base level planes).sums k)
 values-have t base level planes band k long stays lies =
     let h : k < 4096 = inside t band k lies in

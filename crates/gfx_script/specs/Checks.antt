@@ -19,7 +19,7 @@ use Rattle.gfx_script.specs.declared.TheConstants.{MOST_GLYPH_AREA}
 use Rattle.gfx_script.specs.declared.picture.Picture.{Picture}
 use Rattle.gfx_script.specs.declared.step.Kind.{Kind}
 use Rattle.gfx_script.specs.declared.step.Step.{Step}
-use Rattle.gfx_script.specs.declared.step.Step.TheVariants.{Surface, Delete, Reset, Map, Fill, Copy, Keep, Show, Forget, Paint, Frame}
+use Rattle.gfx_script.specs.declared.step.Step.TheVariants.{Surface, Delete, Reset, Map, Fill, Copy, Keep, Show, Forget, Paint, Improve, Frame}
 use Rattle.gfx_script.specs.Kinds.{is_clear}
 use Rattle.gfx_script.specs.Stock.{Stock, no_bitmaps, bitmap_kept, bitmap_sides, bitmap_shown, bitmap_forgotten}
 
@@ -74,7 +74,7 @@ surface_deleted held id = do
   sides ← ok_or (finmap.get held.sides id) SurfaceAbsent
   Ok (without_surface held id sides)
 
--- `map`
+-- `map` and `improve`
 unfoldable pub surface_mapped : Held → ℕ → Result Held ScriptKind
 surface_mapped held id = do
   there ← check SurfaceAbsent (finmap.contains_key held.sides id)
@@ -150,6 +150,7 @@ held_after held (Keep id key rect) = rect_kept held id key rect
 held_after held (Show key to points) = key_shown held key to points
 held_after held (Forget key) = key_forgotten held key
 held_after held (Paint id picture at kind glyph) = picture_painted held id picture at kind glyph
+held_after held (Improve id) = surface_mapped held id
 held_after held Frame = Ok held
 
 -- what is held after these steps, one after another

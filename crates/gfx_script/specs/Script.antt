@@ -3,11 +3,12 @@ use Rattle.std.specs.Prelude.{◌≡◌, ℕ, ◌-◌, ◌≤◌, ◌<◌, ◌^�
 use Rattle.std.specs.List.{AllByRecursion, slice_get}
 use Rattle.gfx_caps.specs.Offers.{IsOffer, small_of}
 use Rattle.gfx_base.specs.Geometry.{IsPixel, IsPoint, IsRect}
+use Rattle.gfx_quant.specs.Setting.{IsSetting}
 use Rattle.gfx_surface.specs.declared.TheConstants.{MOST_SIDE}
 use Rattle.gfx_surface_map.specs.declared.place.TheConstants.{MOST_OUTPUT_SIDE}
 use Rattle.gfx_script.specs.declared.TheConstants.{MOST_STEPS, MOST_RECTS, MOST_PICTURES, MOST_KEY, MOST_GLYPH, MOST_VERSIONS, MOST_WINDOW, MOST_TURNS}
 use Rattle.gfx_script.specs.declared.step.Step.{Step}
-use Rattle.gfx_script.specs.declared.step.Step.TheVariants.{Surface, Delete, Reset, Map, Fill, Copy, Keep, Show, Forget, Paint, Frame}
+use Rattle.gfx_script.specs.declared.step.Step.TheVariants.{Surface, Delete, Reset, Map, Fill, Copy, Keep, Show, Forget, Paint, Improve, Frame}
 use Rattle.gfx_script.specs.declared.turn.Turn.{Turn}
 use Rattle.gfx_script.specs.declared.turn.Turn.TheVariants.{Server, Client, Answer}
 use Rattle.gfx_script.specs.Checks.{Held, held_first, sides_of_all, held_through}
@@ -45,6 +46,7 @@ IsStep (Show key to points) =
     (key ≤ MOST_KEY) × (to < 2 ^ 16) × (1 ≤ length points) × (length points ≤ MOST_RECTS) × AllByRecursion IsPoint points
 IsStep (Forget key) = key ≤ MOST_KEY
 IsStep (Paint id picture at named glyph) = (id < 2 ^ 16) × IsPoint at × IfSome glyph (λ index. index ≤ MOST_GLYPH)
+IsStep (Improve id) = id < 2 ^ 16
 IsStep Frame = Unit {0}
 
 -- the number of a turn, where it has one, is within its range
@@ -60,6 +62,7 @@ pub record IsAccepted (script : Script) : Type 0 where
   pub some_offers : 1 ≤ length script.offers
   pub few_offers : length script.offers ≤ MOST_VERSIONS
   pub offers : AllByRecursion IsOffer script.offers
+  pub setting : IsSetting script.setting
   -- whose small limits bind the version that a server chooses
   pub small : script.small ≡ small_of script.offers
   pub few_pictures : length script.pictures ≤ MOST_PICTURES

@@ -1,6 +1,7 @@
 -- What a script holds.
 use Rattle.std.specs.Prelude.{ℕ, Bool, List}
 use Rattle.gfx_caps.specs.declared.offer.Offer.{Offer}
+use Rattle.gfx_quant.specs.declared.setting.Setting.{Setting}
 use Rattle.gfx_script.specs.declared.picture.Picture.{Picture}
 use Rattle.gfx_script.specs.declared.step.Step.{Step}
 use Rattle.gfx_script.specs.declared.turn.Turn.{Turn}
@@ -10,6 +11,9 @@ pub record Script : Type 0 where
   pub window : ℕ
   -- what the client offers
   pub offers : List Offer
+  -- how progressive paints are coded, and whether their tiles may go as differences from those before
+  pub setting : Setting
+  pub differences : Bool
   -- the pictures that paints name by their place, counted from 0
   pub pictures : List Picture
   -- the small limits on bitmaps bind the client

@@ -1,5 +1,5 @@
 -- Where on the surfaces a step writes: this project's own rule.
-use Rattle.std.specs.Prelude.{ℕ, List, [], ◌∷◌, map, Option, Some, None, option_map}
+use Rattle.std.specs.Prelude.{ℕ, ◌^◌, List, [], ◌∷◌, map, Option, Some, None, option_map, if◌then◌else◌}
 use Rattle.std.specs.List.{slice_get}
 use Rattle.std.specs.Result.{result_ok}
 use Rattle.gfx_base.specs.declared.geometry.Point.{Point}
@@ -8,7 +8,9 @@ use Rattle.gfx_base.specs.Geometry.{moved, sized}
 use Rattle.gfx_script.specs.declared.picture.Picture.{Picture}
 use Rattle.gfx_script.specs.declared.step.Kind.{Kind}
 use Rattle.gfx_script.specs.declared.step.Step.{Step}
-use Rattle.gfx_script.specs.declared.step.Step.TheVariants.{Surface, Fill, Copy, Show, Paint}
+use Rattle.gfx_script.specs.declared.step.Step.TheVariants.{Surface, Fill, Copy, Show, Paint, Improve}
+use Rattle.gfx_script.specs.declared.held.Sides.{Sides}
+use Rattle.gfx_script.specs.Kinds.{is_progressive}
 use Rattle.gfx_script.specs.Scripted.{Script}
 use Rattle.gfx_script.specs.Stock.{Stock, bitmap_sides}
 
@@ -28,21 +30,34 @@ at_each points rect = map (moved rect) points
 abbrev pub place_of : Picture → Point → Rect
 place_of picture at = moved (sized picture.width picture.height) at
 
--- where a step writes, if it writes, on bitmaps that are kept: a surface that is made is written whole
-unfoldable pub writes : Script → Stock → Step → Option Area
-writes script stock (Surface id width height format) = Some (area id (sized width height ∷ []))
-writes script stock (Fill id colour rects) = Some (area id rects)
-writes script stock (Copy from to rect points) = Some (area to (at_each points rect))
-writes script stock (Show key to points) =
-    option_map (λ sides. area to (at_each points (sized sides.width sides.height))) (result_ok (bitmap_sides stock key))
-writes script stock (Paint id picture at named glyph) =
-    option_map (λ source. area id (place_of source at ∷ [])) (slice_get script.pictures picture)
-writes script stock step = None
+-- a rectangle that has each place of each surface
+abbrev pub everywhere : Rect
+everywhere = record { left = 0; top = 0; right = 2 ^ 16; bottom = 2 ^ 16 }
 
--- where a plain write writes, which needs no bitmap: a fill, or a paint that sets the pixels of its
--- picture and nothing else
+-- where a step writes, if it writes, by the sides of the bitmaps that are kept: a surface that is made is written
+-- whole, and one that is improved may be written anywhere
+unfoldable pub writes_by : Script → (ℕ → Option Sides) → Step → Option Area
+writes_by script sides_of (Surface id width height format) = Some (area id (sized width height ∷ []))
+writes_by script sides_of (Fill id colour rects) = Some (area id rects)
+writes_by script sides_of (Copy from to rect points) = Some (area to (at_each points rect))
+writes_by script sides_of (Show key to points) =
+    option_map (λ sides. area to (at_each points (sized sides.width sides.height))) (sides_of key)
+writes_by script sides_of (Paint id picture at named glyph) =
+    option_map (λ source. area id (place_of source at ∷ [])) (slice_get script.pictures picture)
+writes_by script sides_of (Improve id) = Some (area id (everywhere ∷ []))
+writes_by script sides_of step = None
+
+-- the same on the bitmaps of a stock
+abbrev pub writes : Script → Stock → Step → Option Area
+writes script stock step = writes_by script (λ key. result_ok (bitmap_sides stock key)) step
+
+-- where a paint writes that sets the pixels of its picture and nothing else: each but one in passes
+unfoldable pub paints_plainly : Kind → Option Picture → ℕ → Point → Option Area
+paints_plainly kind source id at =
+    if is_progressive kind then None else option_map (λ source. area id (place_of source at ∷ [])) source
+
+-- where a plain write writes, which needs no bitmap: a fill, or such a paint
 unfoldable pub writes_plainly : Script → Option Kind → Step → Option Area
 writes_plainly script kind (Fill id colour rects) = Some (area id rects)
-writes_plainly script (Some kind) (Paint id picture at named glyph) =
-    option_map (λ source. area id (place_of source at ∷ [])) (slice_get script.pictures picture)
+writes_plainly script (Some kind) (Paint id picture at named glyph) = paints_plainly kind (slice_get script.pictures picture) id at
 writes_plainly script kind step = None

@@ -78,7 +78,7 @@ impl Held {
             } => self.make_surface(*id, *width, *height),
             Step::Delete { id } => Ok(self.delete_surface(*id)?),
             Step::Reset { .. } => Ok(()),
-            Step::Map { id, .. } => Ok(self.check_map(*id)?),
+            Step::Map { id, .. } | Step::Improve { id } => Ok(self.check_surface(*id)?),
             Step::Fill { id, rects, .. } => Ok(self.check_rects(*id, rects.as_slice())?),
             Step::Copy {
                 from,
@@ -127,7 +127,7 @@ impl Held {
 
     /// Refuses an id that no surface has.
     #[tactic(auto, unfolding(crate::specs::Checks::surface_mapped, gfx_base::specs::Results::and_then))]
-    fn check_map(&self, id: u16) -> Result<(), ScriptKind>
+    fn check_surface(&self, id: u16) -> Result<(), ScriptKind>
         ensures { Says (λ _. self.now) result (surface_mapped self.now id) }
     {
         if !self.contains(id) {

@@ -1,6 +1,6 @@
 //! Scripts of a recorded screen: what the server's end shows, step by step, the pictures that it paints,
-//! and what a session of both ends is like: its window, what its client offers, its turns. Which steps
-//! are good is checked against what the steps before them left, by `Held`.
+//! and what a session of both ends is like: its window, what its client offers, how progressive paints are
+//! coded, its turns. Which steps are good is checked against what the steps before them left, by `Held`.
 //!
 //! In the pipe it stands below the reading of scripts from text (`gfx_script_text`) and the planner,
 //! which makes each step into messages. Scripts are this project's own (docs/SCRIPTS.md).

@@ -11,6 +11,7 @@ use crate::step::Step;
 use crate::turn::Turn;
 use gfx_base::Pixel;
 use gfx_caps::Offers;
+use gfx_quant::Setting;
 use std::marker::Model;
 
 /// A script as it was read.
@@ -18,6 +19,8 @@ use std::marker::Model;
 pub struct Script {
     window: u8,
     offers: Offers,
+    setting: Setting,
+    differences: bool,
     pictures: Vec<Picture>,
     small: bool,
     steps: Vec<Step>,
@@ -29,7 +32,7 @@ impl Model for Script {
 
     ghost Value = { Script };
 
-    ghost view = { λ s. record { window = s.window; offers = s.offers; pictures = s.pictures.items; small = s.small; steps = s.steps.items; turns = s.turns.items } };
+    ghost view = { λ s. record { window = s.window; offers = s.offers; setting = s.setting; differences = s.differences; pictures = s.pictures.items; small = s.small; steps = s.steps.items; turns = s.turns.items } };
 }
 
 impl Script {
@@ -37,17 +40,21 @@ impl Script {
     pub fn new(
         window: u8,
         offers: Offers,
+        setting: Setting,
+        differences: bool,
         pictures: Vec<Picture>,
         small: bool,
         steps: Vec<Step>,
         turns: Vec<Turn>,
     ) -> Script
-        requires { IsAccepted record { window = window; offers = offers; pictures = pictures.items; small = small; steps = steps.items; turns = turns.items } }
-        ensures { result ≡ record { window = window; offers = offers; pictures = pictures.items; small = small; steps = steps.items; turns = turns.items } }
+        requires { IsAccepted record { window = window; offers = offers; setting = setting; differences = differences; pictures = pictures.items; small = small; steps = steps.items; turns = turns.items } }
+        ensures { result ≡ record { window = window; offers = offers; setting = setting; differences = differences; pictures = pictures.items; small = small; steps = steps.items; turns = turns.items } }
     {
         Script {
             window,
             offers,
+            setting,
+            differences,
             pictures,
             small,
             steps,
@@ -67,6 +74,20 @@ impl Script {
         ensures { result.now ≡ self.now.offers }
     {
         &self.offers
+    }
+
+    /// How progressive paints are coded.
+    pub fn setting(&self) -> &Setting
+        ensures { result.now ≡ self.now.setting }
+    {
+        &self.setting
+    }
+
+    /// Whether the tiles of progressive paints may go as differences from those before.
+    pub fn differences(&self) -> bool
+        ensures { result ≡ self.now.differences }
+    {
+        self.differences
     }
 
     /// The step of this number, counted from 1, if there is one.

@@ -1,10 +1,11 @@
 ghost use Rattle.std.specs.Prelude.{◌≡◌};
-ghost use Rattle.gfx_script.specs.Kinds.{is_clear, kind_of};
+ghost use Rattle.gfx_script.specs.Kinds.{is_clear, is_progressive, kind_of};
 ghost use Rattle.gfx_script.specs.Script.{is_frame};
 
 use gfx_base::{Format, Pixel, Point, Points, Rect, Rects};
 
-/// How a picture is sent: uncompressed, or by a layer of ClearCodec ([MS-RDPEGFX] 2.2.4.1).
+/// How a picture is sent: uncompressed, by a layer of ClearCodec ([MS-RDPEGFX] 2.2.4.1), or in passes by RemoteFX
+/// Progressive ([MS-RDPEGFX] 2.2.4.2).
 #[derive(Clone, Copy, Debug, PartialEq, Eq)]
 pub enum Kind {
     /// Uncompressed.
@@ -17,6 +18,8 @@ pub enum Kind {
     Palette,
     /// Pixel by pixel.
     Plain,
+    /// In passes: a first one, which `Step::Improve` makes better.
+    Progressive,
 }
 
 impl Kind {
@@ -25,8 +28,18 @@ impl Kind {
         ensures { result ≡ is_clear self }
     {
         match self {
-            Kind::Raw => false,
+            Kind::Raw | Kind::Progressive => false,
             Kind::Residual | Kind::Bands | Kind::Palette | Kind::Plain => true,
+        }
+    }
+
+    /// Whether a picture goes in passes.
+    pub fn is_progressive(self) -> bool
+        ensures { result ≡ is_progressive self }
+    {
+        match self {
+            Kind::Progressive => true,
+            Kind::Raw | Kind::Residual | Kind::Bands | Kind::Palette | Kind::Plain => false,
         }
     }
 }
@@ -93,6 +106,10 @@ pub enum Step {
         at: Point,
         kind: Option<Kind>,
         glyph: Option<u16>,
+    },
+    /// The progressive tiles of a surface that nothing has touched since are raised by one level.
+    Improve {
+        id: u16,
     },
     /// The steps since the last frame are shown.
     Frame,

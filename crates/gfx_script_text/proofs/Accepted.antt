@@ -5,6 +5,7 @@ use Rattle.std.specs.List.{AllByRecursion}
 use Rattle.toml.specs.Data.{Data}
 use Rattle.gfx_base.specs.Results.{Has}
 use Rattle.gfx_base.proofs.ResultLemmas.{and_then_ok, and_then_at, chain, gives, check_ok}
+use Rattle.gfx_quant.specs.Setting.{IsSetting}
 use Rattle.gfx_script.specs.declared.TheConstants.{MOST_STEPS}
 use Rattle.gfx_script.specs.declared.error.ScriptKind.{ScriptKind}
 use Rattle.gfx_script.specs.declared.error.ScriptKind.TheVariants.{Range, Unframed}
@@ -14,6 +15,7 @@ use Rattle.gfx_script.specs.Scripted.{Script}
 use Rattle.gfx_script.specs.Script.{is_framed, IsStep, IsAccepted}
 use Rattle.gfx_script_text.specs.Text.{Top, Head, at_step, head_of, next_step, steps_of, held_before, script_with, script_of}
 use Rattle.gfx_script_text.proofs.PictureRanges.{AreGood, pictures_of-good}
+use Rattle.gfx_script_text.proofs.SettingRanges.{progressive_of-good}
 use Rattle.gfx_script_text.proofs.SessionRanges.{IsWindow, window_of-fits, AreOffers, offers_of-good, turns_of-good}
 use Rattle.gfx_script_text.proofs.Ranges.{step_of-fits}
 
@@ -69,6 +71,7 @@ steps_good names number held (value ∷ values) steps is =
 record HeadGood (top : Top) (head : Head) : Type 0 where
   window : IsWindow head.window
   offers : AreOffers head.offers
+  setting : IsSetting head.progressive.setting
   few : length top.step ≤ MOST_STEPS
   pictures : AreGood head.gallery
 
@@ -77,14 +80,16 @@ unfolding head_of
 head_of-good top =
     chain _ _ (HeadGood top) (λ window found_window.
     chain _ _ (HeadGood top) (λ offers found_offers.
+    chain _ _ (HeadGood top) (λ progressive found_progressive.
     chain _ _ (HeadGood top) (λ gallery found_gallery.
     chain _ _ (HeadGood top) (λ few are_few.
     gives _ (HeadGood top) record {
       window = (window_of-fits top.window).each window found_window;
       offers = (offers_of-good top.client).each offers found_offers;
+      setting = (progressive_of-good top.progressive).each progressive found_progressive;
       few = leb-true (length top.step) MOST_STEPS (check_ok Range _ are_few);
       pictures = (pictures_of-good top.picture).each gallery found_gallery;
-    }))))
+    })))))
 
 -- a script that is read is good
 pub accepted : (text : List ℕ) (script : Script) → script_of text ≡ Ok script → IsAccepted script
@@ -106,6 +111,7 @@ accepted text script is =
       some_offers = before.offers.some;
       few_offers = before.offers.few;
       offers = before.offers.each;
+      setting = before.setting;
       small = refl;
       few_pictures = before.pictures.few;
       pictures = before.pictures.each;

@@ -7,6 +7,9 @@ pub mod Documents
 pub mod Copies
 pub mod Faults
 pub mod Ranges
+pub mod Quants
+pub mod LevelRuns
+pub mod SettingRanges
 pub mod SessionRanges
 pub mod PictureRanges
 pub mod Accepted

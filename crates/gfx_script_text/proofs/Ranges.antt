@@ -17,12 +17,12 @@ use Rattle.gfx_script.specs.declared.TheConstants.{MOST_RECTS, MOST_KEY, MOST_GL
 use Rattle.gfx_script_text.specs.declared.TheConstants.{MOST_NUMBER}
 use Rattle.gfx_script.specs.declared.error.ScriptKind.TheVariants.{Range}
 use Rattle.gfx_script.specs.declared.step.Kind.{Kind}
-use Rattle.gfx_script.specs.declared.step.Step.TheVariants.{Surface, Delete, Reset, Map, Fill, Copy, Keep, Show, Forget, Paint, Frame}
+use Rattle.gfx_script.specs.declared.step.Step.TheVariants.{Surface, Delete, Reset, Map, Fill, Copy, Keep, Show, Forget, Paint, Improve, Frame}
 use Rattle.gfx_script_text.specs.Colour.{colour_of}
 use Rattle.gfx_script_text.specs.Members.{within}
 use Rattle.gfx_script_text.specs.Pictures.{number_of}
 use Rattle.gfx_script_text.specs.Places.{coordinate_at, rect_of, rect_in, point_of, point_in, points_of}
-use Rattle.gfx_script_text.specs.Words.{surface_of, delete_of, reset_of, map_of, fill_of, copy_between, copy_of, keep_of, show_of, forget_of, glyph_of, paint_with, paint_of, frame_of, worded, step_of}
+use Rattle.gfx_script_text.specs.Words.{surface_of, delete_of, reset_of, map_of, fill_of, copy_between, copy_of, keep_of, show_of, forget_of, glyph_of, paint_with, paint_of, improve_of, frame_of, worded, step_of}
 use Rattle.gfx_script.specs.Script.{IsStep}
 
 -- both tests passed
@@ -301,6 +301,13 @@ paint_of-fits names table =
     chain _ _ IsStep (λ kind found_kind.
     chain _ _ IsStep (λ glyph found_glyph. paint_with-fits id (number_of names name) place kind glyph))))))
 
+improve_of-fits : (table : Members) → Has (improve_of table) IsStep
+unfolding improve_of
+improve_of-fits table =
+    chain _ _ IsStep (λ known passed.
+    chain _ _ IsStep (λ id found_id.
+    chain _ _ IsStep (λ id_in id_fits. gives (Improve id_in) IsStep ((within-fits id).each id_in id_fits))))
+
 frame_of-fits : (table : Members) → Has (frame_of table) IsStep
 unfolding frame_of
 frame_of-fits table = chain _ _ IsStep (λ known passed. gives Frame IsStep tt)
@@ -321,7 +328,8 @@ worded-fits names word table =
     (if_has _ _ _ IsStep (keep_of-fits table)
     (if_has _ _ _ IsStep (show_of-fits table)
     (if_has _ _ _ IsStep (forget_of-fits table)
-    (if_has _ _ _ IsStep (paint_of-fits names table) (if_has _ _ _ IsStep (frame_of-fits table) (never _ IsStep)))))))))))
+    (if_has _ _ _ IsStep (paint_of-fits names table)
+    (if_has _ _ _ IsStep (improve_of-fits table) (if_has _ _ _ IsStep (frame_of-fits table) (never _ IsStep))))))))))))
 
 -- a step that was read has its numbers within their ranges
 pub step_of-fits : (names : List (List ℕ)) (value : Data) → Has (step_of names value) IsStep

@@ -1,16 +1,16 @@
 -- The versions that a script's client offers ([MS-RDPEGFX] 2.2.3, and RDPGFX_CAPS_FLAG_SMALL_CACHE there):
 -- this project's own rule.
-use Rattle.std.specs.Prelude.{ℕ, Bool, false, ◌&&◌, nat_le, if◌then◌else◌, List, [], ◌∷◌, length, Option, Some, None, Result, Ok, Err, codes}
+use Rattle.std.specs.Prelude.{ℕ, false, ◌&&◌, nat_le, if◌then◌else◌, List, [], ◌∷◌, length, Option, Some, None, Result, Ok, Err, codes}
 use Rattle.std.specs.Option.{ok_or}
 use Rattle.std.specs.Str.{bytes_eq}
-use Rattle.toml.specs.Data.{Data, as_table, as_bool, get_member}
+use Rattle.toml.specs.Data.{Data, as_table, get_member}
 use Rattle.gfx_base.specs.Results.{◌>>=◌, check, each}
 use Rattle.gfx_caps.specs.declared.offer.Offer.{Offer}
 use Rattle.gfx_caps.specs.declared.versions.TheConstants.{VERSION_8, VERSION_8_1, VERSION_10}
 use Rattle.gfx_script.specs.declared.TheConstants.{MOST_VERSIONS}
 use Rattle.gfx_script.specs.declared.error.ScriptKind.{ScriptKind}
 use Rattle.gfx_script.specs.declared.error.ScriptKind.TheVariants.{Key, Range}
-use Rattle.gfx_script_text.specs.Members.{has_only, text}
+use Rattle.gfx_script_text.specs.Members.{flag_or_false, has_only, text}
 
 -- the version that a word names
 abbrev pub version_named : List ℕ → Result ℕ ScriptKind
@@ -19,11 +19,6 @@ version_named word =
     else if bytes_eq word (codes "8.1") then Ok VERSION_8_1
     else if bytes_eq word (codes "10") then Ok VERSION_10
     else Err Key
-
--- a truth value, which may be missing and is then false
-abbrev pub flag_or_false : Option Data → Result Bool ScriptKind
-flag_or_false None = Ok false
-flag_or_false (Some value) = ok_or (as_bool value) Key
 
 -- the offer that a value is
 unfoldable pub offer_in : Data → Result Offer ScriptKind

@@ -3,6 +3,7 @@ pub mod Colour
 pub mod Pictures
 pub mod Places
 pub mod Clients
+pub mod Progressive
 pub mod Sessions
 pub mod Words
 pub mod Text

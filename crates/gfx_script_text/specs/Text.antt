@@ -16,8 +16,10 @@ use Rattle.gfx_script.specs.Checks.{Held, held_first, sides_of_all, held_after}
 use Rattle.gfx_script.specs.Script.{is_framed}
 use Rattle.gfx_script.specs.Scripted.{Script}
 use Rattle.gfx_script_text.specs.Clients.{offers_of}
-use Rattle.gfx_script_text.specs.Members.{items_in, has_only, whole_if_any}
+use Rattle.gfx_script_text.specs.Members.{items_in, has_only, items_if_any, table_if_any, whole_if_any}
 use Rattle.gfx_script_text.specs.Pictures.{Gallery, pictures_of}
+use Rattle.gfx_script_text.specs.declared.progressive.Progressive.{Progressive}
+use Rattle.gfx_script_text.specs.Progressive.{progressive_of}
 use Rattle.gfx_script_text.specs.Sessions.{window_of, turns_of}
 use Rattle.gfx_script_text.specs.Words.{step_of}
 
@@ -40,17 +42,11 @@ abbrev pub items_or_none : Option Data → Result (List Data) ScriptKind
 items_or_none None = Ok []
 items_or_none (Some value) = ok_or (items_in value) Key
 
--- the same, where missing is told from empty
-abbrev pub items_if_any : Option Data → Result (Option (List Data)) ScriptKind
-items_if_any None = Ok None
-items_if_any (Some value) = do
-  items ← ok_or (items_in value) Key
-  Ok (Some items)
-
 -- what stands under the keys at the top
 pub record Top : Type 0 where
   pub window : Option ℤ
   pub client : Option (List Data)
+  pub progressive : Option Members
   pub picture : List Data
   pub step : List Data
   pub turn : List Data
@@ -58,28 +54,31 @@ pub record Top : Type 0 where
 -- the same of a text's table: the faults of the top table itself come before all others
 unfoldable pub top_of : Members → Result Top ScriptKind
 top_of top = do
-  known ← check Key (has_only (codes "window" ∷ codes "client" ∷ codes "picture" ∷ codes "step" ∷ codes "turn" ∷ []) top)
+  known ← check Key (has_only (codes "window" ∷ codes "client" ∷ codes "progressive" ∷ codes "picture" ∷ codes "step" ∷ codes "turn" ∷ []) top)
   window ← whole_if_any (get_member (codes "window") top)
   client ← items_if_any (get_member (codes "client") top)
+  progressive ← table_if_any (get_member (codes "progressive") top)
   picture ← items_or_none (get_member (codes "picture") top)
   step ← items_or_none (get_member (codes "step") top)
   turn ← items_or_none (get_member (codes "turn") top)
-  Ok record { window = window; client = client; picture = picture; step = step; turn = turn }
+  Ok record { window = window; client = client; progressive = progressive; picture = picture; step = step; turn = turn }
 
 -- what stands before the steps
 pub record Head : Type 0 where
   pub window : ℕ
   pub offers : List Offer
+  pub progressive : Progressive
   pub gallery : Gallery
 
--- the same of a top: `window` and `client` come before `picture`, and `step` behind it
+-- the same of a top: `window`, `client` and `progressive` come before `picture`, and `step` behind it
 unfoldable pub head_of : Top → Result Head ScriptKind
 head_of top = do
   window ← window_of top.window
   offers ← offers_of top.client
+  progressive ← progressive_of top.progressive
   gallery ← pictures_of top.picture
   few ← check Range (nat_le (length top.step) MOST_STEPS)
-  Ok record { window = window; offers = offers; gallery = gallery }
+  Ok record { window = window; offers = offers; progressive = progressive; gallery = gallery }
 
 -- the step that a value is, and what is held after it
 unfoldable pub next_step : List (List ℕ) → Held → Data → Result (Step × Held) ScriptKind
@@ -105,6 +104,8 @@ abbrev pub script_with : Head → List Step → List Turn → Script
 script_with head steps turns = record {
   window = head.window;
   offers = head.offers;
+  setting = head.progressive.setting;
+  differences = head.progressive.differences;
   pictures = head.gallery.pictures;
   small = small_of head.offers;
   steps = steps;

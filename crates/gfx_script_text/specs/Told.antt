@@ -1,7 +1,7 @@
 -- What reading says of the parts of a script: this project's own rule.
 use Rattle.std.specs.Prelude.{◌≡◌, ℕ, map, Result, Ok, Err}
 use Rattle.std.specs.Option.{option_map}
-use Rattle.toml.specs.View.{view}
+use Rattle.toml.specs.View.{table_view, view}
 use Rattle.gfx_script_text.specs.declared.error.ScriptError.{ScriptError}
 use Rattle.gfx_script_text.specs.declared.error.ScriptError.TheVariants as errors
 use Rattle.gfx_script.specs.declared.error.ScriptKind.{ScriptKind}
@@ -32,6 +32,8 @@ abbrev pub parts_seen : Parts → Script
 parts_seen parts = record {
   window = parts.window;
   offers = parts.offers;
+  setting = parts.setting;
+  differences = parts.differences;
   pictures = parts.pictures.items;
   small = parts.small;
   steps = parts.steps.items;
@@ -47,6 +49,7 @@ abbrev pub top_seen : read_top.Top → text.Top
 top_seen top = record {
   window = top.window;
   client = option_map (λ items. map view items.now) top.client;
+  progressive = option_map (λ table. table_view table.now) top.progressive;
   picture = map view top.picture.now;
   step = map view top.step.now;
   turn = map view top.turn.now;
@@ -54,4 +57,4 @@ top_seen top = record {
 
 -- what stands before the steps, as contracts see it
 abbrev pub head_seen : read_head.Head → text.Head
-head_seen head = record { window = head.window; offers = head.offers; gallery = gallery_seen head.gallery }
+head_seen head = record { window = head.window; offers = head.offers; progressive = head.progressive; gallery = gallery_seen head.gallery }

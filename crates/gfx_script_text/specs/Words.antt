@@ -15,9 +15,9 @@ use Rattle.gfx_script_text.specs.declared.TheConstants.{MOST_NUMBER}
 use Rattle.gfx_script.specs.declared.error.ScriptKind.{ScriptKind}
 use Rattle.gfx_script.specs.declared.error.ScriptKind.TheVariants.{Key, Range}
 use Rattle.gfx_script.specs.declared.step.Kind.{Kind}
-use Rattle.gfx_script.specs.declared.step.Kind.TheVariants.{Raw, Residual, Bands, Palette, Plain}
+use Rattle.gfx_script.specs.declared.step.Kind.TheVariants.{Raw, Residual, Bands, Palette, Plain, Progressive}
 use Rattle.gfx_script.specs.declared.step.Step.{Step}
-use Rattle.gfx_script.specs.declared.step.Step.TheVariants.{Surface, Delete, Reset, Map, Fill, Copy, Keep, Show, Forget, Paint, Frame}
+use Rattle.gfx_script.specs.declared.step.Step.TheVariants.{Surface, Delete, Reset, Map, Fill, Copy, Keep, Show, Forget, Paint, Improve, Frame}
 use Rattle.gfx_script_text.specs.Colour.{colour_of}
 use Rattle.gfx_script_text.specs.Members.{has_only, whole, whole_if_any, text, list, within}
 use Rattle.gfx_script_text.specs.Pictures.{number_of}
@@ -153,6 +153,7 @@ kind_named word =
     else if bytes_eq word (codes "bands") then Ok (Some Bands)
     else if bytes_eq word (codes "palette") then Ok (Some Palette)
     else if bytes_eq word (codes "plain") then Ok (Some Plain)
+    else if bytes_eq word (codes "progressive") then Ok (Some Progressive)
     else if bytes_eq word (codes "auto") then Ok None
     else Err Key
 
@@ -189,6 +190,14 @@ paint_of names table = do
   glyph ← whole_if_any (get_member (codes "glyph") table)
   paint_with id (number_of names name) place kind glyph
 
+-- `improve`
+unfoldable pub improve_of : Members → Result Step ScriptKind
+improve_of table = do
+  known ← check Key (has_only (codes "do" ∷ codes "id" ∷ []) table)
+  id ← whole (codes "id") table
+  id ← within 0 MOST_NUMBER id
+  Ok (Improve id)
+
 -- `frame`
 unfoldable pub frame_of : Members → Result Step ScriptKind
 frame_of table = do
@@ -208,6 +217,7 @@ worded names word table =
     else if bytes_eq word (codes "show") then show_of table
     else if bytes_eq word (codes "forget") then forget_of table
     else if bytes_eq word (codes "paint") then paint_of names table
+    else if bytes_eq word (codes "improve") then improve_of table
     else if bytes_eq word (codes "frame") then frame_of table
     else Err Key
 

@@ -1,18 +1,17 @@
 //! The versions that the client of a script offers.
 
-ghost use Rattle.std.specs.Prelude.{◌≡◌, [], ◌∷◌, map, option_map, codes, IfOk};
+ghost use Rattle.std.specs.Prelude.{◌≡◌, [], ◌∷◌, map, option_map, IfOk};
 ghost use Rattle.gfx_base.specs.Outcome.{Gives};
 ghost use Rattle.gfx_base.specs.Results.{each};
-ghost use Rattle.toml.specs.Data.{get_member};
-ghost use Rattle.toml.specs.View.{table_view, view};
-ghost use Rattle.gfx_script_text.specs.Clients.{offer_in, version_named, flag_or_false, usual_offer, offers_of};
+ghost use Rattle.toml.specs.View.{view};
+ghost use Rattle.gfx_script_text.specs.Clients.{offer_in, version_named, usual_offer, offers_of};
 
-use crate::members::{check_keys, member, text};
+use crate::members::{check_keys, flag_or_false, text};
 use gfx_base::NoMemory;
 use gfx_caps::{Offer, Offers, VERSION_8, VERSION_8_1, VERSION_10};
 use gfx_script::{Flaw, MOST_VERSIONS, ScriptKind};
 use std::alloc::Global;
-use toml::{Table, Value};
+use toml::Value;
 
 /// Reads what stands under `client`, if anything does.
 #[tactic(auto, unfolding(crate::specs::Clients::offers_of, gfx_base::specs::Results::and_then))]
@@ -63,7 +62,7 @@ fn read_offer(value: &Value) -> Result<Offer, ScriptKind>
     check_keys(table, &["version", "small"])?;
     let word = text(table, "version")?;
     let version = version_named(word)?;
-    let small = read_flag(table)?;
+    let small = flag_or_false(table, "small")?;
     Ok(Offer { version, small })
 }
 
@@ -76,16 +75,5 @@ fn version_named(word: &str) -> Result<u32, ScriptKind>
         "8.1" => Ok(VERSION_8_1),
         "10" => Ok(VERSION_10),
         _ => Err(ScriptKind::Key),
-    }
-}
-
-/// The truth value under `small`, which may be missing.
-fn read_flag(table: &Table) -> Result<bool, ScriptKind>
-    ensures { result ≡ flag_or_false (get_member (codes "small") (table_view table.now)) }
-{
-    match member(table, "small") {
-        None => Ok(false),
-        Some(Value::Boolean(flag)) => Ok(*flag),
-        Some(_) => Err(ScriptKind::Key),
     }
 }

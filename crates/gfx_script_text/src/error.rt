@@ -9,7 +9,7 @@ use thiserror::Error;
 #[derive(Clone, Copy, Debug, PartialEq, Eq, Error)]
 pub enum ScriptError {
     /// The step of this number, counted from 1, is wrong; 0 stands for a fault outside the steps.
-    #[error("the script is wrong")]
+    #[error("step {step} of the script, or 0 for what is no step: {kind}")]
     Fault { step: u32, kind: ScriptKind },
     /// No memory is left.
     #[error("no memory is left")]

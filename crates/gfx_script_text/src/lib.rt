@@ -5,18 +5,21 @@
 //! format is this project's own (docs/SCRIPTS.md).
 #![tactic(auto)]
 
+mod bands;
 mod cache;
 mod client;
 mod colour;
 mod copy;
 mod error;
 mod fill;
+mod levels;
 mod members;
 mod names;
 mod output;
 mod paint;
 mod pictures;
 mod places;
+mod progressive;
 mod promises;
 mod reading;
 mod session;
@@ -32,6 +35,9 @@ pub const MOST_NUMBER: u16 = 65535;
 
 /// The most bytes that a turn takes.
 pub const MOST_TAKE: u32 = 4_294_967_295;
+
+/// The most low bits that a level of progressive quality leaves out of a band.
+pub const MOST_LEFT_OUT: u8 = 9;
 
 /// How many frames may be in flight where a script doesn't say it.
 pub const USUAL_WINDOW: u8 = 2;

@@ -86,6 +86,31 @@ pub fn whole_if_any(table: &Table, key: &str) -> Result<Option<i64>, ScriptKind>
     }
 }
 
+/// The truth value under a key, which may be missing and is then false.
+pub fn flag_or_false(table: &Table, key: &str) -> Result<bool, ScriptKind>
+    ensures { result ≡ members.flag_or_false (get_member key.now (table_view table.now)) }
+{
+    match member(table, key) {
+        None => Ok(false),
+        Some(Value::Boolean(flag)) => Ok(*flag),
+        Some(_) => Err(ScriptKind::Key),
+    }
+}
+
+/// The table under a key, which may be missing.
+#[tactic(auto, unfolding(gfx_base::specs::Results::and_then))]
+pub fn table_if_any<'a>(table: &'a Table, key: &str) -> Result<Option<&'a Table>, ScriptKind>
+    ensures { Says (option_map (λ t. table_view t.now)) result (members.table_if_any (get_member key.now (table_view table.now))) }
+{
+    match member(table, key) {
+        None => Ok(None),
+        Some(value) => match value.as_table() {
+            Some(table) => Ok(Some(table)),
+            None => Err(ScriptKind::Key),
+        },
+    }
+}
+
 /// The text under a key.
 #[tactic(auto, unfolding(crate::specs::Members::text))]
 pub fn text<'a>(table: &'a Table, key: &str) -> Result<&'a str, ScriptKind>
@@ -108,12 +133,37 @@ pub fn list<'a>(table: &'a Table, key: &str) -> Result<&'a [Value], ScriptKind>
     }
 }
 
+/// The items of the array under a key, which may be missing.
+#[tactic(auto, unfolding(crate::specs::Members::items_in, gfx_base::specs::Results::and_then))]
+pub fn items_if_any<'a>(table: &'a Table, key: &str) -> Result<Option<&'a [Value]>, ScriptKind>
+    ensures { Says (option_map (λ x. map view x.now)) result (members.items_if_any (get_member key.now (table_view table.now))) }
+{
+    match member(table, key) {
+        None => Ok(None),
+        Some(value) => match items_in(value) {
+            Some(items) => Ok(Some(items)),
+            None => Err(ScriptKind::Key),
+        },
+    }
+}
+
 /// A whole number from the least to the most.
 #[tactic(auto, unfolding(crate::specs::Members::within))]
 pub fn within(number: i64, least: u16, most: u16) -> Result<u16, ScriptKind>
     ensures { result ≡ members.within least most number }
 {
     match u16::try_from(number) {
+        Ok(number) if least <= number && number <= most => Ok(number),
+        _ => Err(ScriptKind::Range),
+    }
+}
+
+/// The same of a number that fits eight bits.
+#[tactic(auto, unfolding(crate::specs::Members::within))]
+pub fn small_within(number: i64, least: u8, most: u8) -> Result<u8, ScriptKind>
+    ensures { result ≡ members.within least most number }
+{
+    match u8::try_from(number) {
         Ok(number) if least <= number && number <= most => Ok(number),
         _ => Err(ScriptKind::Range),
     }

@@ -72,6 +72,7 @@ fn kind_named(word: &str) -> Result<Option<Kind>, ScriptKind>
         "bands" => Ok(Some(Kind::Bands)),
         "palette" => Ok(Some(Kind::Palette)),
         "plain" => Ok(Some(Kind::Plain)),
+        "progressive" => Ok(Some(Kind::Progressive)),
         "auto" => Ok(None),
         _ => Err(ScriptKind::Key),
     }

@@ -42,7 +42,7 @@ fn are_whole(value: &Value) -> bool
 }
 
 /// Whether all of these values are whole numbers.
-fn all_whole(values: &[Value]) -> bool
+pub fn all_whole(values: &[Value]) -> bool
     ensures { result ≡ list_all is_whole (map view values.now) }
 {
     'values: for value in values {

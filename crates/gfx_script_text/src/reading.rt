@@ -1,23 +1,24 @@
 //! The whole of a script's text, and the order of checks.
 
-ghost use Rattle.std.specs.Prelude.{◌≡◌, ◌≤◌, length, map, IfOk};
-ghost use Rattle.std.specs.Option.{option_map};
+ghost use Rattle.std.specs.Prelude.{◌≤◌, length, map, IfOk};
 ghost use Rattle.toml.specs.Data.{get_member};
 ghost use Rattle.toml.specs.View.{table_view, view};
 ghost use Rattle.gfx_base.specs.Outcome.{Gives, Says};
 ghost use Rattle.gfx_script.specs.declared.TheConstants.{MOST_STEPS};
 ghost use Rattle.gfx_script.specs.Script.{IsAccepted};
-ghost use Rattle.gfx_script_text.specs.Text.{script_of, document_of, items_or_none, items_if_any, top_of, head_of, next_step, steps_of};
+ghost use Rattle.gfx_script_text.specs.Text.{script_of, document_of, items_or_none, top_of, head_of, next_step, steps_of};
 ghost use Rattle.gfx_script_text.specs.Told.{Reads, parts_seen, top_seen, head_seen};
 
 use crate::client::read_client;
 use crate::error::ScriptError;
-use crate::members::{check_keys, items_in, member, whole_if_any};
+use crate::members::{check_keys, items_if_any, items_in, member, table_if_any, whole_if_any};
 use crate::names::Names;
 use crate::pictures::{Gallery, read_pictures};
+use crate::progressive::{Progressive, read_progressive};
 use crate::session::{read_turns, read_window};
 use crate::words::read_step;
 use gfx_caps::{Offers, offers_small};
+use gfx_quant::Setting;
 use gfx_script::{Flaw, Held, MOST_STEPS, Picture, Script, ScriptKind, Step, Turn, is_framed};
 use std::alloc::Global;
 use toml::{Table, Value};
@@ -27,6 +28,8 @@ use toml::{Table, Value};
 struct Parts {
     window: u8,
     offers: Offers,
+    setting: Setting,
+    differences: bool,
     pictures: Vec<Picture>,
     small: bool,
     steps: Vec<Step>,
@@ -38,6 +41,7 @@ struct Parts {
 struct Top<'a> {
     window: Option<i64>,
     client: Option<&'a [Value]>,
+    progressive: Option<&'a Table>,
     picture: &'a [Value],
     step: &'a [Value],
     turn: &'a [Value],
@@ -48,6 +52,7 @@ struct Top<'a> {
 struct Head<'a> {
     window: u8,
     offers: Offers,
+    progressive: Progressive,
     gallery: Gallery<'a>,
 }
 
@@ -60,6 +65,8 @@ pub fn read_script(alloc: Global, text: &[u8]) -> Result<Script, ScriptError>
     Ok(Script::new(
         parts.window,
         parts.offers,
+        parts.setting,
+        parts.differences,
         parts.pictures,
         parts.small,
         parts.steps,
@@ -83,11 +90,16 @@ fn read_parts(alloc: Global, text: &[u8]) -> Result<Parts, ScriptError>
     let Head {
         window,
         offers,
+        progressive,
         gallery,
     } = match read_head(alloc, top) {
         Ok(head) => head,
         Err(flaw) => return Err(ScriptError::at(0, flaw)),
     };
+    let Progressive {
+        setting,
+        differences,
+    } = progressive;
     let Gallery { names, pictures } = gallery;
     let small = offers_small(offers.as_slice());
     let Ok(held) = Held::new(alloc, &pictures, small) else {
@@ -107,6 +119,8 @@ fn read_parts(alloc: Global, text: &[u8]) -> Result<Parts, ScriptError>
     Ok(Parts {
         window,
         offers,
+        setting,
+        differences,
         pictures,
         small,
         steps,
@@ -134,15 +148,20 @@ fn read_document(alloc: Global, text: &[u8]) -> Result<Table, Flaw>
 fn read_top(table: &Table) -> Result<Top<'_>, ScriptKind>
     ensures { Says top_seen result (top_of (table_view table.now)) }
 {
-    check_keys(table, &["window", "client", "picture", "step", "turn"])?;
+    check_keys(
+        table,
+        &["window", "client", "progressive", "picture", "step", "turn"],
+    )?;
     let window = whole_if_any(table, "window")?;
     let client = items_if_any(table, "client")?;
+    let progressive = table_if_any(table, "progressive")?;
     let picture = items_or_none(table, "picture")?;
     let step = items_or_none(table, "step")?;
     let turn = items_or_none(table, "turn")?;
     Ok(Top {
         window,
         client,
+        progressive,
         picture,
         step,
         turn,
@@ -160,20 +179,6 @@ fn items_or_none<'a>(table: &'a Table, key: &str) -> Result<&'a [Value], ScriptK
     }
 }
 
-/// The same, where missing is told from empty.
-#[tactic(auto, unfolding(crate::specs::Members::items_in, gfx_base::specs::Results::and_then))]
-fn items_if_any<'a>(table: &'a Table, key: &str) -> Result<Option<&'a [Value]>, ScriptKind>
-    ensures { Says (option_map (λ x. map view x.now)) result (items_if_any (get_member key.now (table_view table.now))) }
-{
-    match member(table, key) {
-        None => Ok(None),
-        Some(value) => match items_in(value) {
-            Some(items) => Ok(Some(items)),
-            None => Err(ScriptKind::Key),
-        },
-    }
-}
-
 /// Reads what stands before the steps, and says whether the steps are too many.
 #[tactic(auto, unfolding(crate::specs::Text::head_of, gfx_base::specs::Results::and_then))]
 fn read_head(alloc: Global, top: Top<'_>) -> Result<Head<'_>, Flaw>
@@ -182,6 +187,7 @@ fn read_head(alloc: Global, top: Top<'_>) -> Result<Head<'_>, Flaw>
 {
     let window = read_window(top.window)?;
     let offers = read_client(alloc, top.client)?;
+    let progressive = read_progressive(top.progressive)?;
     let gallery = read_pictures(alloc, top.picture)?;
     if top.step.len() > MOST_STEPS as usize {
         return Err(Flaw::Refused(ScriptKind::Range));
@@ -189,6 +195,7 @@ fn read_head(alloc: Global, top: Top<'_>) -> Result<Head<'_>, Flaw>
     Ok(Head {
         window,
         offers,
+        progressive,
         gallery,
     })
 }

@@ -4,12 +4,11 @@ ghost use Rattle.std.specs.Prelude.{◌≡◌, map};
 ghost use Rattle.gfx_base.specs.Outcome.{Gives};
 ghost use Rattle.gfx_base.specs.Results.{each};
 ghost use Rattle.toml.specs.View.{table_view, view};
-ghost use Rattle.gfx_script.specs.declared.TheConstants.{MOST_WINDOW};
 ghost use Rattle.gfx_script_text.specs.declared.TheConstants.{MOST_TAKE};
 ghost use Rattle.gfx_script_text.specs.Members.{within};
 ghost use Rattle.gfx_script_text.specs.Sessions.{window_of, taken_of, server_of, client_of, answer_of, ended, turn_of, turns_of};
 
-use crate::members::{check_keys, text, whole};
+use crate::members::{check_keys, small_within, text, whole};
 use crate::{MOST_TAKE, USUAL_WINDOW};
 use gfx_script::{Flaw, MOST_TURNS, MOST_WINDOW, ScriptKind, Turn};
 use std::alloc::Global;
@@ -22,18 +21,7 @@ pub fn read_window(number: Option<i64>) -> Result<u8, ScriptKind>
 {
     match number {
         None => Ok(USUAL_WINDOW),
-        Some(number) => window_number(number),
-    }
-}
-
-/// A number as a window.
-#[tactic(auto, unfolding(crate::specs::Members::within))]
-fn window_number(number: i64) -> Result<u8, ScriptKind>
-    ensures { result ≡ within 1 MOST_WINDOW number }
-{
-    match u8::try_from(number) {
-        Ok(number) if 1 <= number && number <= MOST_WINDOW => Ok(number),
-        _ => Err(ScriptKind::Range),
+        Some(number) => small_within(number, 1, MOST_WINDOW),
     }
 }
 

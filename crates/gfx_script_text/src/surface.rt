@@ -1,8 +1,8 @@
-//! The steps that make and delete surfaces.
+//! The steps that make, delete and improve surfaces.
 
 ghost use Rattle.std.specs.Prelude.{◌≡◌};
 ghost use Rattle.toml.specs.View.{table_view};
-ghost use Rattle.gfx_script_text.specs.Words.{surface_of, format_or_default, format_named, delete_of};
+ghost use Rattle.gfx_script_text.specs.Words.{surface_of, format_or_default, format_named, delete_of, improve_of};
 ghost use Rattle.std.specs.Prelude.{codes};
 ghost use Rattle.toml.specs.Data.{get_member};
 
@@ -43,6 +43,17 @@ pub fn read_delete(table: &Table) -> Result<Step, ScriptKind>
     let id = whole(table, "id")?;
     let id = within(id, 0, MOST_NUMBER)?;
     Ok(Step::Delete { id })
+}
+
+/// Reads `improve`.
+#[tactic(auto, unfolding(crate::specs::Words::improve_of, gfx_base::specs::Results::and_then))]
+pub fn read_improve(table: &Table) -> Result<Step, ScriptKind>
+    ensures { result ≡ improve_of (table_view table.now) }
+{
+    check_keys(table, &["do", "id"])?;
+    let id = whole(table, "id")?;
+    let id = within(id, 0, MOST_NUMBER)?;
+    Ok(Step::Improve { id })
 }
 
 /// The format, which may be missing.

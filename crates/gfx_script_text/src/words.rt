@@ -12,7 +12,7 @@ use crate::members::{check_keys, text};
 use crate::names::Names;
 use crate::output::{read_map, read_reset};
 use crate::paint::read_paint;
-use crate::surface::{read_delete, read_surface};
+use crate::surface::{read_delete, read_improve, read_surface};
 use gfx_script::{Flaw, ScriptKind, Step};
 use std::alloc::Global;
 use toml::{Table, Value};
@@ -45,6 +45,7 @@ fn read_worded(alloc: Global, names: &Names<'_>, word: &str, table: &Table) -> R
         "show" => read_show(alloc, table),
         "forget" => Ok(read_forget(table)?),
         "paint" => Ok(read_paint(names, table)?),
+        "improve" => Ok(read_improve(table)?),
         "frame" => Ok(read_frame(table)?),
         _ => Err(Flaw::Refused(ScriptKind::Key)),
     }

@@ -1,5 +1,5 @@
 //! Which steps a later one covers.
-#![tactic(auto, unfolding(gfx_script::specs::Writes::writes_plainly))]
+#![tactic(auto, unfolding(gfx_script::specs::Writes::writes_plainly, gfx_script::specs::Writes::paints_plainly))]
 
 ghost use Rattle.std.specs.Prelude.{◌≡◌};
 ghost use Rattle.std.specs.List.{list_any};
@@ -43,7 +43,8 @@ pub fn plain_write(script: &Script, item: Queued) -> Option<Write>
             at,
             ..
         } => {
-            if item.kind.is_none() {
+            let kind = item.kind?;
+            if kind.is_progressive() {
                 return None;
             }
             let (width, height) = script.picture_size(*picture)?;
@@ -90,7 +91,10 @@ fn covers(script: &Script, item: Queued, write: Write) -> bool
                 ..
             },
         ) => {
-            if item.kind.is_none() {
+            let Some(kind) = item.kind else {
+                return false;
+            };
+            if kind.is_progressive() {
                 return false;
             }
             match script.picture_size(*picture) {
@@ -112,7 +116,10 @@ fn stands_aside(script: &Script, item: Queued) -> bool
     match script.step(item.step) {
         Some(Step::Fill { .. } | Step::Frame) => true,
         Some(Step::Paint { picture, .. }) => {
-            if item.kind.is_none() {
+            let Some(kind) = item.kind else {
+                return false;
+            };
+            if kind.is_progressive() {
                 return false;
             }
             script.picture_size(*picture).is_some()

@@ -1,0 +1,11 @@
+pub mod Heads
+pub mod First
+pub mod Values
+pub mod Gaining
+pub mod Raising
+pub mod Tiles
+pub mod Quants
+pub mod Codings
+pub mod Fields
+pub mod Turns
+pub mod Lengths

@@ -1,0 +1,68 @@
+-- Rectangles on the cells of a surface.
+use Rattle.std.proofs.Common.{◌≡◌, ◌+◌, ◌*◌, ◌<◌, ◌≤◌, ℕ, true, max, min, ap, arith}
+use Rattle.std.proofs.lemmas.Bool.Decides.{nat_tests}
+use Rattle.gfx_base.specs.declared.geometry.Rect.{Rect}
+use Rattle.gfx_base.specs.Geometry.{holds}
+use Rattle.gfx_prog_block.specs.declared.region.TheConstants.{TILE_SIZE}
+use Rattle.gfx_prog_decode.specs.declared.key.Key.{Key}
+use Rattle.gfx_prog_decode.specs.Showing.{cell_in, has_pixel}
+use Rattle.gfx_prog_encode.specs.declared.send.TileSend.{TileSend}
+use Rattle.gfx_prog_encode.specs.Messages.{area_of}
+use Rattle.gfx_live.specs.Cells.{cut_to_cell}
+
+-- the pixel at column x of row y is one of the cell's
+pub record InCell (column row x y : ℕ) : Type 0 where
+  pub left : TILE_SIZE * column ≤ x
+  pub right : x < TILE_SIZE * column + TILE_SIZE
+  pub top : TILE_SIZE * row ≤ y
+  pub bottom : y < TILE_SIZE * row + TILE_SIZE
+
+-- of one cell alone
+pub one-cell : (a b c d x y : ℕ) → InCell a b x y → InCell c d x y → (a ≡ c) × (b ≡ d)
+one-cell a b c d x y one other = (omega (arith, one.left, one.right, other.left, other.right), omega (arith, one.top, one.bottom, other.top, other.bottom))
+
+-- what a surface has of a cell
+pub cell-holds : (width height : ℕ) (key : Key) (x y : ℕ) → holds (cell_in width height key) x y ≡ true → InCell key.x key.y x y
+cell-holds width height key x y hit = record {
+  left = grind (arith, nat_tests);
+  right = grind (arith, nat_tests);
+  top = grind (arith, nat_tests);
+  bottom = grind (arith, nat_tests);
+}
+
+-- a rectangle that lies in a cell
+pub record LiesInCell (rect : Rect) (column row : ℕ) : Type 0 where
+  pub left : TILE_SIZE * column ≤ rect.left
+  pub right : rect.right ≤ TILE_SIZE * column + TILE_SIZE
+  pub top : TILE_SIZE * row ≤ rect.top
+  pub bottom : rect.bottom ≤ TILE_SIZE * row + TILE_SIZE
+
+pub cut-lies : (rect : Rect) (column row : ℕ) → cut_to_cell rect column row ≡ rect → LiesInCell rect column row
+cut-lies rect column row cut =
+    let left : max rect.left (TILE_SIZE * column) ≡ rect.left = ap (λ r. r.left) cut in
+    let top : max rect.top (TILE_SIZE * row) ≡ rect.top = ap (λ r. r.top) cut in
+    let right : min rect.right (TILE_SIZE * column + TILE_SIZE) ≡ rect.right = ap (λ r. r.right) cut in
+    let bottom : min rect.bottom (TILE_SIZE * row + TILE_SIZE) ≡ rect.bottom = ap (λ r. r.bottom) cut in
+    record { left = omega arith; right = omega arith; top = omega arith; bottom = omega arith }
+
+-- a pixel of a tile's area is one of its rectangle
+pub area-holds : (send : TileSend) (x y : ℕ) → has_pixel x y (area_of send) ≡ true → holds send.rect x y ≡ true
+area-holds send x y hit = grind (arith, nat_tests)
+
+-- and of its cell
+pub rect-in-cell : (send : TileSend) (x y : ℕ) → cut_to_cell send.rect send.x send.y ≡ send.rect → holds send.rect x y ≡ true → InCell send.x send.y x y
+rect-in-cell send x y cut hit =
+    let lies : LiesInCell send.rect send.x send.y = cut-lies send.rect send.x send.y cut in
+    by lies.left lies.right lies.top lies.bottom
+  where
+    by : TILE_SIZE * send.x ≤ send.rect.left → send.rect.right ≤ TILE_SIZE * send.x + TILE_SIZE → TILE_SIZE * send.y ≤ send.rect.top → send.rect.bottom ≤ TILE_SIZE * send.y + TILE_SIZE
+        → InCell send.x send.y x y
+    by left right top bottom = record {
+      left = grind (arith, nat_tests);
+      right = grind (arith, nat_tests);
+      top = grind (arith, nat_tests);
+      bottom = grind (arith, nat_tests);
+    }
+
+pub area-in-cell : (send : TileSend) (x y : ℕ) → cut_to_cell send.rect send.x send.y ≡ send.rect → has_pixel x y (area_of send) ≡ true → InCell send.x send.y x y
+area-in-cell send x y cut hit = rect-in-cell send x y cut (area-holds send x y hit)

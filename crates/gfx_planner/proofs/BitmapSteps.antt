@@ -35,16 +35,17 @@ use Rattle.gfx_state.specs.State.{State}
 use Rattle.gfx_state.specs.Step as message
 use Rattle.gfx_state.specs.Step.{image_in, showing}
 use Rattle.gfx_state.specs.Sending.{IsCarried}
-use Rattle.gfx_planner.specs.Agree.{Agree, sides_of, Holds}
+use Rattle.gfx_planner.specs.Agree.{sides_of}
 use Rattle.gfx_planner.specs.Want.{Wanted, drawing, with_bitmap, bitmap_in, with_stamps, without_slot, wanted_as}
 use Rattle.gfx_planner.specs.Wire.{Server, made, alone, keeping, showing_slot, emptying, made_as}
 use Rattle.gfx_planner.proofs.Carried.{carried-store, carried-show, carried-evict}
 use Rattle.gfx_planner.proofs.Effects.{all_steps-one}
 use Rattle.gfx_planner.specs.Slots.{sides_in, emptied}
 use Rattle.gfx_planner.proofs.Slots.{Showing, cache_kept, rect_sides, fits_cache-kept, small_kept, fits_cache-shows, fits_cache-touched, fits_cache-forgotten, sides_fit-kept, sides_fit-touched, sides_fit-forgotten, sides_fit-shows, shown-step, forgotten-steps}
-use Rattle.gfx_planner.proofs.Held.{holds-drawn}
+use Rattle.gfx_planner.proofs.Held.{holds-drawn, sides-stay}
 use Rattle.gfx_planner.proofs.Lists.{all_both}
 use Rattle.gfx_planner.proofs.SurfaceSteps.{Fine, drawing_agrees, found_there, ok_or_some, shows}
+use Rattle.gfx_planner.proofs.Seen.{AgreeSeen as Agree, HoldsSeen as Holds}
 
 -- bitmaps -------------------------------------------------------------------------------------------
 
@@ -165,6 +166,7 @@ keep_fine script server kind held after id key rect holds numbers checked =
             slots = ap (λ (z : FinMap nat_cmp Entry). insert (emptied z m.kept.dropped) m.kept.slot (entry key (image_in m.picture rect))) agree.slots;
             plan = refl;
           };
+      keeps = (λ q. refl, refl);
     }
 
 -- what a script's checks of a bitmap that is shown say
@@ -183,7 +185,7 @@ bitmap_found stock key sides is =
     let first = and_then_ok (ok_or (slot_of key stock.plan.places) fault.KeyAbsent) _ sides is in
     (first.0, ok_or_some _ fault.KeyAbsent first.0 first.1, ok_or_some _ fault.KeyAbsent sides first.2)
 
-may_show : (script : Script) (server : Server) (held after : Held) (key to : ℕ) (points : List Point) → Holds script held server → key_shown held key to points ≡ Ok after → MayShow server held after key to points
+pub may_show : (script : Script) (server : Server) (held after : Held) (key to : ℕ) (points : List Point) → Holds script held server → key_shown held key to points ≡ Ok after → MayShow server held after key to points
 unfolding key_shown
 may_show script server held after key to points holds checked =
     let first = and_then_ok (bitmap_sides held.stock key) _ after checked in
@@ -266,6 +268,7 @@ show_fine script server kind held after key to points holds numbers checked =
           subst (λ w. Agree (record (shows server shown) { plan = next }) (record w { plan = touched wanted.plan key }))
           (sym (with_stamps_there wanted wanted.slots (slot_of key wanted.plan.places) m.slot m.shows.entry to points is there))
           record { shown = drawn.shown; slots = drawn.slots; plan = ap (λ p. touched p key) agree.plan };
+      keeps = (sides-stay server.state.shown.surfaces to m.target (stamps m.target) m.there (sides_stamped _ image.pixels points m.target), refl);
     }
 
 -- what a script's checks of a bitmap that is forgotten say
@@ -314,4 +317,5 @@ forget_fine script server kind held after key holds numbers checked =
             slots = ap (λ (z : FinMap nat_cmp Entry). remove z slot) agree.slots ∙ sym (ap (without_slot wanted.slots) same);
             plan = ap (λ p. forgotten p key) agree.plan;
           };
+      keeps = (λ q. refl, refl);
     }

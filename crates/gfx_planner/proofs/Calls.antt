@@ -11,6 +11,7 @@ use Rattle.gfx_script.specs.Script.{step_at}
 use Rattle.gfx_script.specs.Scripted.{Script}
 use Rattle.gfx_script.specs.declared.step.Kind.{Kind}
 use Rattle.gfx_script.specs.declared.step.Step.{Step}
+use Rattle.gfx_live.specs.Live.{Passes}
 use Rattle.gfx_slot_plan.specs.Plan.{Plan}
 use Rattle.gfx_state.specs.State.{State}
 use Rattle.gfx_state.specs.Step as message
@@ -18,15 +19,16 @@ use Rattle.gfx_state.specs.Sending.{all_steps, sent, IsCarried}
 use Rattle.gfx_planner.specs.Agree.{Agree, Holds, IsInFrame, IsAllowed, IsAllowedStep, kinded_at}
 use Rattle.gfx_planner.specs.Planned.{Planned, PutsFront, SendsMade, SendsMessages, Sends, ShowsStep, PutsStep}
 use Rattle.gfx_planner.specs.Want.{wanted_after}
-use Rattle.gfx_planner.specs.Wire.{Server, Made, made, made_by, frame_start, frame_end, after_open, after_close}
+use Rattle.gfx_planner.specs.Wire.{Server, Made, made, made_by, passes_by, frame_start, frame_end, after_put, after_open, after_close}
 use Rattle.gfx_planner.specs.declared.planner.TheConstants.{MOST_FRAMES}
 use Rattle.gfx_planner.proofs.Effects.{after_messages-is}
-use Rattle.gfx_planner.proofs.SurfaceSteps.{Fine, starts, ends, going}
+use Rattle.gfx_planner.proofs.SurfaceSteps.{starts, ends}
+use Rattle.gfx_planner.proofs.Whole.{FineStep, gone}
 use Rattle.gfx_planner.proofs.Steps.{step_fine, allowed_fine, same_made, messages-is, after_put-is}
 
 -- a planner whose fields are these
-abbrev pub planned : State → Plan → ℕ → Bool → Planned
-planned state plan frames spent = record { server = record { state = state; plan = plan; frames = frames }; spent = spent }
+abbrev pub planned : State → Plan → Passes → ℕ → Bool → Planned
+planned state plan passes frames spent = record { server = record { state = state; plan = plan; passes = passes; frames = frames }; spent = spent }
 
 -- a planner that isn't spent
 unspent : {X : Type 0} (a : Bool) → a ≡ false → a ≡ true → X
@@ -47,19 +49,19 @@ may_open server few none =
 pub may_close : (server : Server) → server.frames < 2 ^ 32 → IsInFrame server → IsCarried (frame_end server) × IsOk (message.step server.state (frame_end server))
 may_close server few within = let accepts = ends server.state server.frames few within in (accepts.carried, ap is_ok accepts.stepped)
 
-pub opens : (id : ℕ) (state new : State) (plan : Plan) (frames : ℕ) (spent : Bool) (before now : List ℕ) → spent ≡ false
-    → SendsMessages {X = Unit {0}} (Ok tt) state new before now (frame_start (planned state plan frames spent).server ∷ [])
-    → Sends {X = ℕ} (Ok id) (planned state plan frames spent) (planned new plan (frames + 1) false) before now (frame_start (planned state plan frames spent).server ∷ []) (after_open (planned state plan frames spent).server)
-opens id state new plan frames spent before now fresh done =
-    let server : Server = record { state = state; plan = plan; frames = frames } in
+pub opens : (id : ℕ) (state new : State) (plan : Plan) (passes : Passes) (frames : ℕ) (spent : Bool) (before now : List ℕ) → spent ≡ false
+    → SendsMessages {X = Unit {0}} (Ok tt) state new before now (frame_start (planned state plan passes frames spent).server ∷ [])
+    → Sends {X = ℕ} (Ok id) (planned state plan passes frames spent) (planned new plan passes (frames + 1) false) before now (frame_start (planned state plan passes frames spent).server ∷ []) (after_open (planned state plan passes frames spent).server)
+opens id state new plan passes frames spent before now fresh done =
+    let server : Server = record { state = state; plan = plan; passes = passes; frames = frames } in
     let after = after_messages-is server (frame_start server ∷ []) new done.0 in
-    (fresh, ((λ i. planned (sym after i).state (sym after i).plan (frames + 1) false), done.1))
+    (fresh, ((λ i. planned (sym after i).state (sym after i).plan (sym after i).passes (frames + 1) false), done.1))
 
-pub closes : (state new : State) (plan : Plan) (frames : ℕ) (spent : Bool) (before now : List ℕ) → spent ≡ false
-    → SendsMessages {X = Unit {0}} (Ok tt) state new before now (frame_end (planned state plan frames spent).server ∷ [])
-    → Sends {X = Unit {0}} (Ok tt) (planned state plan frames spent) (planned new plan frames false) before now (frame_end (planned state plan frames spent).server ∷ []) (after_close (planned state plan frames spent).server)
-closes state new plan frames spent before now fresh done =
-    let server : Server = record { state = state; plan = plan; frames = frames } in
+pub closes : (state new : State) (plan : Plan) (passes : Passes) (frames : ℕ) (spent : Bool) (before now : List ℕ) → spent ≡ false
+    → SendsMessages {X = Unit {0}} (Ok tt) state new before now (frame_end (planned state plan passes frames spent).server ∷ [])
+    → Sends {X = Unit {0}} (Ok tt) (planned state plan passes frames spent) (planned new plan passes frames false) before now (frame_end (planned state plan passes frames spent).server ∷ []) (after_close (planned state plan passes frames spent).server)
+closes state new plan passes frames spent before now fresh done =
+    let server : Server = record { state = state; plan = plan; passes = passes; frames = frames } in
     let after = after_messages-is server (frame_end server ∷ []) new done.0 in
     (fresh, ((λ i. record { server = sym after i; spent = false }), done.1))
 
@@ -77,15 +79,15 @@ is_allowed script server number kind step found allowed = subst (IsAllowedStep s
 same_state : (a b : State) (pdus : List Pdu) (state : State) → all_steps state pdus ≡ Ok a → all_steps state pdus ≡ Ok b → a ≡ b
 same_state a b pdus state first second = cc
 
-came_to : (script : Script) (server : Server) (one : KindedStep) (after : Held) (into : Made) (new : State) (fine : Fine script server one after) → made_by script server one ≡ Some into
-    → all_steps server.state into.pdus ≡ Ok new → going server fine.next fine.into.plan ≡ going server new into.plan
+came_to : (script : Script) (server : Server) (one : KindedStep) (after : Held) (into : Made) (new : State) (fine : FineStep script server one after) → made_by script server one ≡ Some into
+    → all_steps server.state into.pdus ≡ Ok new → gone script server one fine.next fine.into.plan ≡ gone script server one new into.plan
 came_to script server one after into new fine is accepted =
     let same = same_made _ fine.into into fine.is is in
     let reached : fine.next ≡ new = same_state fine.next new into.pdus server.state (ap (λ (z : Made). all_steps server.state z.pdus) (sym same) ∙ fine.accepted) accepted in
-    λ i. going server (reached i) (same i).plan
+    λ i. gone script server one (reached i) (same i).plan
 
 shows_step : (script : Script) (server : Server) (one : KindedStep) (into : Made) (new : State) → IsAllowed script server one → made_by script server one ≡ Some into → all_steps server.state into.pdus ≡ Ok new
-    → ShowsStep script server (going server new into.plan) one
+    → ShowsStep script server (gone script server one new into.plan) one
 shows_step script server one into new allowed is accepted =
     let due = messages-is script server one into is in
     let fine = allowed_fine script server one allowed in
@@ -101,39 +103,43 @@ shows_step script server one into new allowed is accepted =
     }
 
 -- the step is put out, and the server's end has gone on
-pub puts : (script : Script) (state new : State) (plan next : Plan) (frames : ℕ) (spent : Bool) (one : KindedStep) (pdus : List Pdu) (before now : List ℕ) → spent ≡ false
-    → IsAllowed script (planned state plan frames spent).server one → made_by script (planned state plan frames spent).server one ≡ made pdus next
-    → SendsMessages {X = Unit {0}} (Ok tt) state new before now pdus → PutsStep script (Ok tt) (planned state plan frames spent) (planned new next frames false) before now (Some one)
-puts script state new plan next frames spent one pdus before now fresh allowed is done =
-    let server : Server = record { state = state; plan = plan; frames = frames } in
+pub puts : (script : Script) (state new : State) (plan next : Plan) (passes later : Passes) (frames : ℕ) (spent : Bool) (one : KindedStep) (pdus : List Pdu) (before now : List ℕ) → spent ≡ false
+    → IsAllowed script (planned state plan passes frames spent).server one → made_by script (planned state plan passes frames spent).server one ≡ made pdus next
+    → later ≡ passes_by script (planned state plan passes frames spent).server one
+    → SendsMessages {X = Unit {0}} (Ok tt) state new before now pdus → PutsStep script (Ok tt) (planned state plan passes frames spent) (planned new next later frames false) before now (Some one)
+puts script state new plan next passes later frames spent one pdus before now fresh allowed is live done =
+    let server : Server = record { state = state; plan = plan; passes = passes; frames = frames } in
     let into : Made = record { pdus = pdus; plan = next } in
     let due = messages-is script server one into is in
-    let after = after_put-is script server one into new is done.0 in (
-      (fresh, ((λ i. record { server = sym after i; spent = false }), done.1 ∙ ap (λ z. before ++ sent z) (sym due))),
-      shows_step script server one into new allowed is done.0,
+    let came : planned new next later frames false ≡ record { server = gone script server one new next; spent = false } = λ i. planned new next (live i) frames false in
+    let after : gone script server one new next ≡ after_put script server one = sym (after_put-is script server one into new is done.0) in (
+      (fresh, (came ∙ (λ i. record { server = after i; spent = false }), done.1 ∙ ap (λ z. before ++ sent z) (sym due))),
+      subst (λ (p : Planned). ShowsStep script server p.server one) (sym came) (shows_step script server one into new allowed is done.0),
     )
 
 -- what it is made into is put out
-pub puts_made : (script : Script) (state new : State) (plan next : Plan) (frames : ℕ) (spent : Bool) (one : KindedStep) (before now : List ℕ) → spent ≡ false → IsAllowed script (planned state plan frames spent).server one
-    → SendsMade {X = Unit {0}} (Ok tt) state new next before now (made_by script (planned state plan frames spent).server one)
-    → PutsStep script (Ok tt) (planned state plan frames spent) (planned new next frames false) before now (Some one)
-puts_made script state new plan next frames spent one before now fresh allowed done = by (made_by script (planned state plan frames spent).server one) refl done
+pub puts_made : (script : Script) (state new : State) (plan next : Plan) (passes later : Passes) (frames : ℕ) (spent : Bool) (one : KindedStep) (before now : List ℕ) → spent ≡ false
+    → IsAllowed script (planned state plan passes frames spent).server one
+    → SendsMade {X = Unit {0}} (Ok tt) state new next before now (made_by script (planned state plan passes frames spent).server one)
+    → later ≡ passes_by script (planned state plan passes frames spent).server one
+    → PutsStep script (Ok tt) (planned state plan passes frames spent) (planned new next later frames false) before now (Some one)
+puts_made script state new plan next passes later frames spent one before now fresh allowed done live = by (made_by script (planned state plan passes frames spent).server one) refl done
   where
-    by : (o : Option Made) → made_by script (planned state plan frames spent).server one ≡ o → SendsMade {X = Unit {0}} (Ok tt) state new next before now o
-        → PutsStep script (Ok tt) (planned state plan frames spent) (planned new next frames false) before now (Some one)
+    by : (o : Option Made) → made_by script (planned state plan passes frames spent).server one ≡ o → SendsMade {X = Unit {0}} (Ok tt) state new next before now o
+        → PutsStep script (Ok tt) (planned state plan passes frames spent) (planned new next later frames false) before now (Some one)
     by None is sends = absurd sends
     by (Some into) is sends =
-        puts script state new plan next frames spent one into.pdus before now fresh allowed (is ∙ ap (made into.pdus) (sym sends.1)) sends.0
+        puts script state new plan next passes later frames spent one into.pdus before now fresh allowed (is ∙ ap (made into.pdus) (sym sends.1)) live sends.0
 
 -- a front of it is
-pub puts_made_front : (script : Script) (e : NoMemory) (state new : State) (plan next : Plan) (frames : ℕ) (spent : Bool) (one : KindedStep) (before now : List ℕ) → spent ≡ false
-    → SendsMade {X = Unit {0}} (Err e) state new next before now (made_by script (planned state plan frames spent).server one)
-    → PutsStep script (Err e) (planned state plan frames spent) (planned new next frames true) before now (Some one)
-puts_made_front script e state new plan next frames spent one before now fresh done = by (made_by script (planned state plan frames spent).server one) refl done
+pub puts_made_front : (script : Script) (e : NoMemory) (state new : State) (plan next : Plan) (passes later : Passes) (frames : ℕ) (spent : Bool) (one : KindedStep) (before now : List ℕ) → spent ≡ false
+    → SendsMade {X = Unit {0}} (Err e) state new next before now (made_by script (planned state plan passes frames spent).server one)
+    → PutsStep script (Err e) (planned state plan passes frames spent) (planned new next later frames true) before now (Some one)
+puts_made_front script e state new plan next passes later frames spent one before now fresh done = by (made_by script (planned state plan passes frames spent).server one) refl done
   where
-    by : (o : Option Made) → made_by script (planned state plan frames spent).server one ≡ o → SendsMade {X = Unit {0}} (Err e) state new next before now o
-        → PutsStep script (Err e) (planned state plan frames spent) (planned new next frames true) before now (Some one)
+    by : (o : Option Made) → made_by script (planned state plan passes frames spent).server one ≡ o → SendsMade {X = Unit {0}} (Err e) state new next before now o
+        → PutsStep script (Err e) (planned state plan passes frames spent) (planned new next later frames true) before now (Some one)
     by None is sends = absurd sends
     by (Some into) is sends =
-        let due = messages-is script (planned state plan frames spent).server one into is in
+        let due = messages-is script (planned state plan passes frames spent).server one into is in
         ((refl, subst (λ z. PutsFront before now (sent z)) (sym due) sends), λ was. unspent spent fresh was)

@@ -16,7 +16,7 @@ use Rattle.gfx_script.specs.declared.TheConstants.{MOST_RECTS}
 use Rattle.gfx_state.specs.Sending.{IsCarried}
 
 -- a message whose counts and numbers fit, and that is short
-carried : (pdu : Pdu) → NumbersFit pdu → CountsFit pdu → size pdu ≤ MOST_PAYLOAD → IsCarried pdu
+pub carried : (pdu : Pdu) → NumbersFit pdu → CountsFit pdu → size pdu ≤ MOST_PAYLOAD → IsCarried pdu
 carried pdu numbers counts short = record {
   fits = record { numbers = numbers; spellable = record { counts = counts; short = omega arith } };
   short = omega (arith, length-spelling pdu);

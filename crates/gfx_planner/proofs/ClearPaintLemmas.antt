@@ -1,11 +1,10 @@
 -- Paints by ClearCodec that are allowed can be sent, and what sending one comes to.
-use Rattle.std.proofs.Common.{◌≡◌, ℕ, ◌+◌, ◌-◌, ◌*◌, ◌<◌, ◌^◌, Bool, true, List, [], ◌∷◌, ◌++◌, length, Option, Some, None, Result, Ok, Err, option_map, refl, sym, ap, ◌∙◌, subst, arith}
-use Rattle.std.specs.Prelude.{IfSome, IsSome, IsSomeAnd, IsTrue}
+use Rattle.std.proofs.Common.{◌≡◌, ℕ, ◌+◌, ◌-◌, ◌<◌, ◌^◌, false, List, [], ◌∷◌, Option, Some, None, Result, Ok, Err, option_map, refl, sym, ap, ◌∙◌, subst, arith}
+use Rattle.std.specs.Prelude.{IfSome, IsSomeAnd, IsTrue}
 use Rattle.std.specs.FinMap.{get}
 use Rattle.std.specs.List.{slice_get}
-use Rattle.std.proofs.lemmas.List.{append-nil}
 use Rattle.gfx_base.specs.Format.{byte_of}
-use Rattle.gfx_base.specs.Geometry.{IsPoint, lies_in, moved, sized, width_of, height_of}
+use Rattle.gfx_base.specs.Geometry.{lies_in, moved, sized, width_of, height_of}
 use Rattle.gfx_base.specs.declared.answer.NoMemory.{NoMemory}
 use Rattle.gfx_base.specs.declared.geometry.Point.{Point}
 use Rattle.gfx_base.specs.declared.geometry.Rect.{Rect}
@@ -14,32 +13,35 @@ use Rattle.gfx_clear.specs.declared.layer.Layer.{Layer}
 use Rattle.gfx_clear.specs.Sending.{MaySend as MaySendStream, sent as stream_sent}
 use Rattle.gfx_pdu.specs.declared.pdu.Pdu.{Pdu}
 use Rattle.gfx_pdu.specs.declared.pdu.Pdu.TheVariants.{WireToSurface1}
-use Rattle.gfx_pdu.specs.Spelling.{spelling}
-use Rattle.gfx_segment.specs.Framing.{wrapped}
 use Rattle.gfx_script.specs.declared.picture.Picture.{Picture as Source}
 use Rattle.gfx_script.specs.declared.step.Kind.{Kind}
+use Rattle.gfx_script.specs.declared.step.Kind.TheVariants.{Raw, Residual, Bands, Palette, Plain, Progressive}
 use Rattle.gfx_script.specs.declared.step.Step.{Step}
-use Rattle.gfx_script.specs.declared.step.Step.TheVariants.{Surface, Delete, Reset, Map, Fill, Copy, Keep, Show, Forget, Paint, Frame}
-use Rattle.gfx_script.specs.Checks.{Held, held_after, picture_painted}
-use Rattle.gfx_script.specs.Kinds.{KindedStep, as_kind}
+use Rattle.gfx_script.specs.declared.step.Step.TheVariants.{Surface, Delete, Reset, Map, Fill, Copy, Keep, Show, Forget, Paint, Improve, Frame}
+use Rattle.gfx_script.specs.Checks.{Held, held_after}
+use Rattle.gfx_script.specs.Kinds.{as_kind}
 use Rattle.gfx_script.specs.Scripted.{Script}
 use Rattle.gfx_script.specs.Writes.{place_of}
+use Rattle.gfx_live.specs.Live.{Passes}
 use Rattle.gfx_slot_plan.specs.Plan.{Plan}
 use Rattle.gfx_state.specs.Codecs.{CLEARCODEC}
-use Rattle.gfx_state.specs.Sending.{all_steps, sent, IsCarried}
+use Rattle.gfx_state.specs.Sending.{sent, IsCarried}
 use Rattle.gfx_state.specs.State.{State}
 use Rattle.gfx_state.specs.Step.{step}
 use Rattle.gfx_surface.specs.Picture.{Picture}
 use Rattle.gfx_planner.specs.Agree.{Holds, IsAllowed}
 use Rattle.gfx_planner.specs.ClearPaints.{MayPaintClear, clear_message, clear_paint_of}
 use Rattle.gfx_planner.specs.Layers.{layer_of}
-use Rattle.gfx_planner.specs.Planned.{MaySend, PutsFront, SendsMade, SendsMessages}
+use Rattle.gfx_planner.specs.Planned.{PutsFront, SendsMade, SendsMessages}
+use Rattle.gfx_planner.specs.Passes.{goes_in_passes}
 use Rattle.gfx_planner.specs.Want.{colours_in}
-use Rattle.gfx_planner.specs.Wire.{CanBeSent, Made, Server, alone, made, made_as, paint_message, painting}
+use Rattle.gfx_planner.specs.Wire.{CanBeSent, Made, Server, alone, made, made_as, paint_message}
 use Rattle.gfx_planner.specs.declared.clear_paint.ClearPaint.{ClearPaint}
-use Rattle.gfx_planner.proofs.Effects.{all_steps-one, sent-one, sent_nothing}
+use Rattle.gfx_planner.proofs.Effects.{sent_nothing}
 use Rattle.gfx_planner.proofs.PaintSteps.{MayPaint, may_paint, may_send_stream, paint_carried, painting_there}
 use Rattle.gfx_planner.proofs.Payloads.{sides}
+use Rattle.gfx_planner.proofs.Seen.{seen}
+use Rattle.gfx_planner.proofs.StepMessages.{painted_apart}
 
 -- an allowed one can be sent ---------------------------------------------------------------------------
 
@@ -62,7 +64,7 @@ pub may_paint_clear : (script : Script) (server : Server) (kind : Option Kind) (
 unfolding held_after
 may_paint_clear script server None (Paint id number at named glyph) allowed = tt
 may_paint_clear script server (Some kind) (Paint id number at named glyph) allowed =
-    let may = may_paint script server allowed.held allowed.after id number at named glyph allowed.holds allowed.numbers.1 allowed.numbers.2 allowed.checked in
+    let may = may_paint script server allowed.held allowed.after id number at named glyph (seen script allowed.held server allowed.holds) allowed.numbers.1 allowed.numbers.2 allowed.checked in
     allowed_paint script server allowed.held allowed.after id number at named glyph (layer_of kind) allowed.holds allowed.numbers.0 may.0
 may_paint_clear script server kind (Surface id width height format) allowed = tt
 may_paint_clear script server kind (Delete id) allowed = tt
@@ -73,6 +75,7 @@ may_paint_clear script server kind (Copy from to rect points) allowed = tt
 may_paint_clear script server kind (Keep id key rect) allowed = tt
 may_paint_clear script server kind (Show key to points) allowed = tt
 may_paint_clear script server kind (Forget key) allowed = tt
+may_paint_clear script server kind (Improve id) allowed = tt
 may_paint_clear script server kind Frame allowed = tt
 
 -- its parts ----------------------------------------------------------------------------------------------
@@ -174,15 +177,24 @@ sends_nothing e script old new paint out = by (get old.shown.surfaces paint.id)
     by None = tt
     by (Some surface) = behind surface (slice_get script.pictures paint.picture)
 
+-- what goes by a layer doesn't go in passes
+goes_whole : (kind : Kind) (layer : Layer) → layer_of kind ≡ Some layer → goes_in_passes (Some kind) ≡ false
+goes_whole Raw layer is = refl
+goes_whole Residual layer is = refl
+goes_whole Bands layer is = refl
+goes_whole Palette layer is = refl
+goes_whole Plain layer is = refl
+goes_whole Progressive layer is = absurd cc
+
 -- a step that is one is made into its message
-pub clear_made : (script : Script) (state : State) (plan : Plan) (kind : Option Kind) (step : Step) (paint : ClearPaint) (may : MayPaintClear script state paint) → clear_paint_of step kind ≡ Some paint
-    → made_as script state plan kind step ≡ made (paint_message (Some paint.layer) state.clear paint.glyph may.surface may.picture paint.id paint.at ∷ []) plan
+pub clear_made : (script : Script) (state : State) (passes : Passes) (plan : Plan) (kind : Option Kind) (step : Step) (paint : ClearPaint) (may : MayPaintClear script state paint) → clear_paint_of step kind ≡ Some paint
+    → made_as script state passes plan kind step ≡ made (paint_message (Some paint.layer) state.clear paint.glyph may.surface may.picture paint.id paint.at ∷ []) plan
 unfolding made_as
-clear_made script state plan None (Paint id number at named glyph) paint may is = absurd cc
-clear_made script state plan (Some kind) (Paint id number at named glyph) paint may is = by (layer_of kind) refl is
+clear_made script state passes plan None (Paint id number at named glyph) paint may is = absurd cc
+clear_made script state passes plan (Some kind) (Paint id number at named glyph) paint may is = by (layer_of kind) refl is
   where
     by : (layer : Option Layer) → layer_of kind ≡ layer → option_map (λ layer. record { id = id; picture = number; at = at; layer = layer; glyph = glyph }) layer ≡ Some paint
-        → alone (painting state.clear (get state.shown.surfaces id) (slice_get script.pictures number) (Some kind) glyph id at) plan
+        → made_as script state passes plan (Some kind) (Paint id number at named glyph)
         ≡ made (paint_message (Some paint.layer) state.clear paint.glyph may.surface may.picture paint.id paint.at ∷ []) plan
     by None of_kind found = absurd cc
     by (Some layer) of_kind found =
@@ -190,35 +202,37 @@ clear_made script state plan (Some kind) (Paint id number at named glyph) paint 
         let same : made_paint ≡ paint = cc in
         let there : get state.shown.surfaces id ≡ Some may.surface = ap (λ (z : ClearPaint). get state.shown.surfaces z.id) same ∙ may.there in
         let drawn : slice_get script.pictures number ≡ Some may.picture = ap (λ (z : ClearPaint). slice_get script.pictures z.picture) same ∙ may.drawn in
-        ap (λ o. alone o plan) (painting_there state.clear (get state.shown.surfaces id) (slice_get script.pictures number) kind glyph may.surface may.picture id at there drawn)
+        painted_apart script state passes plan (Some kind) named glyph id number at (goes_whole kind layer of_kind)
+        ∙ ap (λ o. alone o plan) (painting_there state.clear (get state.shown.surfaces id) (slice_get script.pictures number) kind glyph may.surface may.picture id at there drawn)
         ∙ (λ i. made (paint_message (of_kind i) state.clear glyph may.surface may.picture id at ∷ []) plan)
         ∙ ap (λ (z : ClearPaint). made (paint_message (Some z.layer) state.clear z.glyph may.surface may.picture z.id z.at ∷ []) plan) same
-clear_made script state plan kind (Surface id width height format) paint may is = absurd cc
-clear_made script state plan kind (Delete id) paint may is = absurd cc
-clear_made script state plan kind (Reset width height) paint may is = absurd cc
-clear_made script state plan kind (Map id x y) paint may is = absurd cc
-clear_made script state plan kind (Fill id colour rects) paint may is = absurd cc
-clear_made script state plan kind (Copy from to rect points) paint may is = absurd cc
-clear_made script state plan kind (Keep id key rect) paint may is = absurd cc
-clear_made script state plan kind (Show key to points) paint may is = absurd cc
-clear_made script state plan kind (Forget key) paint may is = absurd cc
-clear_made script state plan kind Frame paint may is = absurd cc
+clear_made script state passes plan kind (Surface id width height format) paint may is = absurd cc
+clear_made script state passes plan kind (Delete id) paint may is = absurd cc
+clear_made script state passes plan kind (Reset width height) paint may is = absurd cc
+clear_made script state passes plan kind (Map id x y) paint may is = absurd cc
+clear_made script state passes plan kind (Fill id colour rects) paint may is = absurd cc
+clear_made script state passes plan kind (Copy from to rect points) paint may is = absurd cc
+clear_made script state passes plan kind (Keep id key rect) paint may is = absurd cc
+clear_made script state passes plan kind (Show key to points) paint may is = absurd cc
+clear_made script state passes plan kind (Forget key) paint may is = absurd cc
+clear_made script state passes plan kind (Improve id) paint may is = absurd cc
+clear_made script state passes plan kind Frame paint may is = absurd cc
 
 -- what a step is made into is sent, where it is a paint
 both_done : (result : Result (Unit {0}) NoMemory) (old new : State) (plan : Plan) (before now : List ℕ) (pdus : List Pdu) → SendsMessages result old new before now pdus → SendsMade result old new plan before now (made pdus plan)
 both_done (Ok done) old new plan before now pdus sends = (sends, refl)
 both_done (Err e) old new plan before now pdus sends = sends
 
-pub made_sent : (result : Result (Unit {0}) NoMemory) (script : Script) (old new : State) (plan : Plan) (kind : Option Kind) (step : Step) (paint : ClearPaint) (before now : List ℕ) → MayPaintClear script old paint
+pub made_sent : (result : Result (Unit {0}) NoMemory) (script : Script) (old new : State) (passes : Passes) (plan : Plan) (kind : Option Kind) (step : Step) (paint : ClearPaint) (before now : List ℕ) → MayPaintClear script old paint
     → clear_paint_of step kind ≡ Some paint
     → IfSome (get old.shown.surfaces paint.id) (λ surface. IfSome (slice_get script.pictures paint.picture)
     (λ picture. SendsMessages result old new before now (paint_message (Some paint.layer) old.clear paint.glyph surface picture paint.id paint.at ∷ [])))
-    → SendsMade result old new plan before now (made_as script old plan kind step)
-made_sent result script old new plan kind step paint before now may is done =
+    → SendsMade result old new plan before now (made_as script old passes plan kind step)
+made_sent result script old new passes plan kind step paint before now may is done =
     let first = subst (λ o. IfSome o (λ surface. IfSome (slice_get script.pictures paint.picture)
     (λ picture. SendsMessages result old new before now (paint_message (Some paint.layer) old.clear paint.glyph surface picture paint.id paint.at ∷ [])))) may.there done in
     let second = subst (λ o. IfSome o (λ picture. SendsMessages result old new before now (paint_message (Some paint.layer) old.clear paint.glyph may.surface picture paint.id paint.at ∷ []))) may.drawn first in
-    subst (SendsMade result old new plan before now) (sym (clear_made script old plan kind step paint may is)) (both_done result old new plan before now _ second)
+    subst (SendsMade result old new plan before now) (sym (clear_made script old passes plan kind step paint may is)) (both_done result old new plan before now _ second)
 
 -- where it isn't made yet
 pub none_made : (e : NoMemory) (old new : State) (plan : Plan) (out : List ℕ) (o : Option Made) → CanBeSent o → SendsMade {X = Unit {0}} (Err e) old new plan out out o

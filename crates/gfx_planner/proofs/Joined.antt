@@ -1,7 +1,8 @@
 -- A frame on the wire that several steps share.
-use Rattle.std.proofs.Common.{◌≡◌, ◌+◌, ◌<◌, ◌^◌, ◌%◌, ℕ, false, List, [], ◌∷◌, ◌++◌, fold, map, Option, Some, None, Result, Ok, Err, refl, sym, ap, ◌∙◌, subst, arith}
-use Rattle.std.specs.List.{AllByRecursion}
-use Rattle.gfx_base.proofs.ResultLemmas.{and_then_at}
+use Rattle.std.proofs.Common.{◌≡◌, ◌+◌, ◌<◌, ◌^◌, ◌%◌, ℕ, Bool, true, false, if◌then◌else◌, List, [], ◌∷◌, ◌++◌, fold, map, Option, Some, None, Result, Ok, Err, refl, sym, ap, ◌∙◌, subst, arith}
+use Rattle.std.specs.FinMap.{get}
+use Rattle.std.specs.List.{AllByRecursion, slice_get}
+use Rattle.gfx_base.specs.declared.format.Format.{Format}
 use Rattle.gfx_base.specs.declared.geometry.Point.{Point}
 use Rattle.gfx_base.specs.declared.geometry.Rect.{Rect}
 use Rattle.gfx_base.specs.declared.refusal.Refusal.{Refusal}
@@ -15,23 +16,25 @@ use Rattle.gfx_script.specs.Scripted.{Script}
 use Rattle.gfx_script.specs.declared.picture.Picture.{Picture as Source}
 use Rattle.gfx_script.specs.declared.step.Kind.{Kind}
 use Rattle.gfx_script.specs.declared.step.Step.{Step}
-use Rattle.gfx_script.specs.declared.step.Step.TheVariants.{Surface, Delete, Reset, Map, Fill, Copy, Keep, Show, Forget, Paint, Frame}
+use Rattle.gfx_script.specs.declared.step.Step.TheVariants.{Surface, Delete, Reset, Map, Fill, Copy, Keep, Show, Forget, Paint, Improve, Frame}
+use Rattle.gfx_live.specs.Live.{Passes}
 use Rattle.gfx_slot_plan.specs.declared.kept.Kept.{Kept}
 use Rattle.gfx_slot_plan.specs.Plan.{Plan}
 use Rattle.gfx_state.specs.History.{ends_frame}
 use Rattle.gfx_state.specs.State.{State}
 use Rattle.gfx_state.specs.Sending.{all_steps, IsCarried}
-use Rattle.gfx_state.proofs.Sent.{all_steps-append}
 use Rattle.gfx_surface.specs.Picture.{Picture}
-use Rattle.gfx_planner.specs.Agree.{Agree, Holds, HoldsSurfaces, HoldsBitmaps, IsInFrame}
-use Rattle.gfx_planner.specs.Joined.{all_messages, after_all, frame_of, after_frame, JoinsFrame, JoinedFramesAreShown}
+use Rattle.gfx_planner.specs.Agree.{Agree, Holds, IsInFrame}
+use Rattle.gfx_planner.specs.Joined.{all_messages, after_all, frame_of, after_frame, JoinedFramesAreShown}
+use Rattle.gfx_planner.specs.Passes.{goes_in_passes}
 use Rattle.gfx_planner.specs.Want.{Wanted, wanted_after}
-use Rattle.gfx_planner.specs.Wire.{Server, Made, made, alone, painting, showing_slot, emptying, keeping, made_as, made_by, pdus_of, messages, frame_start, frame_end, after_put, after_open, after_close}
+use Rattle.gfx_planner.specs.Wire.{Server, Made, alone, painting, painting_in_passes, passes_message, improving, showing_slot, emptying, keeping, made_as, pdus_of, messages, frame_start, frame_end, after_put, after_open, after_close}
 use Rattle.gfx_planner.proofs.Lists.{all_both}
-use Rattle.gfx_planner.proofs.Effects.{all_steps-none, all_steps-one, after_messages-is}
+use Rattle.gfx_planner.proofs.Effects.{all_steps-none, all_steps-one}
 use Rattle.gfx_planner.proofs.Steps.{step_fine, messages-is, after_put-is}
 use Rattle.gfx_planner.proofs.Streams.{bare, opens_frame, closes_frame, held_through-cons, held_through-nil, both}
-use Rattle.gfx_planner.proofs.SurfaceSteps.{starts, ends, going}
+use Rattle.gfx_planner.proofs.SurfaceSteps.{starts, ends}
+use Rattle.gfx_planner.proofs.Whole.{gone}
 
 -- no message of a step ends a frame -----------------------------------------------------------------
 
@@ -66,23 +69,47 @@ unfolding keeping
 keeping_stays (Err r) id key rect = tt
 keeping_stays (Ok found) id key rect = all_both StaysInside (map EvictCacheEntry found.1.dropped) _ (evictions_stay found.1.dropped) (refl, tt)
 
-made_stays : (script : Script) (state : State) (plan : Plan) (kind : Option Kind) (step : Step) → AllByRecursion StaysInside (pdus_of (made_as script state plan kind step))
+-- nor a message of what is painted in passes
+passes_stay : (id : ℕ) (format : Format) (payloads : List (List ℕ)) → AllByRecursion StaysInside (map (passes_message id format) payloads)
+passes_stay id format [] = tt
+passes_stay id format (payload ∷ payloads) = (refl, passes_stay id format payloads)
+
+tiles_stay : (script : Script) (passes : Passes) (surface : Option Picture) (picture : Option Source) (id : ℕ) (at : Point) (plan : Plan)
+    → AllByRecursion StaysInside (pdus_of (painting_in_passes script passes surface picture id at plan))
+unfolding painting_in_passes
+tiles_stay script passes (Some surface) (Some picture) id at plan = passes_stay id surface.format _
+tiles_stay script passes None picture id at plan = tt
+tiles_stay script passes (Some surface) None id at plan = tt
+
+improving_stays : (script : Script) (passes : Passes) (surface : Option Picture) (id : ℕ) (plan : Plan) → AllByRecursion StaysInside (pdus_of (improving script passes surface id plan))
+unfolding improving
+improving_stays script passes None id plan = tt
+improving_stays script passes (Some surface) id plan = passes_stay id surface.format _
+
+either_stays : (b : Bool) (one other : Option Made) → AllByRecursion StaysInside (pdus_of one) → AllByRecursion StaysInside (pdus_of other) → AllByRecursion StaysInside (pdus_of (if b then one else other))
+either_stays true one other stays stays' = stays
+either_stays false one other stays stays' = stays'
+
+made_stays : (script : Script) (state : State) (passes : Passes) (plan : Plan) (kind : Option Kind) (step : Step) → AllByRecursion StaysInside (pdus_of (made_as script state passes plan kind step))
 unfolding made_as
-made_stays script state plan kind (Surface id width height format) = (refl, tt)
-made_stays script state plan kind (Delete id) = (refl, tt)
-made_stays script state plan kind (Reset width height) = (refl, tt)
-made_stays script state plan kind (Map id x y) = (refl, tt)
-made_stays script state plan kind (Fill id colour rects) = (refl, tt)
-made_stays script state plan kind (Copy from to rect points) = (refl, tt)
-made_stays script state plan kind (Keep id key rect) = keeping_stays _ id key rect
-made_stays script state plan kind (Show key to points) = showing_stays _ to points _
-made_stays script state plan kind (Forget key) = emptying_stays _ _
-made_stays script state plan kind (Paint id picture at named glyph) = painting_stays state.clear _ _ kind glyph id at plan
-made_stays script state plan kind Frame = tt
+made_stays script state passes plan kind (Surface id width height format) = (refl, tt)
+made_stays script state passes plan kind (Delete id) = (refl, tt)
+made_stays script state passes plan kind (Reset width height) = (refl, tt)
+made_stays script state passes plan kind (Map id x y) = (refl, tt)
+made_stays script state passes plan kind (Fill id colour rects) = (refl, tt)
+made_stays script state passes plan kind (Copy from to rect points) = (refl, tt)
+made_stays script state passes plan kind (Keep id key rect) = keeping_stays _ id key rect
+made_stays script state passes plan kind (Show key to points) = showing_stays _ to points _
+made_stays script state passes plan kind (Forget key) = emptying_stays _ _
+made_stays script state passes plan kind (Paint id picture at named glyph) =
+    either_stays (goes_in_passes kind) _ _ (tiles_stay script passes (get state.shown.surfaces id) (slice_get script.pictures picture) id at plan)
+    (painting_stays state.clear (get state.shown.surfaces id) (slice_get script.pictures picture) kind glyph id at plan)
+made_stays script state passes plan kind (Improve id) = improving_stays script passes (get state.shown.surfaces id) id plan
+made_stays script state passes plan kind Frame = tt
 
 pub messages_stay : (script : Script) (server : Server) (one : KindedStep) → AllByRecursion StaysInside (messages script server one)
 unfolding messages
-messages_stay script server one = made_stays script server.state server.plan one.kind one.step
+messages_stay script server one = made_stays script server.state server.passes server.plan one.kind one.step
 
 pub all_messages-nil : (script : Script) (server : Server) → all_messages script server [] ≡ []
 unfolding all_messages
@@ -134,7 +161,7 @@ pub puts_one : (script : Script) (server : Server) (one : KindedStep) (held afte
 puts_one script server one held after wanted inside numbers kind checked =
     let fine = step_fine script server one.kind held after one.step inside.holds numbers kind checked in
     let pdus : messages script server one ≡ fine.into.pdus = messages-is script server one fine.into fine.is in
-    let put_is : after_put script server one ≡ going server fine.next fine.into.plan = after_put-is script server one fine.into fine.next fine.is fine.accepted in
+    let put_is : after_put script server one ≡ gone script server one fine.next fine.into.plan = after_put-is script server one fine.into fine.next fine.is fine.accepted in
     record {
       accepted = ap (all_steps server.state) pdus ∙ fine.accepted ∙ ap (λ z. Ok z.state) (sym put_is);
       carried = subst (AllByRecursion IsCarried) (sym pdus) fine.carried;
@@ -185,11 +212,11 @@ after_frame-is script server steps = refl
 -- what a frame word changes of the server's end leaves it in step
 reframed_holds : (script : Script) (held : Held) (server : Server) (frame : Option ℕ) (decoded frames : ℕ) → Holds script held server
     → Holds script held (record server { state = record server.state { frame = frame; decoded = decoded }; frames = frames })
-reframed_holds script held server frame decoded frames holds = record { drawn = holds.drawn; same = holds.same; surfaces = holds.surfaces; bitmaps = holds.bitmaps; rings = holds.rings }
+reframed_holds script held server frame decoded frames holds = record { drawn = holds.drawn; same = holds.same; surfaces = holds.surfaces; bitmaps = holds.bitmaps; setting = holds.setting; tiles = holds.tiles; number = holds.number; rings = holds.rings }
 
 reframed_agrees : (server : Server) (wanted : Wanted) (frame : Option ℕ) (decoded frames : ℕ) → Agree server wanted
     → Agree (record server { state = record server.state { frame = frame; decoded = decoded }; frames = frames }) wanted
-reframed_agrees server wanted frame decoded frames agrees = record { shown = agrees.shown; slots = agrees.slots; plan = agrees.plan }
+reframed_agrees server wanted frame decoded frames agrees = record { shown = agrees.shown; slots = agrees.slots; plan = agrees.plan; passes = agrees.passes }
 
 pub joined_frames_are_shown : JoinedFramesAreShown
 joined_frames_are_shown script server steps held after wanted few none holds agrees numbers kinds checked =

@@ -1,5 +1,5 @@
 -- The messages of paints are accepted by the server's own state, and show what is wanted.
-use Rattle.std.proofs.Common.{ℕ, ◌≡◌, zero, suc, ◌+◌, ◌*◌, ◌≤◌, ◌<◌, ◌^◌, ◌&&◌, nat_le, Bool, true, false, List, [], ◌∷◌, length, map, Option, Some, None, option_map, Ok, refl, sym, ap, ◌∙◌, subst, arith}
+use Rattle.std.proofs.Common.{ℕ, ◌≡◌, zero, suc, ◌+◌, ◌*◌, ◌≤◌, ◌<◌, ◌^◌, ◌&&◌, nat_le, Bool, true, false, List, [], ◌∷◌, length, Option, Some, None, option_map, Ok, refl, sym, ap, ◌∙◌, subst, arith, if◌then◌else◌}
 use Rattle.std.specs.List.{AllByRecursion, slice_get}
 use Rattle.std.specs.Prelude.{IfSome}
 use Rattle.std.proofs.lemmas.Option.{slice_get-map}
@@ -8,7 +8,7 @@ use Rattle.std.specs.FinMap.{get}
 use Rattle.std.proofs.lemmas.Bool.Decides.{nat_tests}
 use Rattle.gfx_base.specs.Format.{byte_of}
 use Rattle.gfx_base.specs.Geometry.{IsPoint, IsRect, lies_in, moved, sized}
-use Rattle.gfx_base.specs.Results.{and_then, check}
+use Rattle.gfx_base.specs.Results.{check}
 use Rattle.gfx_base.proofs.ResultLemmas.{and_then_ok, check_ok}
 use Rattle.gfx_base.specs.declared.geometry.Point.{Point}
 use Rattle.gfx_base.specs.declared.geometry.Rect.{Rect}
@@ -18,6 +18,7 @@ use Rattle.gfx_clear.specs.declared.layer.Layer.{Layer}
 use Rattle.gfx_clear.specs.State.{State as ClearState}
 use Rattle.gfx_clear.specs.Sending.{MaySend as MaySendStream, MayStore}
 use Rattle.gfx_clear.proofs.Keeping.{rings_sent, sent_few}
+use Rattle.gfx_surface.specs.declared.TheConstants.{MOST_SIDE}
 use Rattle.gfx_surface.specs.Picture.{Picture, overlaid}
 use Rattle.gfx_surface.proofs.PictureLemmas.{overlaid-width, overlaid-height}
 use Rattle.gfx_surface_map.specs.Shown.{with_picture}
@@ -28,7 +29,7 @@ use Rattle.gfx_script.specs.declared.picture.Picture.{Picture as Source}
 use Rattle.gfx_script.specs.declared.step.Kind.{Kind}
 use Rattle.gfx_script.specs.Pictures.{IsDrawn}
 use Rattle.gfx_script.specs.Checks.{Held, is_glyph, picture_painted, sides_of_all, held_after}
-use Rattle.gfx_script.specs.Kinds.{as_kind, is_clear, GoesAs}
+use Rattle.gfx_script.specs.Kinds.{as_kind, is_clear, is_progressive, GoesAs}
 use Rattle.gfx_script.specs.Script.{IsStep}
 use Rattle.gfx_script.specs.Scripted.{Script}
 use Rattle.gfx_script.specs.Writes.{place_of}
@@ -38,15 +39,17 @@ use Rattle.gfx_state.specs.State.{State}
 use Rattle.gfx_state.specs.Step as message
 use Rattle.gfx_state.specs.Codecs.{id_of}
 use Rattle.gfx_state.specs.Sending.{IsCarried}
-use Rattle.gfx_planner.specs.Agree.{Agree, sides_of, HoldsSurfaces, Holds}
+use Rattle.gfx_planner.specs.Agree.{sides_of, HoldsSurfaces}
 use Rattle.gfx_planner.specs.Layers.{layer_of, codec_by}
-use Rattle.gfx_planner.specs.Want.{Wanted, drawing, pixels_in, colours_in, shown_by, with_painting, wanted_as, wanted_after}
-use Rattle.gfx_planner.specs.Wire.{Server, alone, data_by, paint_message, painting, made_as}
+use Rattle.gfx_planner.specs.Passes.{goes_in_passes}
+use Rattle.gfx_planner.specs.Want.{Wanted, drawing, pixels_in, colours_in, shown_by, with_painting, with_tiles, wanted_as}
+use Rattle.gfx_planner.specs.Wire.{Server, alone, data_by, paint_message, painting, painting_in_passes, made_as}
 use Rattle.gfx_planner.proofs.Carried.{carried-wire}
 use Rattle.gfx_planner.proofs.Effects.{all_steps-one}
-use Rattle.gfx_planner.proofs.Held.{holds-drawn}
+use Rattle.gfx_planner.proofs.Held.{holds-drawn, sides-stay}
 use Rattle.gfx_planner.proofs.Paints.{length-raw_bytes, length-pixels_in, length-colours_in, clear_by, painted_raw, painted_clear}
 use Rattle.gfx_planner.proofs.SurfaceSteps.{Fine, going, shows, found_there, ok_or_some, drawing_agrees}
+use Rattle.gfx_planner.proofs.Seen.{AgreeSeen as Agree, HoldsSeen as Holds}
 
 -- a picture whose sides are held
 source_there : (pictures : List Source) (at : ℕ) (sides : Sides) → slice_get (sides_of_all pictures) at ≡ Some sides
@@ -78,7 +81,9 @@ pub record MayPaint (script : Script) (server : Server) (id number : ℕ) (at : 
   pub stored : MayStore (picture.width * picture.height) glyph
 
 narrow_there : (held : Held) (surfaces : Surfaces) (id : ℕ) (sides : Sides) → HoldsSurfaces held.sides held.cells surfaces → get held.sides id ≡ Some sides → (sides.width < 2 ^ 16) × (sides.height < 2 ^ 16)
-narrow_there held surfaces id sides holds there = subst (λ o. IfSome o (λ s. (s.width < 2 ^ 16) × (s.height < 2 ^ 16))) there (holds.narrow id)
+narrow_there held surfaces id sides holds there =
+    let narrow = subst (λ o. IfSome o (λ s. (s.width ≤ MOST_SIDE) × (s.height ≤ MOST_SIDE))) there (holds.narrow id) in
+    (omega (arith, narrow.0), omega (arith, narrow.1))
 
 rect_fits : (width height : ℕ) (picture : Source) (at : Point) → width < 2 ^ 16 → height < 2 ^ 16 → IsPoint at → lies_in width height (place_of picture at) ≡ true → IsRect (place_of picture at)
 rect_fits width height picture at wide high point inside =
@@ -186,10 +191,10 @@ rings_by (Some layer) clear glyph picture are = rings_sent clear layer glyph pic
 
 -- paints -----------------------------------------------------------------------------------------------
 
-kind_fine : (script : Script) (server : Server) (kind : Kind) (held after : Held) (id number : ℕ) (at : Point) (named : Option Kind) (glyph : Option ℕ) → Holds script held server → IsStep (Paint id number at named glyph)
+kind_fine : (script : Script) (server : Server) (kind : Kind) (held after : Held) (id number : ℕ) (at : Point) (named : Option Kind) (glyph : Option ℕ) → is_progressive kind ≡ false → Holds script held server → IsStep (Paint id number at named glyph)
     → held_after held (Paint id number at named glyph) ≡ Ok after → Fine script server (as_kind (Some kind) (Paint id number at named glyph)) after
 unfolding made_as wanted_as held_after
-kind_fine script server kind held after id number at named glyph holds numbers checked =
+kind_fine script server kind held after id number at named glyph whole holds numbers checked =
     let may = may_paint script server held after id number at named glyph holds numbers.1 numbers.2 checked in
     let m = may.0 in
     let layer = layer_of kind in
@@ -198,7 +203,9 @@ kind_fine script server kind held after id number at named glyph holds numbers c
     let next = painted layer server.state id m.surface m.picture at glyph in
     record {
       into = record { pdus = paint_message layer server.state.clear glyph m.surface m.picture id at ∷ []; plan = server.plan };
-      is = ap (λ o. alone o server.plan) (painting_there server.state.clear (get server.state.shown.surfaces id) (slice_get script.pictures number) kind glyph m.surface m.picture id at m.there m.drawn);
+      is = ap (λ b. if b then painting_in_passes script server.passes (get server.state.shown.surfaces id) (slice_get script.pictures number) id at server.plan
+          else alone (painting server.state.clear (get server.state.shown.surfaces id) (slice_get script.pictures number) (Some kind) glyph id at) server.plan) whole
+          ∙ ap (λ o. alone o server.plan) (painting_there server.state.clear (get server.state.shown.surfaces id) (slice_get script.pictures number) kind glyph m.surface m.picture id at m.there m.drawn);
       next = next;
       accepted = all_steps-one server.state _ _ (accepts layer script server id number at glyph m holds.rings);
       carried = (paint_carried layer script server id number at glyph m numbers.0, tt);
@@ -213,10 +220,12 @@ kind_fine script server kind held after id number at named glyph holds numbers c
       agrees = λ wanted agree.
           let drawn = subst (Agree (shows server shown)) (sym (with_painting_there wanted (slice_get script.pictures number) m.picture kind id at m.drawn))
           (drawing_agrees server wanted id m.surface (λ z. overlaid z rect (shown_by layer m.picture)) m.there agree) in
+          subst (Agree (going server next server.plan)) (ap (λ b. if b then with_tiles script wanted (slice_get script.pictures number) id at else with_painting wanted (slice_get script.pictures number) (Some kind) id at) (sym whole))
           record { shown = drawn.shown; slots = drawn.slots; plan = drawn.plan };
+      keeps = (sides-stay server.state.shown.surfaces id m.surface _ m.there (sides_overlaid m.surface rect (shown_by layer m.picture)), refl);
     }
 
-pub paint_fine : (script : Script) (server : Server) (kind : Option Kind) (held after : Held) (id number : ℕ) (at : Point) (named : Option Kind) (glyph : Option ℕ) → Holds script held server → IsStep (Paint id number at named glyph)
+pub paint_fine : (script : Script) (server : Server) (kind : Option Kind) (held after : Held) (id number : ℕ) (at : Point) (named : Option Kind) (glyph : Option ℕ) → goes_in_passes kind ≡ false → Holds script held server → IsStep (Paint id number at named glyph)
     → GoesAs kind (Paint id number at named glyph) → held_after held (Paint id number at named glyph) ≡ Ok after → Fine script server (as_kind kind (Paint id number at named glyph)) after
-paint_fine script server None held after id number at named glyph holds numbers goes checked = absurd (let none : false ≡ true = goes.0 in cc)
-paint_fine script server (Some kind) held after id number at named glyph holds numbers goes checked = kind_fine script server kind held after id number at named glyph holds numbers checked
+paint_fine script server None held after id number at named glyph whole holds numbers goes checked = absurd (let none : false ≡ true = goes.0 in cc)
+paint_fine script server (Some kind) held after id number at named glyph whole holds numbers goes checked = kind_fine script server kind held after id number at named glyph whole holds numbers checked

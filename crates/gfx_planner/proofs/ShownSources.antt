@@ -1,8 +1,8 @@
 -- A paint by ClearCodec shows its source.
-use Rattle.std.proofs.Common.{ℕ, ◌≡◌, ◌+◌, ◌-◌, ◌*◌, ◌<◌, ◌≤◌, Bool, true, false, cond, List, map, length, get_or, Option, Some, None, refl, sym, ap, ◌∙◌, subst, arith, mul-le-mul_left}
+use Rattle.std.proofs.Common.{ℕ, ◌≡◌, ◌+◌, ◌-◌, ◌*◌, ◌<◌, ◌≤◌, true, cond, map, length, get_or, Option, Some, refl, sym, ap, ◌∙◌, subst, arith, mul-le-mul_left}
 use Rattle.std.specs.Prelude.{if◌then◌else◌}
 use Rattle.std.specs.Cmp.{nat_cmp_total}
-use Rattle.std.specs.FinMap.{get, insert, get-insert}
+use Rattle.std.specs.FinMap.{get, get-insert}
 use Rattle.std.specs.List.{slice_get, slice_index_or}
 use Rattle.std.specs.Ordering.{nat_cmp, eq_by_cmp}
 use Rattle.std.proofs.lemmas.Bool.Decides.{nat_tests}
@@ -11,19 +11,14 @@ use Rattle.gfx_base.specs.Geometry.{holds, lies_in, width_of}
 use Rattle.gfx_base.specs.declared.format.Format.{Format}
 use Rattle.gfx_base.specs.declared.format.Format.TheVariants.{Xrgb, Argb}
 use Rattle.gfx_base.specs.declared.geometry.Point.{Point}
-use Rattle.gfx_base.specs.declared.geometry.Rect.{Rect}
-use Rattle.gfx_base.specs.declared.pixel.Pixel.{Pixel}
 use Rattle.gfx_base.specs.declared.pixel.Rgb.{Rgb}
 use Rattle.gfx_clear.specs.declared.layer.Layer.{Layer}
 use Rattle.gfx_clear.specs.Painting.{colour_of, opaque}
 use Rattle.gfx_surface.specs.Picture.{Picture, shade, pixel_at, overlaid, in_rect, no_pixel}
-use Rattle.gfx_surface.proofs.PictureLemmas.{overlaid-width, pixel_at-drawn}
-use Rattle.gfx_surface_map.specs.Shown.{with_picture}
-use Rattle.gfx_surface_map.specs.Surfaces.{Surfaces}
+use Rattle.gfx_surface.proofs.PictureLemmas.{pixel_at-drawn}
 use Rattle.gfx_script.specs.declared.picture.Picture.{Picture as Source}
 use Rattle.gfx_script.specs.declared.step.Kind.{Kind}
-use Rattle.gfx_script.specs.declared.step.Kind.TheVariants.{Raw, Residual, Bands, Palette, Plain}
-use Rattle.gfx_script.specs.Kinds.{is_clear}
+use Rattle.gfx_script.specs.declared.step.Kind.TheVariants.{Raw, Residual, Bands, Palette, Plain, Progressive}
 use Rattle.gfx_script.specs.Patterns.{pixel_of}
 use Rattle.gfx_script.specs.Writes.{place_of}
 use Rattle.gfx_planner.specs.Layers.{layer_of}
@@ -103,6 +98,7 @@ painted_there wanted kind layer id at o source surface by_layer drawn there insi
 pub shows_sources : ClearPaintsShowTheirSource
 unfolding wanted_as
 shows_sources script wanted Raw named id number at glyph source surface clear drawn there inside = absurd cc
+shows_sources script wanted Progressive named id number at glyph source surface clear drawn there inside = absurd cc
 shows_sources script wanted Residual named id number at glyph source surface clear drawn there inside = painted_there wanted Residual _ id at (slice_get script.pictures number) source surface refl drawn there inside
 shows_sources script wanted Bands named id number at glyph source surface clear drawn there inside = painted_there wanted Bands _ id at (slice_get script.pictures number) source surface refl drawn there inside
 shows_sources script wanted Palette named id number at glyph source surface clear drawn there inside = painted_there wanted Palette _ id at (slice_get script.pictures number) source surface refl drawn there inside

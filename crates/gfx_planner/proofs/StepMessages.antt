@@ -1,6 +1,8 @@
 -- The messages of steps that can be sent: what has to be there is there.
-use Rattle.std.proofs.Common.{◌≡◌, ℕ, ◌+◌, ◌-◌, ◌<◌, ◌^◌, List, [], ◌∷◌, Option, Some, None, Result, Ok, Err, option_map, refl, sym, ap, ◌∙◌, subst, arith}
+use Rattle.std.proofs.Common.{◌≡◌, ℕ, ◌+◌, ◌-◌, ◌<◌, ◌^◌, false, List, [], ◌∷◌, Option, Some, None, Result, Ok, Err, option_map, refl, sym, ap, ◌∙◌, subst, arith}
 use Rattle.std.specs.Prelude.{IfOk, IfSome, IsSome, IsOk}
+use Rattle.std.specs.FinMap.{get}
+use Rattle.std.specs.List.{slice_get}
 use Rattle.gfx_base.specs.Format.{byte_of}
 use Rattle.gfx_base.specs.declared.geometry.Point.{Point}
 use Rattle.gfx_base.specs.declared.geometry.Rect.{Rect}
@@ -10,16 +12,21 @@ use Rattle.gfx_pdu.specs.declared.pdu.Pdu.{Pdu}
 use Rattle.gfx_pdu.specs.declared.pdu.Pdu.TheVariants.{WireToSurface1}
 use Rattle.gfx_script.specs.declared.picture.Picture.{Picture as Source}
 use Rattle.gfx_script.specs.declared.step.Kind.{Kind}
-use Rattle.gfx_script.specs.declared.step.Kind.TheVariants.{Raw, Residual, Bands, Palette, Plain}
+use Rattle.gfx_script.specs.declared.step.Kind.TheVariants.{Raw, Residual, Bands, Palette, Plain, Progressive}
 use Rattle.gfx_script.specs.declared.step.Step.TheVariants.{Paint}
+use Rattle.gfx_live.specs.Live.{Passes}
+use Rattle.gfx_script.specs.Scripted.{Script}
+use Rattle.gfx_script.specs.declared.step.Step.{Step}
+use Rattle.gfx_state.specs.State.{State}
 use Rattle.gfx_slot_plan.specs.declared.kept.Kept.{Kept}
 use Rattle.gfx_slot_plan.specs.Plan.{Plan}
 use Rattle.gfx_state.specs.Sending.{IsCarried}
 use Rattle.gfx_state.specs.Codecs.{UNCOMPRESSED}
 use Rattle.gfx_surface.specs.Picture.{Picture}
 use Rattle.gfx_planner.specs.ClearPaints.{clear_paint_of}
+use Rattle.gfx_planner.specs.Passes.{goes_in_passes, is_in_passes}
 use Rattle.gfx_planner.specs.Want.{pixels_in}
-use Rattle.gfx_planner.specs.Wire.{CanBeSent, alone, made, painting, keeping, showing_slot, emptying, raw_bytes}
+use Rattle.gfx_planner.specs.Wire.{CanBeSent, alone, made, made_as, painting, keeping, showing_slot, emptying, raw_bytes}
 use Rattle.gfx_planner.proofs.Payloads.{sides}
 use Rattle.gfx_planner.proofs.PaintSteps.{painting_there}
 
@@ -71,15 +78,16 @@ pub is_painted : (o : Option Pdu) (next : Plan) → CanBeSent (alone o next) →
 is_painted None next possible = absurd possible
 is_painted (Some pdu) next possible = (refl, possible.0)
 
--- what is painted and isn't a paint by ClearCodec goes as raw
+-- what is painted and goes neither by ClearCodec nor in passes goes as raw
 pub goes_raw : (clear : ClearState) (surface : Option Picture) (source : Option Source) (kind named : Option Kind) (glyph : Option ℕ) (id number : ℕ) (at : Point) → IsSome (painting clear surface source kind glyph id at)
-    → clear_paint_of (Paint id number at named glyph) kind ≡ None → kind ≡ Some Raw
-goes_raw clear surface source None named glyph id number at some none = absurd (none_there _ (painting_no_kind clear surface source glyph id at) some)
-goes_raw clear surface source (Some Raw) named glyph id number at some none = refl
-goes_raw clear surface source (Some Residual) named glyph id number at some none = absurd cc
-goes_raw clear surface source (Some Bands) named glyph id number at some none = absurd cc
-goes_raw clear surface source (Some Palette) named glyph id number at some none = absurd cc
-goes_raw clear surface source (Some Plain) named glyph id number at some none = absurd cc
+    → clear_paint_of (Paint id number at named glyph) kind ≡ None → goes_in_passes kind ≡ false → kind ≡ Some Raw
+goes_raw clear surface source None named glyph id number at some none apart = absurd (none_there _ (painting_no_kind clear surface source glyph id at) some)
+goes_raw clear surface source (Some Raw) named glyph id number at some none apart = refl
+goes_raw clear surface source (Some Residual) named glyph id number at some none apart = absurd cc
+goes_raw clear surface source (Some Bands) named glyph id number at some none apart = absurd cc
+goes_raw clear surface source (Some Palette) named glyph id number at some none apart = absurd cc
+goes_raw clear surface source (Some Plain) named glyph id number at some none apart = absurd cc
+goes_raw clear surface source (Some Progressive) named glyph id number at some none apart = absurd cc
 
 -- no glyph stands in the message of what goes as raw
 pub raw_alike : (clear : ClearState) (surface : Option Picture) (source : Option Source) (glyph : Option ℕ) (id : ℕ) (at : Point)
@@ -89,7 +97,7 @@ raw_alike clear None source glyph id at = refl
 raw_alike clear (Some surface) None glyph id at = refl
 raw_alike clear (Some surface) (Some source) glyph id at = refl
 
--- what goes by no layer of ClearCodec, and can be sent, goes as raw, and its message is that of no glyph
+-- what goes by no layer of ClearCodec, nor in passes, and can be sent, goes as raw, and its message is that of no glyph
 pub record GoesRaw (clear : ClearState) (surface : Option Picture) (source : Option Source) (kind : Option Kind) (glyph : Option ℕ) (id : ℕ) (at : Point) : Type 0 where
   pub raw : kind ≡ Some Raw
   pub same : painting clear surface source kind glyph id at ≡ painting clear surface source (Some Raw) None id at
@@ -97,18 +105,38 @@ pub record GoesRaw (clear : ClearState) (surface : Option Picture) (source : Opt
   pub fits : IfSome (painting clear surface source (Some Raw) None id at) IsCarried
 
 pub raw_painted : (clear : ClearState) (surface : Option Picture) (source : Option Source) (kind named : Option Kind) (glyph : Option ℕ) (id number : ℕ) (at : Point) (plan : Plan)
-    → CanBeSent (alone (painting clear surface source kind glyph id at) plan) → clear_paint_of (Paint id number at named glyph) kind ≡ None → GoesRaw clear surface source kind glyph id at
-raw_painted clear surface source kind named glyph id number at plan possible none =
+    → CanBeSent (alone (painting clear surface source kind glyph id at) plan) → clear_paint_of (Paint id number at named glyph) kind ≡ None → goes_in_passes kind ≡ false
+    → GoesRaw clear surface source kind glyph id at
+raw_painted clear surface source kind named glyph id number at plan possible none apart =
     let is = is_painted (painting clear surface source kind glyph id at) plan possible in
-    let raw = goes_raw clear surface source kind named glyph id number at is.0 none in
+    let raw = goes_raw clear surface source kind named glyph id number at is.0 none apart in
     let same = ap (λ k. painting clear surface source k glyph id at) raw ∙ raw_alike clear surface source glyph id at in
     record { raw = raw; same = same; there = subst IsSome same is.0; fits = subst (λ o. IfSome o IsCarried) same is.1 }
 
--- it is made
-pub alone_made : {V E : Type 0} (result : Result V E) (items : V → List Pdu) (o : Option Pdu) (pdu : Pdu) (plan : Plan) → o ≡ Some pdu → IfOk result (λ v. items v ≡ pdu ∷ [])
-    → IfOk result (λ v. alone o plan ≡ made (items v) plan)
-alone_made (Ok v) items o pdu plan is e = ap (λ z. alone z plan) is ∙ ap (λ z. made z plan) (sym e)
-alone_made (Err e) items o pdu plan is _ = tt
+-- a paint that doesn't go in passes is made into one message
+pub painted_apart : (script : Script) (state : State) (passes : Passes) (plan : Plan) (kind named : Option Kind) (glyph : Option ℕ) (id number : ℕ) (at : Point) → goes_in_passes kind ≡ false
+    → made_as script state passes plan kind (Paint id number at named glyph) ≡ alone (painting state.clear (get state.shown.surfaces id) (slice_get script.pictures number) kind glyph id at) plan
+unfolding made_as
+painted_apart script state passes plan kind named glyph id number at apart = rw apart refl
+
+-- so is a step that is one
+pub raw_made : (script : Script) (state : State) (passes : Passes) (plan : Plan) (kind named : Option Kind) (glyph : Option ℕ) (id number : ℕ) (at : Point) (step : Step) → step ≡ Paint id number at named glyph
+    → CanBeSent (made_as script state passes plan kind step) → clear_paint_of step kind ≡ None → is_in_passes kind step ≡ false
+    → GoesRaw state.clear (get state.shown.surfaces id) (slice_get script.pictures number) kind glyph id at
+raw_made script state passes plan kind named glyph id number at step is possible none apart =
+    let whole : goes_in_passes kind ≡ false = rw is at apart in
+    raw_painted state.clear (get state.shown.surfaces id) (slice_get script.pictures number) kind named glyph id number at plan
+    (subst CanBeSent (ap (made_as script state passes plan kind) is ∙ painted_apart script state passes plan kind named glyph id number at whole) possible) (rw is at none) whole
+
+pub raw_made_is : {V E : Type 0} (result : Result V E) (items : V → List Pdu) (script : Script) (state : State) (passes : Passes) (plan : Plan) (kind named : Option Kind) (glyph : Option ℕ) (id number : ℕ) (at : Point) (step : Step) (pdu : Pdu)
+    → step ≡ Paint id number at named glyph → CanBeSent (made_as script state passes plan kind step) → clear_paint_of step kind ≡ None → is_in_passes kind step ≡ false
+    → painting state.clear (get state.shown.surfaces id) (slice_get script.pictures number) (Some Raw) None id at ≡ Some pdu → IfOk result (λ v. items v ≡ pdu ∷ [])
+    → IfOk result (λ v. made_as script state passes plan kind step ≡ made (items v) plan)
+raw_made_is (Err e) items script state passes plan kind named glyph id number at step pdu is possible none apart paints alone_so = tt
+raw_made_is (Ok v) items script state passes plan kind named glyph id number at step pdu is possible none apart paints alone_so =
+    let goes = raw_made script state passes plan kind named glyph id number at step is possible none apart in
+    ap (made_as script state passes plan kind) is ∙ painted_apart script state passes plan kind named glyph id number at (rw is at apart)
+    ∙ ap (λ o. alone o plan) (goes.same ∙ paints) ∙ ap (λ z. made z plan) (sym alone_so)
 
 -- the message, from its parts
 pub painting_is : (clear : ClearState) (surface : Option Picture) (source : Option Source) (a : Picture) (width height codec byte id : ℕ) (at : Point) (payload : List ℕ)

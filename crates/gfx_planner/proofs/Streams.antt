@@ -19,6 +19,8 @@ use Rattle.gfx_state.proofs.Sent.{all_steps-append, sent-append}
 use Rattle.gfx_state.proofs.Wider.{sent_wider, started_fresh, Wider_same}
 use Rattle.gfx_planner.specs.Agree.{Agree, HoldsSurfaces, HoldsBitmaps, Holds, IsInFrame, KeepsFrame, IsAllowed}
 use Rattle.gfx_planner.specs.Stream.{opening, opened, closing, closed, sends, served, stream, serves, end_after}
+use Rattle.gfx_planner.specs.Tiles.{HoldsTiles}
+use Rattle.gfx_planner.proofs.TilesFollow.{tiles-at-start}
 use Rattle.gfx_planner.specs.Want.{Wanted, nothing_wanted, wanted_after, want}
 use Rattle.gfx_planner.specs.Shows.{ScriptsAreShown}
 use Rattle.gfx_planner.specs.Wire.{Server, at_start, messages, frame_start, frame_end, after_put, after_open, after_close}
@@ -26,7 +28,8 @@ use Rattle.gfx_planner.proofs.Lists.{all_both, all_front, all_behind}
 use Rattle.gfx_planner.proofs.Effects.{all_steps-none, all_steps-one, after_messages-is}
 use Rattle.gfx_planner.proofs.Held.{holds-nothing}
 use Rattle.gfx_planner.proofs.Slots.{fits_cache-start}
-use Rattle.gfx_planner.proofs.SurfaceSteps.{starts, ends, going}
+use Rattle.gfx_planner.proofs.SurfaceSteps.{starts, ends}
+use Rattle.gfx_planner.proofs.Whole.{gone}
 use Rattle.gfx_planner.proofs.Steps.{step_fine, allowed_fine, messages-is, after_put-is}
 
 -- messages, accepted one list after another
@@ -43,6 +46,8 @@ pub record Passed (server after : Server) (pdus : List Pdu) : Type 0 where
   pub cache : after.state.cache ≡ server.state.cache
   pub clear : after.state.clear ≡ server.state.clear
   pub plan : after.plan ≡ server.plan
+  pub passes : after.passes ≡ server.passes
+  pub records : after.state.records ≡ server.state.records
 
 pub opens_frame : (server : Server) → server.frames + 1 < 2 ^ 32 → server.state.frame ≡ None
     → after_open server ≡ record server { state = record server.state { frame = Some (server.frames + 1) }; frames = server.frames + 1 }
@@ -67,6 +72,8 @@ opened_fine server few (inl none) =
         cache = ap (λ z. z.state.cache) is;
         clear = ap (λ z. z.state.clear) is;
         plan = ap (λ z. z.plan) is;
+        passes = ap (λ z. z.passes) is;
+        records = ap (λ z. z.state.records) is;
       },
       ap (λ z. z.state.frame) is ∙ ap (λ z. Some z.frames) (sym is),
       omega (arith, ap (λ z. z.frames) is),
@@ -81,6 +88,8 @@ opened_fine server few (inr within) =
         cache = ap (λ z. z.state.cache) now;
         clear = ap (λ z. z.state.clear) now;
         plan = ap (λ z. z.plan) now;
+        passes = ap (λ z. z.passes) now;
+        records = ap (λ z. z.state.records) now;
       },
       ap (λ z. z.state.frame) now ∙ within ∙ ap (λ z. Some z.frames) (sym now),
       omega (arith, ap (λ z. z.frames) now),
@@ -105,12 +114,14 @@ closed_fine server Frame few within =
         cache = ap (λ z. z.state.cache) is;
         clear = ap (λ z. z.state.clear) is;
         plan = ap (λ z. z.plan) is;
+        passes = ap (λ z. z.passes) is;
+        records = ap (λ z. z.state.records) is;
       },
       inl (ap (λ z. z.state.frame) is),
       ap (λ z. z.frames) is,
     )
 closed_fine server step few within =
-    (record { accepted = all_steps-none server.state; carried = tt; shown = refl; cache = refl; clear = refl; plan = refl }, inr within, refl)
+    (record { accepted = all_steps-none server.state; carried = tt; shown = refl; cache = refl; clear = refl; plan = refl; passes = refl; records = refl }, inr within, refl)
 
 -- a step of a script --------------------------------------------------------------------------------
 
@@ -134,6 +145,11 @@ holds_passed script held server after pdus passed holds = record {
   same = holds.same;
   surfaces = subst (λ z. HoldsSurfaces held.sides held.cells z.surfaces) (sym passed.shown) holds.surfaces;
   bitmaps = subst (λ p. HoldsBitmaps held.stock p after.state.cache) (sym passed.plan) (subst (HoldsBitmaps held.stock server.plan) (sym passed.cache) holds.bitmaps);
+  setting = holds.setting;
+  tiles = subst (λ l. HoldsTiles script.setting l after.state.records after.state.shown.surfaces) (sym (ap (λ p. p.live) passed.passes))
+      (subst (λ r. HoldsTiles script.setting server.passes.live r after.state.shown.surfaces) (sym passed.records)
+      (subst (λ z. HoldsTiles script.setting server.passes.live server.state.records z.surfaces) (sym passed.shown) holds.tiles));
+  number = subst (λ p. p.next < 2 ^ 32) (sym passed.passes) holds.number;
   rings = subst (λ z. AreRings z.rings) (sym passed.clear) holds.rings;
 }
 
@@ -142,6 +158,7 @@ agree_passed server after wanted pdus passed agree = record {
   shown = passed.shown ∙ agree.shown;
   slots = ap (λ z. z.slots) passed.cache ∙ agree.slots;
   plan = passed.plan ∙ agree.plan;
+  passes = passed.passes ∙ agree.passes;
 }
 
 pub goes : (script : Script) (server : Server) (held after : Held) (wanted : Wanted) (one : KindedStep) → server.frames + 1 < 2 ^ 32 → Stands script server held wanted → IsStep one.step → HasKind one
@@ -154,7 +171,7 @@ goes script server held after wanted one few stands numbers kind checked =
     let fine = step_fine script ready one.kind held after one.step there numbers kind checked in
     let put : Server = after_put script ready one in
     let pdus : messages script ready one ≡ fine.into.pdus = messages-is script ready one fine.into fine.is in
-    let put_is : put ≡ going ready fine.next fine.into.plan = after_put-is script ready one fine.into fine.next fine.is fine.accepted in
+    let put_is : put ≡ gone script ready one fine.next fine.into.plan = after_put-is script ready one fine.into fine.next fine.is fine.accepted in
     let within : IsInFrame put = ap (λ z. z.state.frame) put_is ∙ fine.frame ∙ o.1 ∙ ap (λ z. Some z.frames) (sym put_is) in
     let frames : put.frames ≡ ready.frames = ap (λ z. z.frames) put_is in
     let c = closed_fine put one.step (omega (arith, frames, o.2)) within in
@@ -257,15 +274,26 @@ stands_at_start script good = record {
     same = refl;
     surfaces = holds-nothing;
     bitmaps = record { same = refl; limits = refl; fits_cache = fits_cache-start script.small; sides_fit = tt };
+    setting = good.setting;
+    tiles = tiles-at-start script.setting;
+    number = omega arith;
     rings = rings_fresh;
   };
-  agrees = record { shown = refl; slots = refl; plan = refl };
+  agrees = record { shown = refl; slots = refl; plan = refl; passes = refl };
   frame = inl refl;
 }
+
+-- the checks of steps from the first one
+pub record AreChecked (script : Script) (steps : List KindedStep) (after : Held) : Type 0 where
+  pub few : (at_start script.small).frames + length steps < 2 ^ 32
+  pub numbers : AllByRecursion IsStep (bare steps)
+  pub kinds : AllByRecursion HasKind steps
+  pub through : held_through (first_held script) (bare steps) ≡ Ok after
 
 -- what holds after a front of an accepted script
 pub record Along (script : Script) (front rest : List KindedStep) : Type 0 where
   pub held : Held
+  pub front_checked : AreChecked script front held
   pub streams : Streams script (at_start script.small) front held (want script front)
   pub numbers : AllByRecursion IsStep (bare rest)
   pub kinds : AllByRecursion HasKind rest
@@ -280,10 +308,16 @@ along script front rest good fits =
     let checked = ap (held_through first) (sym cut) ∙ good.checked in
     let c = held_through-append first good.held (bare front) (bare rest) checked in
     let many : length front ≤ length script.steps = front_within front rest script.steps fits.same in
+    let front_checked : AreChecked script front c.0 = record {
+      few = omega (arith, good.few, many);
+      numbers = all_front IsStep (bare front) (bare rest) numbers;
+      kinds = all_front HasKind front rest fits.kinds;
+      through = c.1;
+    } in
     record {
       held = c.0;
-      streams = streams script (at_start script.small) first c.0 (nothing_wanted script.small) front (omega (arith, good.few, many)) (stands_at_start script good)
-          (all_front IsStep (bare front) (bare rest) numbers) (all_front HasKind front rest fits.kinds) c.1;
+      front_checked = front_checked;
+      streams = streams script (at_start script.small) first c.0 (nothing_wanted script.small) front front_checked.few (stands_at_start script good) front_checked.numbers front_checked.kinds front_checked.through;
       numbers = all_behind IsStep (bare front) (bare rest) numbers;
       kinds = all_behind HasKind front rest fits.kinds;
       last = good.held;

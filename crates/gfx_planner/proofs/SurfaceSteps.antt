@@ -1,15 +1,13 @@
 -- The messages of frames, and of the steps that draw on surfaces, are accepted by the server's own state,
 -- and show what is wanted.
-use Rattle.std.proofs.Common.{ℕ, ◌≡◌, zero, suc, ◌+◌, ◌*◌, ◌-◌, ◌%◌, ◌≤◌, ◌<◌, ◌^◌, ◌&&◌, nat_lt, nat_le, Bool, true, false, not, List, [], ◌∷◌, length, Option, Some, None, option_map, is_some, Ok, refl, sym, ap, ◌∙◌, subst, arith, eq-eqb}
-use Rattle.std.specs.List.{AllByRecursion, list_all, slice_get}
+use Rattle.std.proofs.Common.{ℕ, ◌≡◌, ◌+◌, ◌-◌, ◌%◌, ◌≤◌, ◌<◌, ◌^◌, ◌&&◌, nat_lt, nat_le, Bool, true, false, not, List, [], ◌∷◌, Option, Some, None, option_map, is_some, Ok, refl, sym, ap, ◌∙◌, subst, arith, eq-eqb}
+use Rattle.std.specs.List.{AllByRecursion, list_all}
 use Rattle.std.specs.Ordering.{nat_cmp}
-use Rattle.std.specs.Prelude.{IfSome}
-use Rattle.std.proofs.lemmas.Option.{slice_get-map}
 use Rattle.std.specs.Option.{ok_or}
 use Rattle.std.specs.FinMap.{FinMap, get, insert, remove, contains_key}
 use Rattle.std.proofs.lemmas.Bool.Decides.{nat_tests}
 use Rattle.gfx_base.specs.Format.{byte_of, format_of}
-use Rattle.gfx_base.specs.Geometry.{IsPoint, IsRect, lies_in, moved, fit_all, sized}
+use Rattle.gfx_base.specs.Geometry.{lies_in, fit_all}
 use Rattle.gfx_base.specs.Results.{and_then, check}
 use Rattle.gfx_base.proofs.ResultLemmas.{and_then_ok, and_then_at, check_ok}
 use Rattle.gfx_base.specs.declared.format.Format.{Format}
@@ -18,11 +16,10 @@ use Rattle.gfx_base.specs.declared.geometry.Rect.{Rect}
 use Rattle.gfx_base.specs.declared.pixel.Pixel.{Pixel}
 use Rattle.gfx_base.specs.declared.refusal.Refusal.TheVariants as refusal
 use Rattle.gfx_pdu.specs.declared.pdu.Pdu.{Pdu}
-use Rattle.gfx_pdu.specs.declared.pdu.Pdu.TheVariants.{WireToSurface1, SolidFill, SurfaceToSurface, CreateSurface, DeleteSurface, StartFrame, EndFrame, ResetGraphics, MapSurfaceToOutput}
+use Rattle.gfx_pdu.specs.declared.pdu.Pdu.TheVariants.{SolidFill, SurfaceToSurface, CreateSurface, DeleteSurface, StartFrame, EndFrame, ResetGraphics, MapSurfaceToOutput}
 use Rattle.gfx_pdu.specs.declared.pdu.Monitor.{Monitor}
 use Rattle.gfx_surface.specs.declared.TheConstants.{MOST_SIDE}
-use Rattle.gfx_surface.specs.Picture.{Picture, blank, overlaid}
-use Rattle.gfx_surface.proofs.PictureLemmas.{overlaid-width, overlaid-height}
+use Rattle.gfx_surface.specs.Picture.{Picture, blank}
 use Rattle.gfx_surface_map.specs.declared.TheConstants.{MOST_SURFACES, MOST_CELLS}
 use Rattle.gfx_surface_map.specs.Shown.{Shown, with_picture, surface_made, surface_deleted, output_reset, is_output_side, output_mapped, surface_copied, copied_to}
 use Rattle.gfx_surface_map.specs.declared.place.TheConstants.{MOST_OUTPUT_SIDE}
@@ -31,35 +28,31 @@ use Rattle.gfx_surface_map.specs.Surfaces as map
 use Rattle.gfx_surface_map.specs.Surfaces.{Surfaces, cells, created, is_size, painted}
 use Rattle.gfx_surface_map.proofs.CreatedLemmas.{created-ok}
 use Rattle.gfx_surface_map.proofs.PaintedLemmas.{painted-width, painted-height}
-use Rattle.gfx_script.specs.declared.TheConstants.{MOST_AREA}
 use Rattle.gfx_script.specs.declared.held.Sides.{Sides}
-use Rattle.gfx_script.specs.declared.picture.Picture.{Picture as Source}
 use Rattle.gfx_script.specs.declared.step.Kind.{Kind}
-use Rattle.gfx_script.specs.declared.step.Kind.TheVariants.{Raw}
-use Rattle.gfx_script.specs.Pictures.{IsDrawn}
 use Rattle.gfx_slot_plan.specs.Plan.{Plan}
 use Rattle.gfx_script.specs.Checks as check_of
-use Rattle.gfx_script.specs.Checks.{Held, may_add, with_surface, rects_filled, surface_mapped, rect_copied, picture_painted, sides_of_all, held_after}
-use Rattle.gfx_script.specs.Kinds.{KindedStep, as_kind, GoesAs}
+use Rattle.gfx_script.specs.Checks.{Held, may_add, with_surface, rects_filled, surface_mapped, rect_copied, held_after}
+use Rattle.gfx_script.specs.Kinds.{KindedStep, as_kind}
 use Rattle.gfx_script.specs.Script.{IsStep}
 use Rattle.gfx_script.specs.Scripted.{Script}
-use Rattle.gfx_script.specs.Writes.{place_of}
 use Rattle.gfx_script.specs.declared.error.ScriptKind.{ScriptKind}
 use Rattle.gfx_script.specs.declared.error.ScriptKind.TheVariants as fault
-use Rattle.gfx_script.specs.declared.step.Step.TheVariants.{Surface, Delete, Reset, Map, Fill, Copy, Paint, Frame}
+use Rattle.gfx_script.specs.declared.step.Step.TheVariants.{Surface, Delete, Reset, Map, Fill, Copy, Frame}
 use Rattle.gfx_clear.specs.State.{without_sequence}
 use Rattle.gfx_prog_decode.specs.Records.{without_surface as records_but}
 use Rattle.gfx_state.specs.State.{State}
 use Rattle.gfx_state.specs.Step as message
 use Rattle.gfx_state.specs.Step.{graphics_reset, frame_started, frame_ended, is_open, surface_created, surface_ended, showing}
 use Rattle.gfx_state.specs.Sending.{all_steps, IsCarried}
-use Rattle.gfx_planner.specs.Agree.{Agree, sides_of, HoldsSurfaces, Holds}
-use Rattle.gfx_planner.specs.Want.{Wanted, drawn_on, drawing, without_surface, with_map, with_copy, pixels_in, with_painting, wanted_as, wanted_after}
-use Rattle.gfx_planner.specs.Wire.{Server, Made, alone, one_monitor, raw_bytes, painting, made_as, made_by}
-use Rattle.gfx_planner.proofs.Carried.{carried-create, carried-delete, carried-reset, carried-map, carried-fill, carried-copy, carried-wire, carried-start, carried-end}
+use Rattle.gfx_planner.specs.Agree.{sides_of, HoldsSurfaces}
+use Rattle.gfx_planner.specs.Want.{Wanted, drawn_on, drawing, without_surface, with_map, with_copy, wanted_as}
+use Rattle.gfx_planner.specs.Wire.{Server, Made, one_monitor, made_as, made_by}
+use Rattle.gfx_planner.proofs.Carried.{carried-create, carried-delete, carried-reset, carried-map, carried-fill, carried-copy, carried-start, carried-end}
 use Rattle.gfx_planner.proofs.Effects.{all_steps-one}
-use Rattle.gfx_planner.proofs.Paints.{format_back, length-raw_bytes, length-pixels_in, painted_raw}
-use Rattle.gfx_planner.proofs.Held.{holds-made, holds-drawn, holds-deleted}
+use Rattle.gfx_planner.proofs.Paints.{format_back}
+use Rattle.gfx_planner.proofs.Held.{holds-made, holds-drawn, holds-deleted, sides-stay}
+use Rattle.gfx_planner.proofs.Seen.{AgreeSeen as Agree, HoldsSeen as Holds, KeepsTiles}
 
 -- one message that the state accepts
 pub record Accepts (state : State) (pdu : Pdu) (next : State) : Type 0 where
@@ -88,7 +81,7 @@ pub record MayMake (surfaces : Surfaces) (id width height : ℕ) : Type 0 where
   pub sides : is_size width height ≡ true
   pub room : map.fits_beside surfaces width height ≡ true
 
-none_of : (o : Option Picture) → is_some (option_map sides_of o) ≡ false → o ≡ None
+pub none_of : (o : Option Picture) → is_some (option_map sides_of o) ≡ false → o ≡ None
 none_of None e = refl
 none_of (Some picture) e = absurd cc
 
@@ -137,7 +130,7 @@ pub record MayFill (surfaces : Surfaces) (id : ℕ) (rects : List Rect) : Type 0
   pub there : get surfaces id ≡ Some picture
   pub inside : list_all (lies_in picture.width picture.height) rects ≡ true
 
-some_of : (o : Option Picture) (sides : Sides) → option_map sides_of o ≡ Some sides → (picture : Picture) × (o ≡ Some picture) × (sides_of picture ≡ sides)
+pub some_of : (o : Option Picture) (sides : Sides) → option_map sides_of o ≡ Some sides → (picture : Picture) × (o ≡ Some picture) × (sides_of picture ≡ sides)
 some_of None sides e = absurd cc
 some_of (Some picture) sides e = (picture, refl, cc)
 
@@ -183,7 +176,8 @@ pub record Fine (script : Script) (server : Server) (one : KindedStep) (after : 
   pub carried : AllByRecursion IsCarried into.pdus
   pub holds : Holds script after (going server next into.plan)
   pub frame : next.frame ≡ server.state.frame
-  pub agrees : (wanted : Wanted) → Agree server wanted → Agree (going server next into.plan) (wanted_after script wanted one)
+  pub agrees : (wanted : Wanted) → Agree server wanted → Agree (going server next into.plan) (wanted_as script wanted one.kind one.step)
+  pub keeps : KeepsTiles one.step server.state next
 
 -- only what is shown changes ------------------------------------------------------------------------
 
@@ -231,9 +225,10 @@ surface_fine script server kind held after id width height format holds numbers 
       carried = (carried-create id width height (byte_of format) numbers.0 (omega (arith, numbers.2)) (omega (arith, numbers.4)), tt);
       holds = subst (λ h. Holds script h (shows server shown)) (sym may.1)
           (holds_shown script held server _ _ shown holds
-          (holds-made held.sides held.cells server.state.shown.surfaces id (blank width height format) (omega (arith, numbers.2)) (omega (arith, numbers.4)) holds.surfaces may.0.absent));
+          (holds-made held.sides held.cells server.state.shown.surfaces id (blank width height format) numbers.2 numbers.4 holds.surfaces may.0.absent may.0.room));
       frame = refl;
       agrees = λ wanted agree. agree_shown server wanted _ _ agree (ap (λ (z : Shown). with_picture z id (blank width height format)) agree.shown);
+      keeps = (may.0.absent, refl, refl);
     }
 
 sides_painted : (picture : Picture) (rects : List Rect) (colour : Pixel) → sides_of (painted picture rects colour) ≡ sides_of picture
@@ -260,6 +255,7 @@ fill_fine script server kind held after id colour rects holds numbers checked =
           (holds-drawn held.sides held.cells server.state.shown.surfaces id picture (painted picture rects colour) holds.surfaces may.0.there (sides_painted picture rects colour)));
       frame = refl;
       agrees = λ wanted agree. drawing_agrees server wanted id picture (λ z. painted z rects colour) may.0.there agree;
+      keeps = (sides-stay server.state.shown.surfaces id picture (painted picture rects colour) may.0.there (sides_painted picture rects colour), refl);
     }
 
 -- deleting, resetting, mapping, copying ----------------------------------------------------------------
@@ -306,6 +302,7 @@ delete_fine script server kind held after id holds numbers checked =
           record { drawn = holds.drawn; same = holds.same; surfaces = left; bitmaps = holds.bitmaps; rings = holds.rings };
       frame = refl;
       agrees = λ wanted agree. record { shown = ap (λ (z : Shown). without_surface z id) agree.shown; slots = agree.slots; plan = agree.plan };
+      keeps = (refl, refl);
     }
 
 pub output_side : (side : ℕ) → 1 ≤ side → side ≤ MOST_OUTPUT_SIDE → is_output_side side ≡ true
@@ -345,6 +342,7 @@ reset_fine script server kind held after width height holds numbers checked =
         slots = agree.slots;
         plan = agree.plan;
       };
+      keeps = (λ q. refl, refl);
     }
 
 mapped : (state : State) (id x y : ℕ) → contains_key state.shown.surfaces id ≡ true
@@ -354,7 +352,7 @@ mapped state id x y there =
     and_then_at (output_mapped state.shown id record { x = x; y = y }) (with_map state.shown id record { x = x; y = y }) (λ shown. Ok (record state { shown = shown }))
     (and_then_at (check refusal.NoSurface (contains_key state.shown.surfaces id)) tt (λ _. Ok (with_map state.shown id record { x = x; y = y })) (ap (check refusal.NoSurface) there))
 
-some_held : (o : Option Picture) → is_some (option_map sides_of o) ≡ true → is_some o ≡ true
+pub some_held : (o : Option Picture) → is_some (option_map sides_of o) ≡ true → is_some o ≡ true
 some_held None e = absurd cc
 some_held (Some picture) e = refl
 
@@ -374,6 +372,7 @@ map_fine script server kind held after id x y holds numbers checked =
       holds = (let same : held ≡ after = (let last = first.2 in cc) in subst (λ h. Holds script h (shows server shown)) same (holds_shown script held server held.sides held.cells shown holds holds.surfaces));
       frame = refl;
       agrees = λ wanted agree. agree_shown server wanted shown _ agree (ap (λ (z : Shown). with_map z id record { x = x; y = y }) agree.shown);
+      keeps = (λ q. refl, refl);
     }
 
 was_copied : (state : State) (from to : ℕ) (rect : Rect) (points : List Point) (source target : Picture) → get state.shown.surfaces from ≡ Some source → get state.shown.surfaces to ≡ Some target
@@ -430,6 +429,7 @@ copy_fine script server kind held after from to rect points holds numbers checke
           (holds-drawn held.sides held.cells surfaces to target.picture copy holds.surfaces target.there (sides_copied source.picture rect points target.picture))));
       frame = refl;
       agrees = λ wanted agree. copied_agrees server wanted from to rect points source.picture target.picture source.there target.there agree;
+      keeps = (sides-stay surfaces to target.picture copy target.there (sides_copied source.picture rect points target.picture), refl);
     }
 
 pub frame_fine : (script : Script) (server : Server) (kind : Option Kind) (held after : Held) → Holds script held server → held_after held Frame ≡ Ok after → Fine script server (as_kind kind Frame) after
@@ -443,4 +443,5 @@ frame_fine script server kind held after holds checked = record {
   holds = (let same : held ≡ after = cc in subst (λ h. Holds script h server) same holds);
   frame = refl;
   agrees = λ wanted agree. agree;
+  keeps = (λ q. refl, refl);
 }

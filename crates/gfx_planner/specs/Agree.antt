@@ -1,13 +1,16 @@
 -- When a state shows what a script wants, and when a step may be put: this project's own rule.
-use Rattle.std.specs.Prelude.{◌≡◌, ◌<◌, ◌^◌, ◌⊎◌, IfSome, ℕ, List, Option, Some, None, option_map, Ok}
+use Rattle.std.specs.Prelude.{◌≡◌, ◌≤◌, ◌<◌, ◌^◌, ◌⊎◌, IfSome, ℕ, List, Option, Some, None, option_map, Ok}
 use Rattle.std.specs.FinMap as finmap
 use Rattle.std.specs.FinMap.{FinMap}
 use Rattle.std.specs.List.{AllByRecursion}
 use Rattle.std.specs.Ordering.{nat_cmp}
 use Rattle.gfx_bitmap_cache.specs.Slots.{Cached}
 use Rattle.gfx_clear_store.specs.Rings.{AreRings}
+use Rattle.gfx_quant.specs.Setting.{IsSetting}
 use Rattle.gfx_slot_plan.specs.Plan.{Plan}
+use Rattle.gfx_surface.specs.declared.TheConstants.{MOST_SIDE}
 use Rattle.gfx_surface.specs.Picture.{Picture}
+use Rattle.gfx_surface_map.specs.declared.TheConstants.{MOST_CELLS}
 use Rattle.gfx_surface_map.specs.Surfaces.{Surfaces, cells_of}
 use Rattle.gfx_script.specs.declared.held.Sides.{Sides}
 use Rattle.gfx_script.specs.Checks.{Held, sides_of_all, held_after}
@@ -19,6 +22,7 @@ use Rattle.gfx_script.specs.Script.{IsStep, step_at}
 use Rattle.gfx_script.specs.Scripted.{Script}
 use Rattle.gfx_script.specs.Stock.{Stock}
 use Rattle.gfx_planner.specs.Slots.{PlanFitsCache, SidesFitSlots}
+use Rattle.gfx_planner.specs.Tiles.{HoldsTiles}
 use Rattle.gfx_planner.specs.Want.{Wanted}
 use Rattle.gfx_planner.specs.Wire.{Server}
 
@@ -27,6 +31,7 @@ pub record Agree (server : Server) (wanted : Wanted) : Type 0 where
   pub shown : server.state.shown ≡ wanted.shown
   pub slots : server.state.cache.slots ≡ wanted.slots
   pub plan : server.plan ≡ wanted.plan
+  pub passes : server.passes ≡ wanted.passes
 
 -- a picture's sides
 abbrev pub sides_of : Picture → Sides
@@ -37,8 +42,9 @@ pub record HoldsSurfaces (held : FinMap nat_cmp Sides) (cells : ℕ) (surfaces :
   pub sides : (id : ℕ) → finmap.get held id ≡ option_map sides_of (finmap.get surfaces id)
   pub count : finmap.len held ≡ finmap.len surfaces
   pub total : cells ≡ cells_of surfaces
-  -- and the sides fit their fields
-  pub narrow : (id : ℕ) → IfSome (finmap.get held id) (λ sides. (sides.width < 2 ^ 16) × (sides.height < 2 ^ 16))
+  -- and both are within the limits on surfaces
+  pub narrow : (id : ℕ) → IfSome (finmap.get held id) (λ sides. (sides.width ≤ MOST_SIDE) × (sides.height ≤ MOST_SIDE))
+  pub few : cells ≤ MOST_CELLS
 
 -- and of these bitmaps, whose limits are those of the state
 pub record HoldsBitmaps (stock : Stock) (plan : Plan) (cache : Cached) : Type 0 where
@@ -53,6 +59,10 @@ pub record Holds (script : Script) (held : Held) (server : Server) : Type 0 wher
   pub same : held.pictures ≡ sides_of_all script.pictures
   pub surfaces : HoldsSurfaces held.sides held.cells server.state.shown.surfaces
   pub bitmaps : HoldsBitmaps held.stock server.plan server.state.cache
+  -- its tiles may be raised, and the next message of passes has a number that fits its field
+  pub setting : IsSetting script.setting
+  pub tiles : HoldsTiles script.setting server.passes.live server.state.records server.state.shown.surfaces
+  pub number : server.passes.next < 2 ^ 32
   -- and its rings are some that a store can hold
   pub rings : AreRings server.state.clear.rings
 

@@ -1,4 +1,6 @@
 pub mod Slots
+pub mod Passes
+pub mod Tiles
 pub mod Layers
 pub mod Want
 pub mod Wire
@@ -10,3 +12,4 @@ pub mod Joined
 pub mod Shows
 pub mod Within
 pub mod Sources
+pub mod TilesShown

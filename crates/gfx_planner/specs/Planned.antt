@@ -3,6 +3,8 @@ use Rattle.std.specs.Prelude.{◌≡◌, refl, ℕ, Bool, true, false, List, ◌
 use Rattle.std.specs.List.{AllByRecursion}
 use Rattle.std.specs.Coded.{Coded, code_by, coded×, coded_ℕ, coded_bool}
 use Rattle.gfx_base.specs.declared.answer.NoMemory.{NoMemory}
+use Rattle.gfx_live.specs.Codes.{passes_code}
+use Rattle.gfx_live.specs.Live.{Passes}
 use Rattle.gfx_pdu.specs.declared.pdu.Pdu.{Pdu}
 use Rattle.gfx_script.specs.Checks.{Held, held_after}
 use Rattle.gfx_script.specs.Kinds.{KindedStep}
@@ -23,9 +25,9 @@ pub record Planned : Type 0 where
 
 abbrev pub planned_code : Coded Planned
 planned_code =
-    code_by (State × (Plan × (ℕ × Bool))) (coded× state_code (coded× plan_code (coded× coded_ℕ coded_bool)))
-    (λ p. (p.server.state, (p.server.plan, (p.server.frames, p.spent))))
-    (λ t. record { server = record { state = t.0; plan = t.1.0; frames = t.1.1.0 }; spent = t.1.1.1 }) (λ _. refl)
+    code_by (State × (Plan × (Passes × (ℕ × Bool)))) (coded× state_code (coded× plan_code (coded× passes_code (coded× coded_ℕ coded_bool))))
+    (λ p. (p.server.state, (p.server.plan, (p.server.passes, (p.server.frames, p.spent)))))
+    (λ t. record { server = record { state = t.0; plan = t.1.0; passes = t.1.1.0; frames = t.1.1.1.0 }; spent = t.1.1.1.1 }) (λ _. refl)
 
 -- a planner that goes on from here
 abbrev pub ready : Server → Planned

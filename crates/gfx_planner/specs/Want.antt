@@ -1,7 +1,7 @@
 -- What a script wants to be seen, in the script's own words: no message is named here. A step's effect
 -- is the formula of the surfaces ([MS-RDPEGFX] 3.3.5 leaves to the server what it draws; the steps are
 -- this project's own).
-use Rattle.std.specs.Prelude.{ℕ, Bool, nat_eq, List, [], fold, map, Option, Some, None, Result, Ok}
+use Rattle.std.specs.Prelude.{ℕ, Bool, nat_eq, List, [], fold, map, Option, Some, None, option_map, Result, Ok, if◌then◌else◌}
 use Rattle.std.specs.List.{slice_get}
 use Rattle.std.specs.Ordering.{nat_cmp}
 use Rattle.std.specs.FinMap.{FinMap, empty, get, insert, remove}
@@ -23,16 +23,20 @@ use Rattle.gfx_surface.specs.Picture.{Picture, blank, drawn, overlaid}
 use Rattle.gfx_surface_map.specs.Shown.{Shown, nothing_shown, with_picture, copied_to, stamped}
 use Rattle.gfx_surface_map.specs.declared.place.Place.{Place}
 use Rattle.gfx_surface_map.specs.Surfaces.{painted}
+use Rattle.gfx_live.specs.Live.{Passes, at_start, improved_sends, painted_sends}
+use Rattle.gfx_live.specs.Showing.{after_showing}
+use Rattle.gfx_script.specs.declared.held.Sides.{Sides}
 use Rattle.gfx_script.specs.declared.picture.Picture.{Picture as Source}
 use Rattle.gfx_script.specs.declared.step.Kind.{Kind}
 use Rattle.gfx_script.specs.declared.step.Step.{Step}
-use Rattle.gfx_script.specs.declared.step.Step.TheVariants.{Surface, Delete, Reset, Map, Fill, Copy, Keep, Show, Forget, Paint, Frame}
+use Rattle.gfx_script.specs.declared.step.Step.TheVariants.{Surface, Delete, Reset, Map, Fill, Copy, Keep, Show, Forget, Paint, Improve, Frame}
 use Rattle.gfx_script.specs.Kinds.{KindedStep}
 use Rattle.gfx_script.specs.Patterns.{pixel_of}
 use Rattle.gfx_script.specs.Scripted.{Script}
 use Rattle.gfx_script.specs.Writes.{place_of}
 use Rattle.gfx_planner.specs.Layers.{layer_of}
-use Rattle.gfx_planner.specs.Slots.{emptied}
+use Rattle.gfx_planner.specs.Passes.{goes_in_passes, passes_as}
+use Rattle.gfx_planner.specs.Slots.{emptied, sides_in}
 
 pub record Wanted : Type 0 where
   -- the surfaces, the output, and what is mapped to it
@@ -41,10 +45,12 @@ pub record Wanted : Type 0 where
   pub plan : Plan
   -- the bitmaps by their slots
   pub slots : FinMap nat_cmp Entry
+  -- the tiles that may be raised, and the number of the next message of passes
+  pub passes : Passes
 
 -- before the first step, under the small limits on bitmaps or the large ones
 abbrev pub nothing_wanted : Bool → Wanted
-nothing_wanted small = record { shown = nothing_shown; plan = plan [] small; slots = empty }
+nothing_wanted small = record { shown = nothing_shown; plan = plan [] small; slots = empty; passes = at_start }
 
 -- one surface is drawn on, where it is there
 unfoldable pub drawn_on : Shown → ℕ → Option Picture → (Picture → Picture) → Shown
@@ -118,7 +124,19 @@ abbrev pub without_slot : FinMap nat_cmp Entry → Option ℕ → FinMap nat_cmp
 without_slot slots None = slots
 without_slot slots (Some slot) = remove slots slot
 
--- after one more step, which goes as a kind
+-- a picture is painted in passes, and shows as its tiles do at the first level
+unfoldable pub with_tiles : Script → Wanted → Option Source → ℕ → Point → Wanted
+with_tiles script wanted None id at = wanted
+with_tiles script wanted (Some picture) id at =
+    drawing wanted id (after_showing id (painted_sends script wanted.passes.live id picture (place_of picture at)))
+
+-- the tiles of a surface that can be raised show as they do at the next level
+unfoldable pub with_improved : Wanted → Option Picture → ℕ → Wanted
+with_improved wanted None id = wanted
+with_improved wanted (Some surface) id =
+    drawing wanted id (after_showing id (improved_sends wanted.passes.live id surface.width surface.height))
+
+-- after one more step, which goes as a kind, but for what may be raised
 unfoldable pub wanted_as : Script → Wanted → Option Kind → Step → Wanted
 wanted_as script wanted kind (Surface id width height format) = with_surface wanted id (blank width height format)
 wanted_as script wanted kind (Delete id) = record wanted { shown = without_surface wanted.shown id }
@@ -135,11 +153,23 @@ wanted_as script wanted kind (Forget key) = record wanted {
   plan = forgotten wanted.plan key;
   slots = without_slot wanted.slots (slot_of key wanted.plan.places);
 }
-wanted_as script wanted kind (Paint id picture at named glyph) = with_painting wanted (slice_get script.pictures picture) kind id at
+wanted_as script wanted kind (Paint id picture at named glyph) =
+    if goes_in_passes kind then with_tiles script wanted (slice_get script.pictures picture) id at
+    else with_painting wanted (slice_get script.pictures picture) kind id at
+wanted_as script wanted kind (Improve id) = with_improved wanted (get wanted.shown.surfaces id) id
 wanted_as script wanted kind Frame = wanted
 
+-- the sides of a key's bitmap, if it is kept
+abbrev pub sides_kept : Plan → FinMap nat_cmp Entry → ℕ → Option Sides
+sides_kept kept slots key = option_map sides_in (bitmap_in slots (slot_of key kept.places))
+
+-- and what may be raised then
+abbrev pub passes_wanted : Script → Wanted → Option Kind → Step → Passes
+passes_wanted script wanted kind step = passes_as script (sides_kept wanted.plan wanted.slots) wanted.shown.surfaces wanted.passes kind step
+
+-- after one more step
 abbrev pub wanted_after : Script → Wanted → KindedStep → Wanted
-wanted_after script wanted one = wanted_as script wanted one.kind one.step
+wanted_after script wanted one = record (wanted_as script wanted one.kind one.step) { passes = passes_wanted script wanted one.kind one.step }
 
 -- after these steps of a script
 abbrev pub want : Script → List KindedStep → Wanted

@@ -1,9 +1,10 @@
 -- Which messages the server's end sends, and what it then keeps ([MS-RDPEGFX] 3.2.5; which message a
 -- step is made into is this project's own rule).
-use Rattle.std.specs.Prelude.{ℕ, ◌+◌, ◌-◌, Bool, List, [], ◌∷◌, ◌++◌, map, Option, Some, None, Result, Ok, Err}
+use Rattle.std.specs.Prelude.{ℕ, ◌+◌, ◌-◌, Bool, List, [], ◌∷◌, ◌++◌, map, Option, Some, None, Result, Ok, Err, if◌then◌else◌}
 use Rattle.std.specs.List.{slice_get, AllByRecursion}
 use Rattle.std.specs.FinMap.{get}
 use Rattle.gfx_base.specs.Format.{byte_of}
+use Rattle.gfx_base.specs.declared.format.Format.{Format}
 use Rattle.gfx_base.specs.declared.geometry.Point.{Point}
 use Rattle.gfx_base.specs.declared.geometry.Rect.{Rect}
 use Rattle.gfx_base.specs.declared.pixel.Pixel.{Pixel}
@@ -12,14 +13,17 @@ use Rattle.gfx_base.specs.Geometry.{width_of, height_of}
 use Rattle.gfx_clear.specs.declared.layer.Layer.{Layer}
 use Rattle.gfx_clear.specs.State.{State as ClearState}
 use Rattle.gfx_clear.specs.Sending.{sent as stream_sent}
+use Rattle.gfx_live.specs.Live.{Passes, improve_all, improved_sends, paint_all, painted_sends}
+use Rattle.gfx_live.specs.Live.{at_start as no_passes}
 use Rattle.gfx_pdu.specs.declared.pdu.Pdu.{Pdu}
-use Rattle.gfx_pdu.specs.declared.pdu.Pdu.TheVariants.{WireToSurface1, SolidFill, SurfaceToSurface, SurfaceToCache, CacheToSurface, EvictCacheEntry, CreateSurface, DeleteSurface, StartFrame, EndFrame, ResetGraphics, MapSurfaceToOutput}
+use Rattle.gfx_pdu.specs.declared.pdu.Pdu.TheVariants.{WireToSurface1, WireToSurface2, SolidFill, SurfaceToSurface, SurfaceToCache, CacheToSurface, EvictCacheEntry, CreateSurface, DeleteSurface, StartFrame, EndFrame, ResetGraphics, MapSurfaceToOutput}
 use Rattle.gfx_pdu.specs.declared.pdu.Monitor.{Monitor}
 use Rattle.gfx_planner.specs.declared.messages.TheConstants.{PRIMARY}
+use Rattle.gfx_prog_encode.specs.declared.TheConstants.{CONTEXT}
 use Rattle.gfx_script.specs.declared.picture.Picture.{Picture as Source}
 use Rattle.gfx_script.specs.declared.step.Kind.{Kind}
 use Rattle.gfx_script.specs.declared.step.Step.{Step}
-use Rattle.gfx_script.specs.declared.step.Step.TheVariants.{Surface, Delete, Reset, Map, Fill, Copy, Keep, Show, Forget, Paint, Frame}
+use Rattle.gfx_script.specs.declared.step.Step.TheVariants.{Surface, Delete, Reset, Map, Fill, Copy, Keep, Show, Forget, Paint, Improve, Frame}
 use Rattle.gfx_script.specs.Kinds.{KindedStep}
 use Rattle.gfx_script.specs.Scripted.{Script}
 use Rattle.gfx_script.specs.Writes.{place_of}
@@ -27,21 +31,23 @@ use Rattle.gfx_slot_plan.specs.declared.kept.Kept.{Kept}
 use Rattle.gfx_slot_plan.specs.Plan.{Plan, plan, keeps, slot_of, touched, forgotten}
 use Rattle.gfx_state.specs.State.{State, started}
 use Rattle.gfx_state.specs.Sending.{all_steps, IsCarried}
-use Rattle.gfx_state.specs.Codecs.{id_of}
+use Rattle.gfx_state.specs.Codecs.{PROGRESSIVE, id_of}
 use Rattle.gfx_surface.specs.Picture.{Picture}
 use Rattle.gfx_planner.specs.Layers.{layer_of, codec_by}
-use Rattle.gfx_planner.specs.Want.{pixels_in, colours_in}
+use Rattle.gfx_planner.specs.Passes.{goes_in_passes, passes_as}
+use Rattle.gfx_planner.specs.Want.{pixels_in, colours_in, sides_kept}
 
--- what the server's end keeps: the state that its messages so far give, which keys have which slots, and
--- how many frames were opened
+-- what the server's end keeps: the state that its messages so far give, which keys have which slots,
+-- which tiles may be raised, and how many frames were opened
 pub record Server : Type 0 where
   pub state : State
   pub plan : Plan
+  pub passes : Passes
   pub frames : ℕ
 
 -- nothing was sent yet; the small limits on bitmaps bind, or the large ones
 abbrev pub at_start : Bool → Server
-at_start small = record { state = started small; plan = plan [] small; frames = 0 }
+at_start small = record { state = started small; plan = plan [] small; passes = no_passes; frames = 0 }
 
 -- the one monitor of an output of these sides, which is the primary one
 abbrev pub one_monitor : ℕ → ℕ → Monitor
@@ -96,25 +102,43 @@ unfoldable pub keeping : Result (Plan × Kept) Refusal → ℕ → ℕ → Rect 
 keeping (Err r) id key rect = None
 keeping (Ok found) id key rect = made (map EvictCacheEntry found.1.dropped ++ (SurfaceToCache id key found.1.slot rect ∷ [])) found.0
 
--- what a step is made into that goes as a kind, inside a frame, in this state and with this choice of
--- slots; none where it can't be put, which no step is that passes its checks
-unfoldable pub made_as : Script → State → Plan → Option Kind → Step → Option Made
-made_as script state old kind (Surface id width height format) = made (CreateSurface id width height (byte_of format) ∷ []) old
-made_as script state old kind (Delete id) = made (DeleteSurface id ∷ []) old
-made_as script state old kind (Reset width height) = made (ResetGraphics width height (one_monitor width height ∷ []) ∷ []) old
-made_as script state old kind (Map id x y) = made (MapSurfaceToOutput id 0 x y ∷ []) old
-made_as script state old kind (Fill id colour rects) = made (SolidFill id colour rects ∷ []) old
-made_as script state old kind (Copy from to rect points) = made (SurfaceToSurface from to rect points ∷ []) old
-made_as script state old kind (Keep id key rect) = keeping (keeps old key (width_of rect) (height_of rect)) id key rect
-made_as script state old kind (Show key to points) = alone (showing_slot (slot_of key old.places) to points) (touched old key)
-made_as script state old kind (Forget key) = alone (emptying (slot_of key old.places)) (forgotten old key)
-made_as script state old kind (Paint id picture at named glyph) =
-    alone (painting state.clear (get state.shown.surfaces id) (slice_get script.pictures picture) kind glyph id at) old
-made_as script state old kind Frame = made [] old
+-- the message that carries data of passes, in the format of its surface
+abbrev pub passes_message : ℕ → Format → List ℕ → Pdu
+passes_message id format payload = WireToSurface2 id PROGRESSIVE CONTEXT (byte_of format) payload
+
+-- the messages that paint a picture in passes, where there are a surface and a picture
+unfoldable pub painting_in_passes : Script → Passes → Option Picture → Option Source → ℕ → Point → Plan → Option Made
+painting_in_passes script passes (Some surface) (Some picture) id at next =
+    made (map (passes_message id surface.format) (paint_all script.setting (painted_sends script passes.live id picture (place_of picture at)) passes.next)) next
+painting_in_passes script passes surface picture id at next = None
+
+-- the messages that raise the live tiles of a surface
+unfoldable pub improving : Script → Passes → Option Picture → ℕ → Plan → Option Made
+improving script passes None id next = None
+improving script passes (Some surface) id next =
+    made (map (passes_message id surface.format) (improve_all script.setting (improved_sends passes.live id surface.width surface.height) passes.next)) next
+
+-- what a step is made into that goes as a kind, inside a frame, in this state, with these tiles and
+-- this choice of slots; none where it can't be put, which no step is that passes its checks
+unfoldable pub made_as : Script → State → Passes → Plan → Option Kind → Step → Option Made
+made_as script state passes old kind (Surface id width height format) = made (CreateSurface id width height (byte_of format) ∷ []) old
+made_as script state passes old kind (Delete id) = made (DeleteSurface id ∷ []) old
+made_as script state passes old kind (Reset width height) = made (ResetGraphics width height (one_monitor width height ∷ []) ∷ []) old
+made_as script state passes old kind (Map id x y) = made (MapSurfaceToOutput id 0 x y ∷ []) old
+made_as script state passes old kind (Fill id colour rects) = made (SolidFill id colour rects ∷ []) old
+made_as script state passes old kind (Copy from to rect points) = made (SurfaceToSurface from to rect points ∷ []) old
+made_as script state passes old kind (Keep id key rect) = keeping (keeps old key (width_of rect) (height_of rect)) id key rect
+made_as script state passes old kind (Show key to points) = alone (showing_slot (slot_of key old.places) to points) (touched old key)
+made_as script state passes old kind (Forget key) = alone (emptying (slot_of key old.places)) (forgotten old key)
+made_as script state passes old kind (Paint id picture at named glyph) =
+    if goes_in_passes kind then painting_in_passes script passes (get state.shown.surfaces id) (slice_get script.pictures picture) id at old
+    else alone (painting state.clear (get state.shown.surfaces id) (slice_get script.pictures picture) kind glyph id at) old
+made_as script state passes old kind (Improve id) = improving script passes (get state.shown.surfaces id) id old
+made_as script state passes old kind Frame = made [] old
 
 -- the same by the server's end
 abbrev pub made_by : Script → Server → KindedStep → Option Made
-made_by script server one = made_as script server.state server.plan one.kind one.step
+made_by script server one = made_as script server.state server.passes server.plan one.kind one.step
 
 -- there are messages, and channel messages can carry them
 abbrev pub CanBeSent : Option Made → Type 0
@@ -151,9 +175,14 @@ abbrev pub after_made : Server → Option Made → Server
 after_made server None = server
 after_made server (Some found) = record (after_messages server found.pdus) { plan = found.plan }
 
+-- what may be raised after a step
+abbrev pub passes_by : Script → Server → KindedStep → Passes
+passes_by script server one =
+    passes_as script (sides_kept server.plan server.state.cache.slots) server.state.shown.surfaces server.passes one.kind one.step
+
 -- after the messages of a step
 unfoldable pub after_put : Script → Server → KindedStep → Server
-after_put script server one = after_made server (made_by script server one)
+after_put script server one = record (after_made server (made_by script server one)) { passes = passes_by script server one }
 
 -- after a frame is opened
 abbrev pub after_open : Server → Server

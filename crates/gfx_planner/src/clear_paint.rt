@@ -50,7 +50,7 @@ fn layer_of(kind: Kind) -> Option<Layer>
     ensures { result ≡ layer_of kind }
 {
     match kind {
-        Kind::Raw => None,
+        Kind::Raw | Kind::Progressive => None,
         Kind::Residual => Some(Layer::Residual),
         Kind::Bands => Some(Layer::Bands),
         Kind::Palette => Some(Layer::Palette),

@@ -1,6 +1,7 @@
 ghost use Rattle.gfx_planner.specs.Joined.{JoinedFramesAreShown};
 ghost use Rattle.gfx_planner.specs.Shows.{ScriptsAreShown};
 ghost use Rattle.gfx_planner.specs.Sources.{ClearPaintsShowTheirSource};
+ghost use Rattle.gfx_planner.specs.TilesShown.{LiveTilesAreShown};
 ghost use Rattle.gfx_planner.specs.Within.{StepsWriteWithin};
 
 /// The stream of an accepted script is accepted whole, and after each of its steps, its frames among
@@ -23,4 +24,10 @@ pub fn joined_frames_are_shown()
 /// A paint by ClearCodec shows its picture, in each pixel, until a later step writes there.
 pub fn clear_paints_show_their_source()
     ensures { ClearPaintsShowTheirSource }
+{}
+
+/// While a tile of a paint in passes is live, its surface shows it as it is at its level; at the last level this is
+/// the direct decoding of its own values.
+pub fn live_tiles_are_shown()
+    ensures { LiveTilesAreShown }
 {}

@@ -9,14 +9,15 @@ mod clear_paint;
 mod laws;
 mod messages;
 mod paint;
+mod passes;
 mod planner;
 mod sender;
 mod step_sending;
 mod streaming;
 
 pub use laws::{
-    clear_paints_show_their_source, joined_frames_are_shown, steps_write_within,
-    streams_show_their_scripts,
+    clear_paints_show_their_source, joined_frames_are_shown, live_tiles_are_shown,
+    steps_write_within, streams_show_their_scripts,
 };
 pub use planner::{MOST_FRAMES, Planner};
 pub use streaming::put_in_frame;

@@ -1,15 +1,17 @@
 //! The messages that a step is made into.
-ghost use Rattle.std.specs.Prelude.{◌≡◌, ◌≤◌, [], ◌∷◌, IfOk, IsOk, IsSome, IfSome, Some, None, map};
+ghost use Rattle.std.specs.Prelude.{◌≡◌, ◌≤◌, [], ◌∷◌, IfOk, IsOk, IsSome, IfSome, Some, None, false, map};
 ghost use Rattle.std.specs.FinMap.{get};
 ghost use Rattle.std.specs.List.{slice_get};
 ghost use Rattle.gfx_base.specs.Format.{byte_of};
 ghost use Rattle.gfx_base.specs.Geometry.{width_of, height_of};
+ghost use Rattle.gfx_live.specs.Live.{at_start};
 ghost use Rattle.gfx_slot_plan.specs.Plan.{keeps, slot_of, touched, forgotten};
 ghost use Rattle.gfx_script.specs.Script.{IsStep};
 ghost use Rattle.gfx_state.specs.Sending.{IsCarried};
 ghost use Rattle.gfx_pdu.specs.declared.pdu.Pdu.TheVariants.{CreateSurface, SolidFill, SurfaceToSurface, ResetGraphics, MapSurfaceToOutput, EvictCacheEntry};
 ghost use Rattle.gfx_planner.specs.ClearPaints.{clear_paint_of};
 ghost use Rattle.gfx_script.specs.declared.step.Kind.TheVariants.{Raw};
+ghost use Rattle.gfx_planner.specs.Passes.{is_in_passes};
 ghost use Rattle.gfx_planner.specs.Wire.{CanBeSent, made, made_as, one_monitor, painting, keeping, showing_slot, emptying};
 
 use crate::paint::raw_payload;
@@ -25,8 +27,8 @@ use std::alloc::Global;
 /// The flag of the primary monitor ([MS-RDPBCGR] TS_MONITOR_PRIMARY).
 pub const PRIMARY: u32 = 1;
 
-/// The messages of a step that goes as a kind other than those of ClearCodec, in the state before it. The choice of
-/// slots goes on by the step.
+/// The messages of a step that goes as a kind other than those of ClearCodec, and isn't painted in passes, in the
+/// state before it. The choice of slots goes on by the step.
 #[tactic(auto, unfolding(crate::specs::Wire::made_as))]
 pub fn step_messages(
     alloc: Global,
@@ -37,9 +39,10 @@ pub fn step_messages(
     kind: Option<Kind>,
 ) -> Result<Vec<Pdu>, NoMemory>
     requires numbers { IsStep step.now }
-    requires possible { CanBeSent (made_as script.now state.now plan.old kind step.now) }
+    requires possible { CanBeSent (made_as script.now state.now at_start plan.old kind step.now) }
     requires messages { clear_paint_of step.now kind ≡ None }
-    ensures { IfOk result (λ pdus. made_as script.now state.now plan.old kind step.now ≡ made pdus.items plan.new) }
+    requires apart { is_in_passes kind step.now ≡ false }
+    ensures { IfOk result (λ pdus. made_as script.now state.now at_start plan.old kind step.now ≡ made pdus.items plan.new) }
 {
     match step {
         Step::Surface {
@@ -67,7 +70,7 @@ pub fn step_messages(
             at,
             ..
         } => {
-            // What goes by ClearCodec isn't made into messages here.
+            // What goes by ClearCodec or in passes isn't made into messages here.
             let is_raw = kind == Some(Kind::Raw);
             prove!(is_raw);
             alone(
@@ -75,6 +78,7 @@ pub fn step_messages(
                 paint_picture(alloc, script, state, *id, *picture, *at)?,
             )
         }
+        Step::Improve { .. } => unreachable!(),
         Step::Frame => Ok(Vec::new(alloc)),
     }
 }

@@ -9,6 +9,7 @@ use crate::step_sending::send_step;
 use gfx_base::{Bytes, NoMemory};
 use gfx_bitmap_cache::Cache;
 use gfx_clear::ClearState;
+use gfx_live::Passes;
 use gfx_pdu::Pdu;
 use gfx_script::{Kind, Script};
 use gfx_slot_plan::SlotPlan;
@@ -26,6 +27,7 @@ pub struct Planner {
     alloc: Global,
     sender: Sender,
     plan: SlotPlan,
+    passes: Passes,
     frames: u32,
     spent: bool,
 }
@@ -37,7 +39,7 @@ impl Model for Planner {
 
     ghost coded = { planned_code };
 
-    ghost view = { λ p. record { server = record { state = p.sender; plan = p.plan; frames = p.frames }; spent = p.spent } };
+    ghost view = { λ p. record { server = record { state = p.sender; plan = p.plan; passes = p.passes; frames = p.frames }; spent = p.spent } };
 
     ghost use Rattle.std.specs.Prelude.{◌≤◌};
     ghost use Rattle.gfx_planner.specs.declared.planner.TheConstants.{MOST_FRAMES};
@@ -56,6 +58,7 @@ impl Planner {
             alloc,
             sender,
             plan,
+            passes: Passes::new(alloc),
             frames: 0,
             spent: false,
         })
@@ -136,6 +139,7 @@ impl Planner {
             self.alloc,
             &mut self.sender,
             &mut self.plan,
+            &mut self.passes,
             script,
             step,
             kind,

@@ -1,23 +1,80 @@
-//! Sending what a step is made into: its messages, or a paint whose stream the server's end writes and draws at once.
-ghost use Rattle.std.specs.Prelude.{◌≡◌, ◌∷◌, [], IfSome};
+//! Sending what a step is made into: its messages, those of passes among them, or a paint whose stream the server's end writes and draws at once.
+ghost use Rattle.std.specs.Prelude.{◌≡◌, ◌∷◌, [], IfSome, OnOk, false, true};
 ghost use Rattle.std.specs.FinMap.{get};
 ghost use Rattle.std.specs.List.{slice_get};
+ghost use Rattle.gfx_live.specs.Live.{at_start};
 ghost use Rattle.gfx_script.specs.Script.{IsStep};
 ghost use Rattle.gfx_planner.specs.ClearPaints.{MayPaintClear, clear_paint_of};
+ghost use Rattle.gfx_planner.specs.Passes.{FitsAt, MayGoInPasses, is_in_passes, passes_as};
 ghost use Rattle.gfx_planner.specs.Planned.{MaySend, SendsMade, SendsMessages};
+ghost use Rattle.gfx_planner.specs.Slots.{PlanFitsCache};
+ghost use Rattle.gfx_planner.specs.Want.{sides_kept};
 ghost use Rattle.gfx_planner.specs.Wire.{CanBeSent, made_as, paint_message};
 
 use crate::clear_paint::{ClearPaint, clear_paint};
 use crate::messages::step_messages;
 use crate::paint::colours;
+use crate::passes::{end_touched, is_in_passes, passes_messages};
 use crate::sender::Sender;
 use gfx_base::{Bytes, NoMemory, Rect, moved_to};
+use gfx_live::Passes;
 use gfx_script::{Kind, Script, Step};
 use gfx_slot_plan::SlotPlan;
 use std::alloc::Global;
 
-/// Puts out the messages of a step that goes as a kind, and applies them.
+/// Puts out the messages of a step that goes as a kind, and applies them. Tiles that it paints in passes are live from
+/// then on, and those that it changes otherwise no more.
 pub fn send_step(
+    alloc: Global,
+    sender: &mut Sender,
+    plan: &mut SlotPlan,
+    passes: &mut Passes,
+    script: &Script,
+    step: &Step,
+    kind: Option<Kind>,
+    out: &mut Bytes,
+) -> Result<(), NoMemory>
+    requires numbers { IsStep step.now }
+    requires possible { CanBeSent (made_as script.now sender.old passes.old plan.old kind step.now) }
+    requires accepted { IfSome (made_as script.now sender.old passes.old plan.old kind step.now) (λ into. MaySend sender.old into.pdus) }
+    requires paint { IfSome (clear_paint_of step.now kind) (MayPaintClear script.now sender.old) }
+    requires passes { is_in_passes kind step.now ≡ true → MayGoInPasses script.now passes.old step.now }
+    requires plan { PlanFitsCache plan.old sender.old.cache }
+    requires fits { is_in_passes kind step.now ≡ false → FitsAt script.now (sides_kept plan.old sender.old.cache.slots) step.now }
+    ensures made { SendsMade result sender.old sender.new plan.new out.old out.new (made_as script.now sender.old passes.old plan.old kind step.now) }
+    ensures passes { OnOk result (passes.new ≡ passes_as script.now (sides_kept plan.old sender.old.cache.slots) sender.old.shown.surfaces passes.old kind step.now) }
+{
+    if is_in_passes(step, kind) {
+        return send_in_passes(alloc, sender, plan, passes, script, step, kind, out);
+    }
+    end_touched(script, sender.state(), plan, passes, step);
+    send_apart(alloc, sender, plan, script, step, kind, out)
+}
+
+/// The same of a step that is painted in passes.
+fn send_in_passes(
+    alloc: Global,
+    sender: &mut Sender,
+    plan: &SlotPlan,
+    passes: &mut Passes,
+    script: &Script,
+    step: &Step,
+    kind: Option<Kind>,
+    out: &mut Bytes,
+) -> Result<(), NoMemory>
+    requires in_passes { is_in_passes kind step.now ≡ true }
+    requires possible { CanBeSent (made_as script.now sender.old passes.old plan.now kind step.now) }
+    requires accepted { IfSome (made_as script.now sender.old passes.old plan.now kind step.now) (λ into. MaySend sender.old into.pdus) }
+    requires may { MayGoInPasses script.now passes.old step.now }
+    ensures made { SendsMade result sender.old sender.new plan.now out.old out.new (made_as script.now sender.old passes.old plan.now kind step.now) }
+    ensures passes { OnOk result (passes.new ≡ passes_as script.now (sides_kept plan.now sender.old.cache.slots) sender.old.shown.surfaces passes.old kind step.now) }
+{
+    let pdus = passes_messages(alloc, script, sender.state(), passes, plan, step, kind)?;
+    sender.send(pdus.as_slice(), out)
+}
+
+/// The same of another step, whose messages don't depend on what is live.
+fn send_apart(
     alloc: Global,
     sender: &mut Sender,
     plan: &mut SlotPlan,
@@ -27,10 +84,11 @@ pub fn send_step(
     out: &mut Bytes,
 ) -> Result<(), NoMemory>
     requires numbers { IsStep step.now }
-    requires possible { CanBeSent (made_as script.now sender.old plan.old kind step.now) }
-    requires accepted { IfSome (made_as script.now sender.old plan.old kind step.now) (λ into. MaySend sender.old into.pdus) }
+    requires apart { is_in_passes kind step.now ≡ false }
+    requires possible { CanBeSent (made_as script.now sender.old at_start plan.old kind step.now) }
+    requires accepted { IfSome (made_as script.now sender.old at_start plan.old kind step.now) (λ into. MaySend sender.old into.pdus) }
     requires paint { IfSome (clear_paint_of step.now kind) (MayPaintClear script.now sender.old) }
-    ensures { SendsMade result sender.old sender.new plan.new out.old out.new (made_as script.now sender.old plan.old kind step.now) }
+    ensures { SendsMade result sender.old sender.new plan.new out.old out.new (made_as script.now sender.old at_start plan.old kind step.now) }
 {
     match clear_paint(step, kind) {
         Some(paint) => send_paint(alloc, sender, script, &paint, out),

@@ -1,10 +1,9 @@
-use Rattle.std.proofs.Common.{◌≡◌, ◌∙◌, Bool, true, false, refl}
-use Rattle.std.specs.FinMap.{get}
-use Rattle.std.specs.List.{slice_get}
+use Rattle.std.proofs.Common.{◌≡◌, true, false}
 use Rattle.gfx_base.specs.Geometry.{width_of, height_of}
+use Rattle.gfx_live.specs.Live.{at_start}
 use Rattle.gfx_slot_plan.specs.Plan.{keeps, slot_of}
 use Rattle.gfx_planner.specs.Wire.{made_as}
-use Rattle.gfx_planner.proofs.StepMessages.{is_chosen, is_shown_from, is_emptied, raw_painted, alone_made}
+use Rattle.gfx_planner.proofs.StepMessages.{is_chosen, is_shown_from, is_emptied, raw_made, raw_made_is}
 use Rattle.gfx_planner.proofs.messages.step_messages.Goals as goal
 
 pub keep_rect-requires : goal.keep_rect-requires
@@ -21,27 +20,22 @@ unfolding made_as
 forget_key-requires c = is_emptied (slot_of c.in-Forget.key c.args.plan.now.places) _ (rw c.in-Forget.is at c.requires.possible)
 
 pub prove-unreachable-requires : goal.prove-unreachable-requires
-unfolding made_as
 prove-unreachable-requires c =
-    let goes = raw_painted c.args.state.now.clear (get c.args.state.now.shown.surfaces c.in-Paint.id) (slice_get c.args.script.now.pictures c.in-Paint.picture) c.args.kind c.in-Paint.kind c.in-Paint.glyph
-    c.in-Paint.id c.in-Paint.picture c.in-Paint.at _ (rw c.in-Paint.is at c.requires.possible) (rw c.in-Paint.is at c.requires.messages) in
+    let goes = raw_made c.args.script.now c.args.state.now at_start c.args.plan.now c.args.kind c.in-Paint.kind c.in-Paint.glyph c.in-Paint.id c.in-Paint.picture c.in-Paint.at c.args.step.now
+    c.in-Paint.is c.requires.possible c.requires.messages c.requires.apart in
     absurd (let no : false ≡ true = rw goes.raw at c.if-prove.ensures in cc)
 
 pub paint_picture-requires-clause-there : goal.paint_picture-requires-clause-there
-unfolding made_as
 paint_picture-requires-clause-there c =
-    (raw_painted c.args.state.now.clear (get c.args.state.now.shown.surfaces c.in-Paint.id) (slice_get c.args.script.now.pictures c.in-Paint.picture) c.args.kind c.in-Paint.kind c.in-Paint.glyph
-    c.in-Paint.id c.in-Paint.picture c.in-Paint.at _ (rw c.in-Paint.is at c.requires.possible) (rw c.in-Paint.is at c.requires.messages)).there
+    (raw_made c.args.script.now c.args.state.now at_start c.args.plan.now c.args.kind c.in-Paint.kind c.in-Paint.glyph c.in-Paint.id c.in-Paint.picture c.in-Paint.at c.args.step.now
+    c.in-Paint.is c.requires.possible c.requires.messages c.requires.apart).there
 
 pub paint_picture-requires-clause-fits : goal.paint_picture-requires-clause-fits
-unfolding made_as
 paint_picture-requires-clause-fits c =
-    (raw_painted c.args.state.now.clear (get c.args.state.now.shown.surfaces c.in-Paint.id) (slice_get c.args.script.now.pictures c.in-Paint.picture) c.args.kind c.in-Paint.kind c.in-Paint.glyph
-    c.in-Paint.id c.in-Paint.picture c.in-Paint.at _ (rw c.in-Paint.is at c.requires.possible) (rw c.in-Paint.is at c.requires.messages)).fits
+    (raw_made c.args.script.now c.args.state.now at_start c.args.plan.now c.args.kind c.in-Paint.kind c.in-Paint.glyph c.in-Paint.id c.in-Paint.picture c.in-Paint.at c.args.step.now
+    c.in-Paint.is c.requires.possible c.requires.messages c.requires.apart).fits
 
 pub returns-in_ok-paint_picture-in-Paint : goal.returns-in_ok-paint_picture-in-Paint
-unfolding made_as
 returns-in_ok-paint_picture-in-Paint c =
-    let goes = raw_painted c.args.state.now.clear (get c.args.state.now.shown.surfaces c.in-Paint.id) (slice_get c.args.script.now.pictures c.in-Paint.picture) c.args.kind c.in-Paint.kind c.in-Paint.glyph
-    c.in-Paint.id c.in-Paint.picture c.in-Paint.at c.args.plan.now (rw c.in-Paint.is at c.requires.possible) (rw c.in-Paint.is at c.requires.messages) in
-    rw c.in-Paint.is (alone_made c.alone-in-Paint.result (λ pdus. pdus.items) _ c.in_ok-paint_picture-in-Paint.field-0 c.args.plan.now (goes.same ∙ c.in_ok-paint_picture-in-Paint.ensures) c.alone-in-Paint.ensures)
+    raw_made_is c.alone-in-Paint.result (λ pdus. pdus.items) c.args.script.now c.args.state.now at_start c.args.plan.now c.args.kind c.in-Paint.kind c.in-Paint.glyph c.in-Paint.id c.in-Paint.picture c.in-Paint.at c.args.step.now
+    c.in_ok-paint_picture-in-Paint.field-0 c.in-Paint.is c.requires.possible c.requires.messages c.requires.apart c.in_ok-paint_picture-in-Paint.ensures c.alone-in-Paint.ensures

@@ -1,11 +1,24 @@
-use Rattle.std.proofs.Common.{◌≡◌, ◌∙◌, Some, sym, subst}
+use Rattle.std.proofs.Common.{◌≡◌, false, subst, sym, rules}
 use Rattle.std.specs.Prelude.{IfSome}
-use Rattle.gfx_planner.specs.ClearPaints.{MayPaintClear, clear_paint_of}
-use Rattle.gfx_planner.proofs.ClearPaintLemmas.{made_sent}
+use Rattle.gfx_live.specs.Live.{at_start}
+use Rattle.gfx_planner.specs.Passes.{is_in_passes}
+use Rattle.gfx_planner.specs.Planned.{MaySend, SendsMade}
+use Rattle.gfx_planner.specs.Wire.{CanBeSent}
+use Rattle.gfx_planner.proofs.PassesSending.{made_apart}
 use Rattle.gfx_planner.proofs.step_sending.send_step.Goals as goal
 
-pub returns-in-Some : goal.returns-in-Some
-returns-in-Some c =
-    let is : clear_paint_of c.args.step.now c.args.kind ≡ Some c.in-Some.paint = sym c.clear_paint.ensures ∙ c.in-Some.is in
-    made_sent c.send_paint.result c.args.script.now c.args.sender.now c.send_paint.new.sender c.args.plan.now c.args.kind c.args.step.now c.in-Some.paint c.args.out.now c.send_paint.new.out
-    (subst (λ o. IfSome o (MayPaintClear c.args.script.now c.args.sender.now)) is c.requires.paint) is c.send_paint.ensures
+pub send_apart-requires-clause-possible : goal.send_apart-requires-clause-possible
+send_apart-requires-clause-possible c =
+    let apart : is_in_passes c.args.kind c.args.step.now ≡ false = search rules in
+    subst CanBeSent (made_apart c.args.script.now c.args.sender.now c.args.passes.now at_start c.args.plan.now c.args.kind c.args.step.now apart) c.requires.possible
+
+pub send_apart-requires-clause-accepted : goal.send_apart-requires-clause-accepted
+send_apart-requires-clause-accepted c =
+    let apart : is_in_passes c.args.kind c.args.step.now ≡ false = search rules in
+    subst (λ o. IfSome o (λ into. MaySend c.args.sender.now into.pdus)) (made_apart c.args.script.now c.args.sender.now c.args.passes.now at_start c.args.plan.now c.args.kind c.args.step.now apart) c.requires.accepted
+
+pub returns-clause-made : goal.returns-clause-made
+returns-clause-made c =
+    let apart : is_in_passes c.args.kind c.args.step.now ≡ false = search rules in
+    subst (SendsMade c.send_apart.result c.args.sender.now c.send_apart.new.sender c.send_apart.new.plan c.args.out.now c.send_apart.new.out)
+    (sym (made_apart c.args.script.now c.args.sender.now c.args.passes.now at_start c.args.plan.now c.args.kind c.args.step.now apart)) c.send_apart.ensures

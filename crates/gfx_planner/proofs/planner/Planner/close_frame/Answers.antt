@@ -21,4 +21,4 @@ send_one-requires-clause-accepted c =
 
 pub returns : goal.returns
 returns c =
-    rw (← c.self.view_is) (closes c.self.inside.sender c.send_one.new.self c.self.inside.plan c.self.inside.frames c.self.inside.spent c.args.out.now c.send_one.new.out c.if-self.false c.in_ok-send_one.ensures)
+    rw (← c.self.view_is) (closes c.self.inside.sender c.send_one.new.self c.self.inside.plan c.self.inside.passes c.self.inside.frames c.self.inside.spent c.args.out.now c.send_one.new.out c.if-self.false c.in_ok-send_one.ensures)

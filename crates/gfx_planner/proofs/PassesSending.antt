@@ -1,0 +1,76 @@
+-- What is sent of a step that is painted in passes, and of one that isn't.
+use Rattle.std.proofs.Common.{ℕ, ◌≡◌, true, false, ◌≤◌, Option, Some, None, refl, sym, ◌∙◌, arith}
+use Rattle.std.specs.Prelude.{IfSome}
+use Rattle.std.specs.FinMap.{get}
+use Rattle.std.specs.List.{slice_get}
+use Rattle.std.proofs.lemmas.Bool.Decides.{nat_tests}
+use Rattle.gfx_base.specs.declared.geometry.Point.{Point}
+use Rattle.gfx_base.specs.Geometry.{IsRect}
+use Rattle.gfx_live.specs.Cells.{has_pixels}
+use Rattle.gfx_live.specs.Inside.{AreBy, IsBy}
+use Rattle.gfx_live.specs.Live.{Live, Passes}
+use Rattle.gfx_prog_decode.specs.Records.{Records}
+use Rattle.gfx_prog_encode.specs.declared.send.TileSend.{TileSend}
+use Rattle.gfx_quant.specs.declared.setting.Setting.{Setting}
+use Rattle.gfx_script.specs.Checks.{held_after}
+use Rattle.gfx_script.specs.declared.picture.Picture.{Picture as Source}
+use Rattle.gfx_script.specs.declared.step.Kind.{Kind}
+use Rattle.gfx_script.specs.declared.step.Step.{Step}
+use Rattle.gfx_script.specs.declared.step.Step.TheVariants.{Improve, Paint}
+use Rattle.gfx_script.specs.Kinds.{as_kind}
+use Rattle.gfx_script.specs.Pictures.{IsDrawn}
+use Rattle.gfx_script.specs.Scripted.{Script}
+use Rattle.gfx_script.specs.Writes.{place_of}
+use Rattle.gfx_slot_plan.specs.Plan.{Plan}
+use Rattle.gfx_state.specs.State.{State}
+use Rattle.gfx_surface.specs.Picture.{Picture}
+use Rattle.gfx_surface_map.specs.Surfaces.{Surfaces}
+use Rattle.gfx_planner.specs.Agree.{IsAllowed}
+use Rattle.gfx_planner.specs.Passes.{IsPlaced, MayGoInPasses, is_in_passes}
+use Rattle.gfx_planner.specs.Tiles.{HoldsTiles}
+use Rattle.gfx_planner.specs.Wire.{Server, made_as}
+use Rattle.gfx_planner.proofs.PaintSteps.{may_paint}
+use Rattle.gfx_planner.proofs.Seen.{seen}
+
+-- the messages of a step that isn't painted in passes don't depend on what is live
+pub made_apart : (script : Script) (state : State) (a b : Passes) (plan : Plan) (kind : Option Kind) (step : Step) → is_in_passes kind step ≡ false → made_as script state a plan kind step ≡ made_as script state b plan kind step
+unfolding made_as
+made_apart script state a b plan kind (Paint id number at named glyph) apart = rw apart refl
+made_apart script state a b plan kind (Improve id) apart = absurd cc
+made_apart script state a b plan kind step apart = refl
+
+-- a picture has pixels wherever it lies
+has_some : (picture : Source) (at : Point) → IsDrawn picture → has_pixels (place_of picture at) ≡ true
+has_some picture at sides =
+    let wide : 1 ≤ picture.width = sides.width_from in
+    let high : 1 ≤ picture.height = sides.height_from in
+    grind (arith, nat_tests)
+
+-- the live tiles are of the setting of the script
+live_by : (setting : Setting) (live : Live) (records : Records) (surfaces : Surfaces) → HoldsTiles setting live records surfaces → AreBy setting live
+live_by setting live records surfaces holds key = by (get live key) refl (get surfaces key.surface) refl
+  where
+    by : (o : Option TileSend) → get live key ≡ o → (s : Option Picture) → get surfaces key.surface ≡ s → IfSome o (IsBy setting)
+    by None there s surface = tt
+    by (Some send) there None surface = absurd (let no : Some send ≡ None = sym there ∙ holds.others key surface in cc)
+    by (Some send) there (Some picture) surface = ((holds.each key.surface picture surface).each key send refl there).1.0.coded
+
+placed_there : (script : Script) (number : ℕ) (at : Point) (o : Option Source) (picture : Source) → o ≡ Some picture → IsRect (place_of picture at) → IsDrawn picture
+    → IfSome o (λ source. IsRect (place_of source at) × (has_pixels (place_of source at) ≡ true))
+placed_there script number at o picture is place sides = rw is (place, has_some picture at sides)
+
+-- an allowed step has a place that fits its fields and has pixels
+is_placed : (script : Script) (server : Server) (kind : Option Kind) (step : Step) → IsAllowed script server (as_kind kind step) → IsPlaced script step
+unfolding IsPlaced held_after
+is_placed script server kind (Paint id number at named glyph) allowed =
+    let m = (may_paint script server allowed.held allowed.after id number at named glyph (seen script allowed.held server allowed.holds) allowed.numbers.1 allowed.numbers.2 allowed.checked).0 in
+    placed_there script number at (slice_get script.pictures number) m.picture m.drawn m.place m.sides
+is_placed script server kind step allowed = tt
+
+-- and so may go in passes
+pub may_go : (script : Script) (server : Server) (kind : Option Kind) (step : Step) → IsAllowed script server (as_kind kind step) → MayGoInPasses script server.passes step
+may_go script server kind step allowed = record {
+  accepted = allowed.holds.setting.accepted;
+  by = live_by script.setting server.passes.live server.state.records server.state.shown.surfaces allowed.holds.tiles;
+  placed = is_placed script server kind step allowed;
+}

@@ -1,0 +1,72 @@
+-- What is painted in passes: which tiles a step sends, and which are live after it. This project's own rule.
+use Rattle.std.specs.Prelude.{◌≡◌, ℕ, Bool, true, false, IfSome, Option, Some, None, if◌then◌else◌}
+use Rattle.std.specs.FinMap.{get}
+use Rattle.std.specs.List.{AllByRecursion, slice_get}
+use Rattle.gfx_base.specs.declared.geometry.Point.{Point}
+use Rattle.gfx_base.specs.Geometry.{IsRect}
+use Rattle.gfx_live.specs.Cells.{has_pixels}
+use Rattle.gfx_live.specs.Inside.{AreBy}
+use Rattle.gfx_live.specs.Live.{Passes, ended_in, improved_sends, painted_sends, passes_after, without_surface}
+use Rattle.gfx_quant.specs.Setting.{is_accepted}
+use Rattle.gfx_script.specs.declared.held.Sides.{Sides}
+use Rattle.gfx_script.specs.declared.picture.Picture.{Picture as Source}
+use Rattle.gfx_script.specs.declared.step.Kind.{Kind}
+use Rattle.gfx_script.specs.declared.step.Step.{Step}
+use Rattle.gfx_script.specs.declared.step.Step.TheVariants.{Delete, Improve, Paint}
+use Rattle.gfx_script.specs.Kinds.{is_progressive}
+use Rattle.gfx_script.specs.Scripted.{Script}
+use Rattle.gfx_script.specs.Writes.{Area, place_of, writes_by}
+use Rattle.gfx_surface.specs.Picture.{Picture}
+use Rattle.gfx_surface_map.specs.Surfaces.{Surfaces}
+
+-- a paint goes in passes
+abbrev pub goes_in_passes : Option Kind → Bool
+goes_in_passes None = false
+goes_in_passes (Some kind) = is_progressive kind
+
+-- a step is painted in passes
+abbrev pub is_in_passes : Option Kind → Step → Bool
+is_in_passes kind (Paint id picture at named glyph) = goes_in_passes kind
+is_in_passes kind (Improve id) = true
+is_in_passes kind step = false
+
+-- a change in an area, if there is one, ends the tiles of the cells that it touches
+unfoldable pub ended_by : Passes → Option Area → Passes
+ended_by passes None = passes
+ended_by passes (Some written) = record passes { live = ended_in passes.live written }
+
+-- a picture is painted in passes: its tiles are sent at the first level
+unfoldable pub painted_passes : Script → Passes → ℕ → Option Source → Point → Passes
+painted_passes script passes id None at = passes
+painted_passes script passes id (Some picture) at = passes_after id (painted_sends script passes.live id picture (place_of picture at)) passes
+
+-- the live tiles of a surface are raised
+unfoldable pub improved_passes : Passes → ℕ → Option Picture → Passes
+improved_passes passes id None = passes
+improved_passes passes id (Some surface) = passes_after id (improved_sends passes.live id surface.width surface.height) passes
+
+-- after a step that goes as a kind, on bitmaps of these sides and on these surfaces: a step that isn't in passes ends
+-- the tiles of the cells in which it writes
+unfoldable pub passes_as : Script → (ℕ → Option Sides) → Surfaces → Passes → Option Kind → Step → Passes
+passes_as script sides_of surfaces passes kind (Delete id) = record passes { live = without_surface passes.live id }
+passes_as script sides_of surfaces passes kind (Improve id) = improved_passes passes id (get surfaces id)
+passes_as script sides_of surfaces passes kind (Paint id picture at named glyph) =
+    if goes_in_passes kind then painted_passes script passes id (slice_get script.pictures picture) at
+    else ended_by passes (writes_by script sides_of (Paint id picture at named glyph))
+passes_as script sides_of surfaces passes kind step = ended_by passes (writes_by script sides_of step)
+
+-- what a step that is painted in passes needs beside what is there: an accepted setting, by which all live tiles are,
+-- and a place that fits its fields and has pixels
+unfoldable pub IsPlaced : Script → Step → Type 0
+IsPlaced script (Paint id picture at named glyph) =
+    IfSome (slice_get script.pictures picture) (λ source. IsRect (place_of source at) × (has_pixels (place_of source at) ≡ true))
+IsPlaced script step = Unit {0}
+
+pub record MayGoInPasses (script : Script) (passes : Passes) (step : Step) : Type 0 where
+  pub accepted : is_accepted script.setting ≡ true
+  pub by : AreBy script.setting passes.live
+  pub placed : IsPlaced script step
+
+-- where a step writes, its rectangles fit their fields
+unfoldable pub FitsAt : Script → (ℕ → Option Sides) → Step → Type 0
+FitsAt script sides_of step = IfSome (writes_by script sides_of step) (λ written. AllByRecursion IsRect written.rects)

@@ -10,11 +10,12 @@ use Rattle.gfx_script.specs.Checks.{Held, held_after, held_through, rects_filled
 use Rattle.gfx_script.specs.Kinds.{KindedStep, as_kind}
 use Rattle.gfx_script.specs.Script.{is_frame, step_at}
 use Rattle.gfx_script.specs.Scripted.{Script}
-use Rattle.gfx_script.specs.Writes.{Area, writes_plainly}
+use Rattle.gfx_script.specs.Writes.{Area, writes_by, writes_plainly}
 use Rattle.gfx_script.specs.declared.error.ScriptKind.{ScriptKind}
 use Rattle.gfx_script.specs.declared.step.Kind.{Kind}
 use Rattle.gfx_script.specs.declared.step.Step.{Step}
-use Rattle.gfx_script.specs.declared.step.Step.TheVariants.{Surface, Delete, Reset, Map, Fill, Copy, Keep, Show, Forget, Paint, Frame}
+use Rattle.gfx_script.specs.declared.step.Step.TheVariants.{Surface, Delete, Reset, Map, Fill, Copy, Keep, Show, Forget, Paint, Improve, Frame}
+use Rattle.gfx_planner.specs.Passes.{ended_by, passes_as}
 use Rattle.gfx_planner.specs.Want.{Wanted, wanted_as, wanted_after}
 use Rattle.gfx_window.specs.Superseded.{plain_area, shows, covers, is_covered, is_left_out}
 use Rattle.gfx_window.specs.declared.window.Queued.{Queued}
@@ -31,13 +32,13 @@ wanted_then script wanted items = fold (wanted_after script) wanted (steps_of sc
 
 -- an item that is a step
 then-some : (script : Script) (wanted : Wanted) (item : Queued) (items : List Queued) (step : Step) → step_at script.steps item.step ≡ Some step
-    → wanted_then script wanted (item ∷ items) ≡ wanted_then script (wanted_as script wanted item.kind step) items
+    → wanted_then script wanted (item ∷ items) ≡ wanted_then script (wanted_after script wanted (as_kind item.kind step)) items
 then-some script wanted item items step there =
     ap (λ o. fold (wanted_after script) wanted (cons_option (option_map (as_kind item.kind) o) (steps_of script items))) there
 
 -- a frame changes nothing
-frame_stays : (script : Script) (wanted : Wanted) (kind : Option Kind) (step : Step) → is_frame step ≡ true → wanted_as script wanted kind step ≡ wanted
-unfolding wanted_as
+frame_stays : (script : Script) (wanted : Wanted) (kind : Option Kind) (step : Step) → is_frame step ≡ true → wanted_after script wanted (as_kind kind step) ≡ wanted
+unfolding wanted_as passes_as writes_by ended_by
 frame_stays script wanted kind Frame is = refl
 frame_stays script wanted kind (Surface id width height format) is = absurd cc
 frame_stays script wanted kind (Delete id) is = absurd cc
@@ -49,6 +50,7 @@ frame_stays script wanted kind (Keep id key rect) is = absurd cc
 frame_stays script wanted kind (Show key to points) is = absurd cc
 frame_stays script wanted kind (Forget key) is = absurd cc
 frame_stays script wanted kind (Paint id picture at named glyph) is = absurd cc
+frame_stays script wanted kind (Improve id) is = absurd cc
 
 -- what is wanted after these items is the same after two states that are alike but in an area
 abbrev Hides : Script → Area → List Queued → Type 0
@@ -56,7 +58,7 @@ Hides script area items = (v w : Wanted) → is_covered script area items ≡ tr
 
 hides-step : (script : Script) (area : Area) (kind : Option Kind) (step : Step) (items : List Queued) (plain : Option Area) (v w : Wanted) → writes_plainly script kind step ≡ plain
     → Hides script area items → (covers area plain || ((is_some plain || is_frame step) && is_covered script area items)) ≡ true → AlikeBut area v w
-    → wanted_then script (wanted_as script v kind step) items ≡ wanted_then script (wanted_as script w kind step) items
+    → wanted_then script (wanted_after script v (as_kind kind step)) items ≡ wanted_then script (wanted_after script w (as_kind kind step)) items
 hides-step script area kind step items None v w plain again covered alike =
     let h = both (is_frame step) (is_covered script area items) covered in
     ap (λ u. wanted_then script u items) (frame_stays script v kind step h.0)
@@ -65,10 +67,10 @@ hides-step script area kind step items None v w plain again covered alike =
 hides-step script area kind step items (Some later) v w plain again covered alike =
     let draws = plain-draws script kind step later plain in
     elim (cases_Bool (covers area (Some later))) [
-      | inl here ↦ ap (λ u. wanted_then script u items) (alike-covered area later (λ u. wanted_as script u kind step) v w draws here alike)
+      | inl here ↦ ap (λ u. wanted_then script u items) (alike-covered area later (λ u. wanted_after script u (as_kind kind step)) v w draws here alike)
       | inr not_here ↦
-          again (wanted_as script v kind step) (wanted_as script w kind step) (either_rest (covers area (Some later)) (is_covered script area items) covered not_here)
-          (alike-later area later (λ u. wanted_as script u kind step) v w draws alike)
+          again (wanted_after script v (as_kind kind step)) (wanted_after script w (as_kind kind step)) (either_rest (covers area (Some later)) (is_covered script area items) covered not_here)
+          (alike-later area later (λ u. wanted_after script u (as_kind kind step)) v w draws alike)
     ]
 
 hides-item : (script : Script) (area : Area) (item : Queued) (items : List Queued) (o : Option Step) (v w : Wanted) → step_at script.steps item.step ≡ o
@@ -89,11 +91,11 @@ hides script area (item ∷ items) v w covered alike =
 
 -- an item that is left out isn't seen
 left-step : (script : Script) (kind : Option Kind) (step : Step) (behind : List Queued) (plain : Option Area) (wanted : Wanted) → writes_plainly script kind step ≡ plain
-    → is_left_out script plain behind ≡ true → wanted_then script (wanted_as script wanted kind step) behind ≡ wanted_then script wanted behind
+    → is_left_out script plain behind ≡ true → wanted_then script (wanted_after script wanted (as_kind kind step)) behind ≡ wanted_then script wanted behind
 left-step script kind step behind None wanted plain left = absurd cc
 left-step script kind step behind (Some area) wanted plain left =
-    hides script area behind (wanted_as script wanted kind step) wanted left
-    (alike-self area (λ u. wanted_as script u kind step) wanted (plain-draws script kind step area plain))
+    hides script area behind (wanted_after script wanted (as_kind kind step)) wanted left
+    (alike-self area (λ u. wanted_after script u (as_kind kind step)) wanted (plain-draws script kind step area plain))
 
 left-item : (script : Script) (item : Queued) (behind : List Queued) (o : Option Step) (wanted : Wanted) → step_at script.steps item.step ≡ o
     → is_left_out script (option_and_then (writes_plainly script item.kind) o) behind ≡ true → wanted_then script wanted (item ∷ behind) ≡ wanted_then script wanted behind
@@ -148,7 +150,8 @@ paint_holds held after id picture at named glyph e =
 plain_holds : (script : Script) (kind : Option Kind) (step : Step) (plain : Area) (held after : Held) → writes_plainly script kind step ≡ Some plain → held_after held step ≡ Ok after → after ≡ held
 unfolding writes_plainly held_after
 plain_holds script kind (Fill id colour rects) plain held after there e = fill_holds held after id rects e
-plain_holds script kind (Paint id picture at named glyph) plain held after there e = paint_holds held after id picture at named glyph e
+plain_holds script None (Paint id picture at named glyph) plain held after there e = absurd cc
+plain_holds script (Some one) (Paint id picture at named glyph) plain held after there e = paint_holds held after id picture at named glyph e
 plain_holds script kind (Surface id width height format) plain held after there e = absurd cc
 plain_holds script kind (Delete id) plain held after there e = absurd cc
 plain_holds script kind (Reset width height) plain held after there e = absurd cc
@@ -157,6 +160,7 @@ plain_holds script kind (Copy from to rect points) plain held after there e = ab
 plain_holds script kind (Keep id key rect) plain held after there e = absurd cc
 plain_holds script kind (Show key to points) plain held after there e = absurd cc
 plain_holds script kind (Forget key) plain held after there e = absurd cc
+plain_holds script kind (Improve id) plain held after there e = absurd cc
 plain_holds script kind Frame plain held after there e = absurd cc
 
 -- one step, and those behind it

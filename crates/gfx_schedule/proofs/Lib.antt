@@ -1,5 +1,6 @@
 pub mod Lists
 pub mod LeavingPictures
+pub mod LeavingTiles
 pub mod LeavingStates
 pub mod LeavingSteps
 pub mod LeavingItems

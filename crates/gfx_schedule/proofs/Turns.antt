@@ -27,15 +27,12 @@ use Rattle.gfx_state.proofs.Effects.{history-nil, history-append, nothing}
 use Rattle.gfx_state.proofs.Runs.{eats-append, eats-nil}
 use Rattle.gfx_state.proofs.Sent.{sent-nil}
 use Rattle.gfx_state.proofs.Wider.{Wider_same, started_fresh}
-use Rattle.gfx_clear.proofs.Keeping.{rings_fresh}
 use Rattle.gfx_planner.specs.Joined.{frame_of, after_frame}
 use Rattle.gfx_planner.specs.Want.{want}
 use Rattle.gfx_planner.specs.Wire.{at_start}
 use Rattle.gfx_planner.proofs.Effects.{all_steps-none}
 use Rattle.gfx_planner.proofs.Lists.{all_both, all_front, all_behind}
-use Rattle.gfx_planner.proofs.Held.{holds-nothing}
-use Rattle.gfx_planner.proofs.Slots.{fits_cache-start}
-use Rattle.gfx_planner.proofs.Streams.{first_held}
+use Rattle.gfx_planner.proofs.Streams.{first_held, stands_at_start}
 use Rattle.gfx_window.specs.declared.window.Sent.{Sent}
 use Rattle.gfx_window.specs.Window.{has_room}
 use Rattle.gfx_schedule.specs.Frames.{frames_of}
@@ -566,14 +563,8 @@ beginning script kinded good fits =
         pending = refl;
         held = first_held script;
         checked = held_through-start (first_held script);
-        holds = record {
-          drawn = good.pictures;
-          same = refl;
-          surfaces = holds-nothing;
-          bitmaps = record { same = refl; limits = refl; fits_cache = fits_cache-start script.small; sides_fit = tt };
-          rings = rings_fresh;
-        };
-        agrees = record { shown = refl; slots = refl; plan = refl };
+        holds = (stands_at_start script good).holds;
+        agrees = (stands_at_start script good).agrees;
         frame = refl;
         frames = omega arith;
       };

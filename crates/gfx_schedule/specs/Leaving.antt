@@ -36,7 +36,8 @@ abbrev pub LeavingIsSuperseding : Type 0
 LeavingIsSuperseding = (script : Script) (pending : List Queued) → KeepsByPlace script pending
 
 -- what is wanted, whatever it is, is the same after the items that are kept as after all of them: each
--- surface with each pixel, the output, what is mapped to it, and the bitmaps with their slots
+-- surface with each pixel, the output, what is mapped to it, the bitmaps with their slots, and the tiles that
+-- may be raised
 abbrev pub LeavingIsNotSeen : Type 0
 LeavingIsNotSeen =
     (script : Script) (wanted : Wanted) (items : List Queued)

@@ -1,7 +1,8 @@
 ghost use Rattle.gfx_schedule.specs.Leaving.{LeavingIsAllowed, LeavingIsNotSeen, LeavingIsSuperseding, LeavingOnlyLeaves};
 
 /// A frame without the pending items that are superseded leads to what is wanted after all of them,
-/// whatever was wanted before it: the same pixels on each surface, the same maps, the same bitmaps.
+/// whatever was wanted before it: the same pixels on each surface, the same maps, the same bitmaps, the same
+/// tiles that may be raised.
 pub fn leaving_is_not_seen()
     ensures { LeavingIsNotSeen }
 {}

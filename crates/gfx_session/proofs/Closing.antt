@@ -1,15 +1,18 @@
 -- What a call of a server's end comes to.
-use Rattle.std.proofs.Common.{◌≡◌, ℕ, Bool, true, false, List, [], ◌∷◌, length, map, Ok, refl, sym, ap, ◌∙◌, subst, arith}
+use Rattle.std.proofs.Common.{◌≡◌, ℕ, Bool, true, false, List, [], ◌∷◌, length, map, Some, None, is_some, Ok, Err, refl, sym, ap, ◌∙◌, subst, arith}
 use Rattle.std.proofs.lemmas.List.{length-map}
 use Rattle.gfx_schedule.specs.Hearing.{Heard, listening, hears}
 use Rattle.gfx_schedule.specs.Plan.{InPlan}
+use Rattle.gfx_schedule.specs.ServerEnd.{Stop, Refused as refuses, Unknown as unknown}
 use Rattle.gfx_script.specs.Script.{IsAccepted}
 use Rattle.gfx_script.specs.Scripted.{Script}
 use Rattle.gfx_window.specs.declared.window.Sent.{Sent}
-use Rattle.gfx_session.specs.Kept.{digest_in, own_steps, InStep, IsServerEnd}
-use Rattle.gfx_session.specs.Listening.{Beside}
+use Rattle.gfx_session.specs.Kept.{digest_in, own_steps, InStep, IsServerEnd, Stands}
+use Rattle.gfx_session.specs.Listening.{Amid, Beside, Hears}
 use Rattle.gfx_session.specs.Serving.{Takes, Listens, taken_of}
 use Rattle.gfx_session.specs.declared.server_end.ServerEnd.{ServerEnd}
+use Rattle.gfx_session.specs.declared.server_end.ServerFault.{ServerFault}
+use Rattle.gfx_session.specs.declared.server_end.ServerFault.TheVariants.{Refused, Ack, Memory, Closed}
 use Rattle.gfx_session.specs.declared.server_end.listening.Taken.{Taken}
 
 -- what every server's end has stays
@@ -45,6 +48,37 @@ closed_too new closed i = record {
   good = i.good;
   in_step = λ fresh. let s = i.in_step fresh in record { at = s.at; gone = s.gone; waiting = s.waiting; plan = s.plan; last = s.last; window = s.window; planned = s.planned };
 }
+
+-- a server's end that a fault closes stands for the schedule's that has stopped
+stops : (before now : List ℕ) (had has : List Taken) (new : ServerEnd) (heard : Heard) (why : Stop) → Amid before now had has new heard → heard.end.stopped ≡ Some why → Stands (record new { closed = true }) heard.end
+stops before now had has new heard why a is = record {
+  fresh = a.fresh;
+  left = a.left;
+  last = a.last;
+  window = a.window;
+  planned = a.planned;
+  ends = a.ends;
+  even = a.even;
+  confirmed = a.confirmed;
+  closed = sym (ap is_some is);
+  heard = λ none. absurd (let no : None ≡ Some why = sym none ∙ is in cc);
+  short = λ none. absurd (let no : None ≡ Some why = sym none ∙ is in cc);
+}
+
+-- what a fault leaves that closes it
+pub closed_by : (closed : Bool) (fault : ServerFault) (old new : ServerEnd) (before now : List ℕ) (had has : List Taken) (piece : List ℕ) → closed ≡ false → Beside old new had has
+    → Hears (Err fault) old new before now had has piece → Listens closed (Err fault) old (record new { closed = true }) before now had has piece
+closed_by true fault old new before now had has piece unclosed b h = absurd cc
+closed_by false (Refused r) old new before now had has piece unclosed b h = (
+  b.script,
+  λ at stands. let x = h at stands in (stops before now had has new (hears old.script (listening at) piece) (refuses r) x.0 x.1, x.1, x.0.out),
+)
+closed_by false (Ack u) old new before now had has piece unclosed b h = (
+  b.script,
+  λ at stands. let x = h at stands in (stops before now had has new (hears old.script (listening at) piece) (unknown u) x.0 x.1, x.1, x.0.out),
+)
+closed_by false Memory old new before now had has piece unclosed b h = (b.script, (refl, h))
+closed_by false Closed old new before now had has piece unclosed b h = absurd h
 
 -- the count ---------------------------------------------------------------------------------------------------
 

@@ -80,7 +80,7 @@ opened_going script start window before now may wrote =
         numbers = may.may.numbers;
         kinds = may.may.kinds;
         held = may.may.held;
-        holds = subst (Holds script may.may.held) (sym opened) (let h = may.may.holds in record { drawn = h.drawn; same = h.same; surfaces = h.surfaces; bitmaps = h.bitmaps; rings = h.rings });
+        holds = subst (Holds script may.may.held) (sym opened) (let h = may.may.holds in record { drawn = h.drawn; same = h.same; surfaces = h.surfaces; bitmaps = h.bitmaps; setting = h.setting; tiles = h.tiles; number = h.number; rings = h.rings });
         after = may.may.after;
         checked = may.may.checked;
       };

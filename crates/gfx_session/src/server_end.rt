@@ -17,19 +17,24 @@ use gfx_window::{AckUnknown, Window};
 pub(crate) use listening::Taken;
 use std::alloc::Global;
 use std::collections::VecDeque;
+use thiserror::Error;
 
 /// Why a server's end takes no more bytes of its client.
-#[derive(Clone, Copy, Debug, PartialEq, Eq)]
+#[derive(Clone, Copy, Debug, PartialEq, Eq, Error)]
 pub enum ServerFault {
     /// A message is refused: ChannelLength, one of the refusals of a client's message, or CapsVersion where
     /// no version that is offered can be chosen, or the small cache would be, which the script's own client
     /// has not.
+    #[error("a message of the client is refused: {0}")]
     Refused(Refusal),
     /// An acknowledgement isn't of the oldest frame in flight.
+    #[error("frame {} is acknowledged, which is not the oldest in flight", .0.id)]
     Ack(AckUnknown),
     /// No memory is left.
+    #[error("no memory is left")]
     Memory,
     /// An earlier call answered one of the others.
+    #[error("an earlier call failed, and nothing is taken any more")]
     Closed,
 }
 

@@ -147,11 +147,19 @@ report "the example output" "0 " "$(ended $?)"
 report "the example output, the output" "same" "$(cmp -s "$work/out" "$examples/output.txt" && echo same)"
 report "the recording of a real server" "cd0976e038ed9c2cac37714d1eec4f5a36ba689aa7fb5ce8e61ebe6710708b53  -" \
     "$(xz -dc "$examples/gnome.bin.xz" | "$program" render | sha256sum)"
-for name in fill desktop output pictures text; do
+for name in fill desktop output pictures text passes; do
     "$program" encode < "$examples/$name.toml" > "$work/out" 2> "$work/err"
     report "the script $name" "0 " "$(ended $?)"
     report "the script $name, its stream" "same" "$(cmp -s "$work/out" "$examples/$name.bin" && echo same)"
 done
+
+# A picture in passes, after each of its frames.
+head -c 577 "$examples/passes.bin" | "$program" render > "$work/out" 2> "$work/err"
+report "the first pass" "same" "$(cmp -s "$work/out" "$examples/passes-1.txt" && echo same)"
+head -c 2636 "$examples/passes.bin" | "$program" render > "$work/out" 2> "$work/err"
+report "the second pass" "same" "$(cmp -s "$work/out" "$examples/passes-2.txt" && echo same)"
+"$program" render < "$examples/passes.bin" > "$work/out" 2> "$work/err"
+report "the last pass" "same" "$(cmp -s "$work/out" "$examples/passes-3.txt" && echo same)"
 
 "$program" session < "$examples/joined.toml" > "$work/out" 2> "$work/err"
 report "the session joined" "0 " "$(ended $?)"
@@ -199,15 +207,13 @@ if [ -n "$reference" ]; then
         answer "$way" "$seed" "$@"
         cmp -s "$work/out" "$work/wanted" && cmp -s "$work/err" "$work/wanted.err" || different="$different $seed"
     }
-    built="surface delete reset map fill copy paint kinds=raw,residual,bands,palette,plain glyph argb keep show forget clients"
-    # The client's end draws more than the server's sends.
-    drawn="surface delete reset map fill copy paint kinds=raw,residual,bands,palette,plain,progressive improve difference glyph argb keep show forget clients"
+    built="surface delete reset map fill copy paint kinds=raw,residual,bands,palette,plain,progressive improve difference glyph argb keep show forget clients"
     for way in whole cut pieces; do
         for words in "render" "render --output"; do
             different=
             for seed in $(seq "$seeds"); do
                 # shellcheck disable=SC2086
-                "$reference" --random-stream "$seed" $drawn > "$work/input"
+                "$reference" --random-stream "$seed" $built > "$work/input"
                 if [ $way = cut ]; then
                     RANDOM=$seed
                     size=$(stat -c %s "$work/input")

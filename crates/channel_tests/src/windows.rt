@@ -11,7 +11,7 @@ struct Case {
     left_out: &'static [usize],
 }
 
-const CASES: [Case; 4] = [
+const CASES: [Case; 5] = [
     // A fill that waits behind a later one of the same rectangle, with a frame between.
     Case {
         script: r##"
@@ -48,6 +48,20 @@ step = [
 { do = "fill", id = 1, colour = "0000ffff", rects = [[0, 0, 4, 4]] },
 { do = "copy", from = 1, to = 2, rect = [0, 0, 4, 4], points = [[0, 0]] },
 { do = "fill", id = 1, colour = "00ff00ff", rects = [[0, 0, 4, 4]] },
+{ do = "frame" },
+]
+"##,
+        left_out: &[],
+    },
+    // A paint in passes stands between.
+    Case {
+        script: r##"
+picture = [{ name = "a", width = 4, height = 4, pattern = "ramp" }]
+step = [
+{ do = "surface", id = 1, width = 8, height = 8 },
+{ do = "fill", id = 1, colour = "0000ffff", rects = [[0, 0, 4, 4]] },
+{ do = "paint", id = 1, picture = "a", at = [0, 0], kind = "progressive" },
+{ do = "fill", id = 1, colour = "00ff00ff", rects = [[0, 0, 8, 8]] },
 { do = "frame" },
 ]
 "##,

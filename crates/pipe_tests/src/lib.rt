@@ -12,6 +12,8 @@ mod encode;
 #[cfg(test)]
 mod examples;
 #[cfg(test)]
+mod passes;
+#[cfg(test)]
 mod progressive;
 #[cfg(test)]
 mod render;

@@ -1,4 +1,4 @@
-ghost use Rattle.std.specs.Prelude.{◌≡◌, ◌≤◌, ◌<◌, ◌^◌, [], true, false, suc, pos, negsuc, MatchBool, if◌then◌else◌};
+ghost use Rattle.std.specs.Prelude.{◌≡◌, ◌≤◌, ◌<◌, ◌-◌, ◌^◌, [], true, false, suc, pos, negsuc, MatchBool, if◌then◌else◌};
 ghost use Rattle.std.specs.Int.RustNames.{unsigned_abs};
 ghost use Rattle.gfx_bits.specs.Bits.{bits_of};
 ghost use Rattle.gfx_srl.specs.Steps.{ComesToValue, HasRead, ReadsNext, ReadsZero};
@@ -54,6 +54,23 @@ impl<'a> SrlReader<'a> {
         } else {
             self.read_value(n)
         }
+    }
+
+    /// How many zeros are known to come next, whatever their widths.
+    #[inline(always)]
+    pub fn zeros_ahead(&self) -> u32
+        ensures { result ≡ self.now.zeros }
+    {
+        self.zeros
+    }
+
+    /// Goes past so many of the zeros that are known to come next.
+    #[inline(always)]
+    pub fn pass_zeros(&mut self, count: u32)
+        requires { count ≤ self.old.zeros }
+        ensures { self.new ≡ record self.old { zeros = self.old.zeros - count } }
+    {
+        self.zeros -= count;
     }
 
     // Whether the next value is 0; it goes past it then, and else to the sign of the value.

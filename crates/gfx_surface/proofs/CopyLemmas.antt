@@ -6,7 +6,7 @@ use Rattle.std.proofs.lemmas.Nat.{mul-add-lt, row_fits}
 use Rattle.std.proofs.lemmas.Bool.{cases_lt, cases_eq}
 use Rattle.std.proofs.lemmas.Bool.Decides.{nat_tests}
 use Rattle.gfx_base.specs.declared.format.Format.{Format}
-use Rattle.gfx_base.specs.declared.format.Format.TheVariants.{Argb}
+use Rattle.gfx_base.specs.declared.format.Format.TheVariants.{Argb, Xrgb}
 use Rattle.gfx_base.specs.declared.geometry.Point.{Point}
 use Rattle.gfx_base.specs.declared.geometry.Rect.{Rect}
 use Rattle.gfx_base.specs.declared.pixel.Pixel.{Pixel}
@@ -283,3 +283,11 @@ map-shade_argb format pixels e = ap (λ (f : Format). map (shade f) pixels) e �
 -- a part of a list whose end is told by its length
 pub part : (start count : ℕ) (bytes : List ℕ) → take (start + count - start) (drop start bytes) ≡ take count (drop start bytes)
 part start count bytes = let same : start + count - start ≡ count = omega arith in ap (λ n. take n (drop start bytes)) same
+
+-- opaque pixels are as XRGB keeps them
+pub opaque_as_they_are : (from : List Pixel) → ((k : ℕ) → k < length from → (get_or from k no_pixel).a ≡ 255) → map (shade Xrgb) from ≡ from
+opaque_as_they_are [] all = refl
+opaque_as_they_are (pixel ∷ pixels) all =
+    let first : shade Xrgb pixel ≡ pixel = ap (λ a. record pixel { a = a }) (sym (all 0 (omega arith))) in
+    let rest = opaque_as_they_are pixels (λ k below. all (suc k) (omega arith)) in
+    λ i. first i ∷ rest i

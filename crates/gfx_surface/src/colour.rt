@@ -6,7 +6,7 @@ ghost use Rattle.gfx_surface.specs.Picture.{shade, zero_colour};
 use gfx_base::{Format, Pixel};
 
 /// The alpha of a pixel that nothing shines through.
-const OPAQUE: u8 = 255;
+pub const OPAQUE: u8 = 255;
 
 /// The colour of a new surface ([MS-RDPEGFX] leaves it open; this project's own rule).
 pub fn empty_colour(format: Format) -> Pixel

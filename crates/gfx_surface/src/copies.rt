@@ -1,11 +1,11 @@
 //! Rectangles of pixels taken from rows to other rows.
-ghost use Rattle.std.specs.Prelude.{◌≡◌, ◌≤◌, ◌+◌, ◌-◌, ◌*◌, length, map, slice_index_or, IsTrue};
+ghost use Rattle.std.specs.Prelude.{◌≡◌, ◌≤◌, ◌<◌, ◌+◌, ◌-◌, ◌*◌, ℕ, length, map, slice_index_or, IsTrue};
 ghost use Rattle.gfx_base.specs.Geometry.{lies_in, moved};
 ghost use Rattle.gfx_surface.specs.Picture.{shade, no_pixel};
 ghost use Rattle.gfx_base.specs.declared.format.Format.TheVariants.{Xrgb};
 ghost use Rattle.gfx_surface.specs.Rows.{WritesRows, WritesRun, taken_from};
 
-use crate::colour::shaded;
+use crate::colour::{OPAQUE, shaded};
 use crate::rows::{Sides, run_in_row};
 use gfx_base::{Format, Pixel, Point, Rect};
 
@@ -52,8 +52,39 @@ fn copy_pixels(from: &[Pixel], format: Format, pixels: &mut [Pixel])
 {
     match format {
         Format::Argb => pixels.copy_from_slice(from),
-        Format::Xrgb => shade_pixels(from, pixels),
+        Format::Xrgb => copy_opaque(from, pixels),
     }
+}
+
+/// Makes pixels those of another slice, without their alpha: all at once where they have none.
+fn copy_opaque(from: &[Pixel], pixels: &mut [Pixel])
+    requires { length pixels.old ≡ length from.now }
+    ensures { pixels.new ≡ map (shade Xrgb) from.now }
+{
+    if are_opaque(from) {
+        pixels.copy_from_slice(from);
+    } else {
+        shade_pixels(from, pixels);
+    }
+}
+
+/// Whether nothing shines through any pixel.
+// No early return: so it is done on many pixels at a time.
+fn are_opaque(from: &[Pixel]) -> bool
+    ensures { IsTrue result → (k : ℕ) → k < length from.now → (slice_index_or from.now k no_pixel).a ≡ 255 }
+{
+    let mut opaque = true;
+    for i in 0..from.len() {
+        opaque &= is_opaque(from[i]);
+    }
+    opaque
+}
+
+#[inline]
+fn is_opaque(pixel: Pixel) -> bool
+    ensures { IsTrue result → pixel.a ≡ 255 }
+{
+    pixel.a == OPAQUE
 }
 
 /// Makes pixels those of another slice, without their alpha.

@@ -10,3 +10,4 @@ pub mod Parts
 pub mod OneReading
 pub mod Making
 pub mod Said
+pub mod Blanks

@@ -13,7 +13,7 @@ use Rattle.gfx_tile_state.specs.declared.entries.Readers.{Readers}
 use Rattle.gfx_tile_state.specs.Entries.{Pass, AreEntries, Upgraded, pairs_from, raw_from, sum_after}
 use Rattle.gfx_tile_state.specs.Passes.{FitsOnto, LeavesKept, LeavesIt, StaysIn, IsSound, Part, ReadsFirst, TakesFirst, blank, added, summed}
 use Rattle.gfx_tile_state.specs.Shape.{AreAtMost, AreWithin}
-use Rattle.gfx_tile_state.proofs.Places.{at-added, length-added, is-coefficient, tests}
+use Rattle.gfx_tile_state.proofs.Places.{at-added, length-added, is-coefficient, same-plane, tests}
 
 pub fits-blank : (kept plane : List ℤ) → kept ≡ blank → ((k : ℕ) → k < 4096 → IsCoefficient (at plane k)) → FitsOnto kept plane
 fits-blank kept plane e small k h =
@@ -24,6 +24,13 @@ fits-blank kept plane e small k h =
 pub blank-small : (plane : List ℤ) → plane ≡ blank → (k : ℕ) → k < 4096 → IsCoefficient (at plane k)
 blank-small plane e k h =
     subst IsCoefficient (sym (ap (λ l. at l k) e ∙ get_or-replicate 4096 k (pos 0) (pos 0) h)) (record { least = omega (arith, ints); most = omega (arith, ints) })
+
+-- zeros add nothing
+pub added-blank : (plane : List ℤ) → length plane ≡ 4096 → added blank plane ≡ plane
+added-blank plane long =
+    let whole : length blank ≡ 4096 = length-replicate 4096 (pos 0) in
+    same-plane (added blank plane) plane 4096 (length-added blank plane (whole ∙ sym long) ∙ whole) long
+    (λ k h. at-added blank plane k (whole ∙ sym long) (omega (arith, whole)) ∙ ap (λ z. z +ℤ at plane k) (get_or-replicate 4096 k (pos 0) (pos 0) h) ∙ +ℤ_idl (at plane k))
 
 pub no-positions : AreAtMost 30 (replicate 10 0)
 no-positions k h = omega (arith, get_or-replicate {A = ℕ} 10 k 0 0 h)

@@ -4,7 +4,7 @@ use Rattle.std.specs.Prelude.{MatchBool}
 use Rattle.std.proofs.Math.IntN.{+ℤ_idr}
 use Rattle.std.proofs.lemmas.Bool.{lt-ltb}
 use Rattle.std.proofs.lemmas.Int.{ints}
-use Rattle.std.proofs.lemmas.List.{append-nil}
+use Rattle.std.proofs.lemmas.List.{append-nil, set-get_or}
 use Rattle.gfx_dwt.specs.Ranges.{IsCoefficient, at}
 use Rattle.gfx_quant.specs.Coefficient.{coefficient_of, cut, is_coefficient}
 use Rattle.gfx_tile_state.specs.declared.entries.Readers.{Readers}
@@ -103,7 +103,7 @@ nothing-read width readers = record {
   reads = λ srl bits pairs numbers h. record { coded_are = rw (append-nil pairs) h.coded_are; raw_are = rw (append-nil numbers) h.raw_are };
 }
 
-stays : (z : ℤ) (position : ℕ) → z +ℤ coefficient_of (pos 0) position ≡ z
+pub stays : (z : ℤ) (position : ℕ) → z +ℤ coefficient_of (pos 0) position ≡ z
 stays z position = ap (λ n. z +ℤ pos n) {y = 0} (omega arith) ∙ +ℤ_idr z
 
 fits-pos : (n : ℕ) → n < 32768 → is_coefficient (pos n) ≡ true
@@ -112,9 +112,22 @@ fits-pos n h = lt-ltb n 32768 h
 fits-neg : (n : ℕ) → n < 32768 → is_coefficient (negsuc n) ≡ true
 fits-neg n h = ap (λ b. b && true) (lt-ltb n 32768 h)
 
-cut-small : (z : ℤ) → IsCoefficient z → (cut z ≡ z) × (is_coefficient z ≡ true)
+pub cut-small : (z : ℤ) → IsCoefficient z → (cut z ≡ z) × (is_coefficient z ≡ true)
 cut-small (pos n) h = (ap (λ k. pos k) {x = min n 32767} {y = n} (omega (arith, ints, h.most)), fits-pos n (omega (arith, ints, h.most)))
 cut-small (negsuc n) h = (ap negsuc {x = min n 32767} {y = n} (omega (arith, ints, h.least)), fits-neg n (omega (arith, ints, h.least)))
+
+pub cut-within : (z : ℤ) → IsCoefficient (cut z)
+cut-within (pos n) = record { least = omega (arith, ints); most = omega (arith, ints) }
+cut-within (negsuc n) = record { least = omega (arith, ints); most = omega (arith, ints) }
+
+-- an entry of zero changes nothing
+pub adds-nothing : (plane : List ℤ) (place position : ℕ) (entry : ℤ) → entry ≡ pos 0 → place < length plane
+    → ((k : ℕ) → k < length plane → IsCoefficient (at plane k))
+    → (plane ≡ set plane place (cut (at plane place +ℤ coefficient_of entry position))) × (true ≡ is_coefficient (at plane place +ℤ coefficient_of entry position))
+adds-nothing plane place position entry none inside small =
+    let here = cut-small (at plane place) (small place inside) in
+    let same : at plane place +ℤ coefficient_of entry position ≡ at plane place = ap (λ e. at plane place +ℤ coefficient_of e position) none ∙ stays (at plane place) position in
+    (sym (ap (set plane place) (ap cut same ∙ here.0) ∙ set-get_or plane place (pos 0)), sym (ap is_coefficient same ∙ here.1))
 
 pub and-true : (b : Bool) → (b && true) ≡ b
 and-true true = refl

@@ -1,5 +1,5 @@
 -- What a pass makes of a component of a tile's record ([MS-RDPEGFX], the progressive codec; the kept plane is this project's own rule).
-use Rattle.std.specs.Prelude.{ℕ, ◌<◌, ◌≡◌, ◌⊎◌, ℤ, pos, ◌+ℤ◌, true, false, List, [], ◌∷◌, ◌++◌, take, drop, length, Result, Ok, Err, replicate}
+use Rattle.std.specs.Prelude.{ℕ, ◌<◌, ◌≡◌, ◌⊎◌, ℤ, pos, ◌+ℤ◌, Bool, true, false, List, [], ◌∷◌, ◌++◌, take, drop, length, Result, Ok, Err, replicate}
 use Rattle.gfx_base.specs.declared.refusal.Refusal.{Refusal}
 use Rattle.gfx_base.specs.declared.refusal.Refusal.TheVariants.{CoefficientRange}
 use Rattle.gfx_rlgr.specs.Rlgr.{Rlgr}
@@ -36,6 +36,11 @@ added (x ∷ xs) (y ∷ ys) = (x +ℤ y) ∷ added xs ys
 -- a plane of zeros
 abbrev pub blank : List ℤ
 blank = replicate 4096 (pos 0)
+
+-- the numbers of a kept plane: zeros, or what is written of it
+abbrev pub kept_in : Bool → List ℤ → List ℤ
+kept_in true plane = blank
+kept_in false plane = plane
 
 -- the coefficients of a component
 abbrev pub coefficients : Part → List ℤ

@@ -6,6 +6,7 @@
 
 mod entries;
 mod first;
+mod kept;
 mod laws;
 mod part;
 mod planes;

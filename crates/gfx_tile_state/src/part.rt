@@ -7,7 +7,8 @@ ghost use Rattle.gfx_tile_state.specs.Shape.{AreBelow, AreWithin, SomeAbove};
 
 use crate::entries::Readers;
 use crate::first::read_first;
-use crate::planes::{add, clear, fit_together, fits_onto, load, put};
+use crate::kept::Kept;
+use crate::planes::{fit_together, load, put};
 use crate::upgrading::upgrade_plane;
 use gfx_base::{NoMemory, Refusal};
 use gfx_bits::BitReader;
@@ -20,7 +21,7 @@ use std::marker::Model;
 /// passes, and the bit position of each band. A known sign is the sign of its sum.
 #[derive(Drop)]
 pub struct Part {
-    kept: Vec<i16>,
+    kept: Kept,
     sums: Vec<i16>,
     positions: [u8; 10],
 }
@@ -30,9 +31,9 @@ impl Model for Part {
 
     ghost Value = { Component };
 
-    ghost view = { λ part. record { kept = part.kept.items; sums = part.sums.items; positions = part.positions } };
+    ghost view = { λ part. record { kept = part.kept; sums = part.sums.items; positions = part.positions } };
 
-    ghost invariant = { λ part. IsSound part.kept.items part.sums.items part.positions };
+    ghost invariant = { λ part. IsSound part.kept part.sums.items part.positions };
 }
 
 impl Part {
@@ -41,7 +42,7 @@ impl Part {
         ensures { IfOk result (λ part. part ≡ fresh) }
     {
         Ok(Part {
-            kept: vec![in alloc; 0i16; 4096]?,
+            kept: Kept::new(alloc)?,
             sums: vec![in alloc; 0i16; 4096]?,
             positions: [0; 10],
         })
@@ -52,7 +53,7 @@ impl Part {
         ensures { IfOk result (λ part. part ≡ self.now) }
     {
         Ok(Part {
-            kept: self.kept.clone()?,
+            kept: self.kept.copy()?,
             sums: self.sums.clone()?,
             positions: self.positions,
         })
@@ -62,7 +63,7 @@ impl Part {
     pub fn copy_from(&mut self, other: &Part)
         ensures { self.new ≡ other.now }
     {
-        self.kept.copy_from_slice(&other.kept);
+        self.kept.copy_from(&other.kept);
         self.sums.copy_from_slice(&other.sums);
         self.positions = other.positions;
     }
@@ -93,7 +94,7 @@ impl Part {
     {
         let mut plane = [0; 4096];
         read_first(bytes, transform, positions, &mut plane)?;
-        clear(&mut self.kept);
+        self.kept.clear();
         put(&plane, &mut self.sums);
         self.positions = *positions;
         Ok(())
@@ -116,7 +117,7 @@ impl Part {
         if !fit_together(&kept, &plane) {
             return Err(Refusal::CoefficientRange);
         }
-        put(&kept, &mut self.kept);
+        self.kept.put(&kept);
         put(&plane, &mut self.sums);
         self.positions = *positions;
         Ok(())
@@ -150,7 +151,7 @@ impl Part {
         if !fits {
             return Err(Refusal::CoefficientRange);
         }
-        if !fits_onto(&self.kept, &plane) {
+        if !self.kept.fits_onto(&plane) {
             return Err(Refusal::CoefficientRange);
         }
         put(&plane, &mut self.sums);
@@ -163,7 +164,7 @@ impl Part {
         ensures value { out.new ≡ coefficients self.now }
         ensures coefficients { AllCoefficients out.new }
     {
-        add(&self.kept, &self.sums, out);
+        self.kept.add(&self.sums, out);
     }
 }
 

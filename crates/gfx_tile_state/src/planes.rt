@@ -1,7 +1,7 @@
 ghost use Rattle.std.specs.Prelude.{◌≡◌, ◌≤◌, ◌<◌, ◌+◌, ℕ, pos, ◌+ℤ◌, length, MatchBool, true};
 ghost use Rattle.gfx_dwt.specs.Ranges.{AllCoefficients, AllWithin, IsCoefficient, Within};
 ghost use Rattle.gfx_quant.specs.Coefficient.{is_coefficient};
-ghost use Rattle.gfx_tile_state.specs.Passes.{FitsOnto, LeavesKept, added, blank, running};
+ghost use Rattle.gfx_tile_state.specs.Passes.{FitsOnto, LeavesKept, added, running};
 
 #[inline(always)]
 #[tactic(auto, using(crate::proofs::Places::short))]
@@ -133,16 +133,6 @@ fn fit_both(kept: i32, number: i32) -> bool
     is_small(kept + number)
 }
 
-/// A plane of zeros.
-pub fn blank(out: &mut [i16])
-    requires { length out.old ≡ 4096 }
-    ensures { out.new ≡ blank }
-{
-    for place in 0..4096 {
-        out[place] = 0;
-    }
-}
-
 /// Puts a plane in place of what was kept.
 pub fn put(plane: &[i32; 4096], kept: &mut Vec<i16>)
     requires coefficients { AllCoefficients plane.now }
@@ -150,12 +140,4 @@ pub fn put(plane: &[i32; 4096], kept: &mut Vec<i16>)
     ensures { kept.new.items ≡ plane.now }
 {
     store(plane, kept);
-}
-
-/// Puts zeros in place of what was kept.
-pub fn clear(kept: &mut Vec<i16>)
-    requires { length kept.old.items ≡ 4096 }
-    ensures { kept.new.items ≡ blank }
-{
-    blank(kept);
 }

@@ -1,7 +1,7 @@
-ghost use Rattle.std.specs.Prelude.{◌≡◌, ◌≤◌, ◌<◌, ◌+◌, ◌-◌, ◌^◌, pos, ◌+ℤ◌, ◌*ℤ◌, ℤ, Bool, true, ◌&&◌, List};
-ghost use Rattle.gfx_dwt.specs.Ranges.{AllCoefficients, IsCoefficient, Within};
+ghost use Rattle.std.specs.Prelude.{◌≡◌, ◌≤◌, ◌<◌, ◌+◌, ◌-◌, ◌^◌, pos, ◌+ℤ◌, ◌*ℤ◌, ℕ, ℤ, Bool, true, false, ◌&&◌, List, slice_set, IsTrue};
+ghost use Rattle.gfx_dwt.specs.Ranges.{AllCoefficients, IsCoefficient, Within, at};
 ghost use Rattle.gfx_quant.specs.Coefficient.{coefficient_of, cut, is_coefficient};
-ghost use Rattle.gfx_tile_state.specs.Entries.{AreAlike, Pass, Upgraded, pass_of};
+ghost use Rattle.gfx_tile_state.specs.Entries.{AreAlike, Pass, Upgraded, pass_of, past};
 ghost use Rattle.gfx_tile_state.specs.Shape.{AreAtMost, AreWithin, AreBelow};
 
 use crate::entries::{Readers, read_entry};
@@ -67,6 +67,26 @@ fn cut_sum(sum: i64) -> i32
     sum.clamp(-32768, 32767) as i32
 }
 
+/// Adds to a sum what an entry adds to it at a bit position, cut to the range of a coefficient, and says whether it
+/// stays in that range. Most entries are zero, which is the quicker way.
+#[inline(always)]
+fn add_entry(plane: &mut [i32; 4096], place: usize, entry: i32, position: u8) -> bool
+    requires inside { place < 4096 }
+    requires coefficients { AllCoefficients plane.old }
+    requires entry { Within (2 ^ 24) entry }
+    requires least { 1 ≤ position }
+    requires most { position ≤ 30 }
+    ensures fits { result ≡ is_coefficient (at plane.old place +ℤ coefficient_of entry position) }
+    ensures sum { plane.new ≡ slice_set plane.old place (cut (at plane.old place +ℤ coefficient_of entry position)) }
+{
+    if entry == 0 {
+        return true;
+    }
+    let sum = sum_of(plane[place], entry, position);
+    plane[place] = cut_sum(sum);
+    is_small(sum)
+}
+
 /// Upgrades the places from one to before another, all of one band, and says whether all sums stay
 /// in the range of a coefficient.
 #[inline(always)]
@@ -91,16 +111,103 @@ fn upgrade_places(
 {
     let mut fits = true;
     for place in from..to {
-        let sum = plane[place];
-        let entry = read_entry(readers, sum, n, low);
-        let sum = sum_of(sum, entry, position);
-        fits &= is_small(sum);
-        plane[place] = cut_sum(sum);
+        let entry = read_entry(readers, plane[place], n, low);
+        fits &= add_entry(plane, place, entry, position);
     }
     fits
 }
 
-/// The same where the position may also stay: nothing is read then.
+#[inline(always)]
+fn is_zero(number: i32) -> bool
+    ensures { IsTrue result → number ≡ pos 0 }
+{
+    number == 0
+}
+
+/// Whether eight sums from a place on are zero.
+// No early return: so it is done on all of them at a time.
+#[inline(always)]
+fn are_blank(plane: &[i32; 4096], from: usize) -> bool
+    requires { from + 8 ≤ 4096 }
+    ensures { IsTrue result → (k : ℕ) → from ≤ k → k < from + 8 → at plane.now k ≡ pos 0 }
+{
+    let mut blank = true;
+    for place in from..from + 8 {
+        blank &= is_zero(plane[place]);
+    }
+    blank
+}
+
+/// How many sums from a place on are zero, at most that many.
+#[inline(always)]
+fn blanks(plane: &[i32; 4096], from: usize, most: usize) -> usize
+    requires { from + most ≤ 4096 }
+    ensures most { result ≤ most }
+    ensures blank { (k : ℕ) → from ≤ k → k < from + result → at plane.now k ≡ pos 0 }
+{
+    let mut count = 0;
+    'eights: while most - count >= 8 && are_blank(plane, from + count) {
+        count += 8;
+    }
+    'ones: while count < most && is_zero(plane[from + count]) {
+        count += 1;
+    }
+    count
+}
+
+/// Goes past sums that are zero where zeros are known to come for them, and says how many they are.
+#[inline(always)]
+fn pass_blanks(plane: &[i32; 4096], from: usize, to: usize, readers: &mut Readers<'_>) -> usize
+    requires order { from ≤ to }
+    requires end { to ≤ 4096 }
+    ensures within { from + result ≤ to }
+    ensures blank { (k : ℕ) → from ≤ k → k < from + result → at plane.now k ≡ pos 0 }
+    ensures known { result ≤ readers.old.srl.zeros }
+    ensures passed { readers.new ≡ past readers.old result }
+{
+    let known = readers.srl.zeros_ahead() as usize;
+    let count = blanks(plane, from, known.min(to - from));
+    readers.srl.pass_zeros(count as u32);
+    count
+}
+
+/// Upgrades the places from one to before another, all of one band with signs, and says whether all sums stay in the
+/// range of a coefficient. Runs of zeros are passed as wholes.
+#[inline(always)]
+fn upgrade_signed(
+    plane: &mut [i32; 4096],
+    from: usize,
+    to: usize,
+    n: u8,
+    position: u8,
+    readers: &mut Readers<'_>,
+) -> bool
+    requires order { from ≤ to }
+    requires end { to ≤ 4096 }
+    requires some { 1 ≤ n }
+    requires few { n ≤ 24 }
+    requires least { 1 ≤ position }
+    requires most { position ≤ 30 }
+    requires coefficients { AllCoefficients plane.old }
+    ensures upgraded { (pass : Pass) (fits : Bool) → AreAlike pass from to n position false → Upgraded pass from plane.old fits readers.old → Upgraded pass to plane.new (fits && result) readers.new }
+    ensures coefficients { AllCoefficients plane.new }
+{
+    let mut fits = true;
+    let mut place = from;
+    'places: while place < to {
+        let count = pass_blanks(plane, place, to, readers);
+        if count > 0 {
+            place += count;
+        } else {
+            let entry = read_entry(readers, plane[place], n, false);
+            fits &= add_entry(plane, place, entry, position);
+            place += 1;
+        }
+    }
+    fits
+}
+
+/// Upgrades the places of a band, whose position may also stay: nothing is read then.
 #[inline(always)]
 fn upgrade_band(
     plane: &mut [i32; 4096],
@@ -123,7 +230,10 @@ fn upgrade_band(
     if n == 0 {
         return true;
     }
-    upgrade_places(plane, from, to, n, position, low, readers)
+    if low {
+        return upgrade_places(plane, from, to, n, position, low, readers);
+    }
+    upgrade_signed(plane, from, to, n, position, readers)
 }
 
 /// Upgrades a component's sums from their positions to new ones, and says whether all stay in the

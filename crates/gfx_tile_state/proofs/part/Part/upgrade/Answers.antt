@@ -1,6 +1,5 @@
-use Rattle.std.proofs.Common.{◌∙◌, ap, arith, length, refl, subst}
+use Rattle.std.proofs.Common.{◌∙◌, ap, arith, length, refl}
 use Rattle.gfx_bits.specs.Bits.{bits_of}
-use Rattle.gfx_tile_state.specs.Passes.{FitsOnto, LeavesKept}
 use Rattle.gfx_tile_state.proofs.Parts.{upgrade-begins, leaves-sum, leaves-kept, stays-in, upgraded-whole}
 use Rattle.gfx_tile_state.proofs.part.Part.upgrade.Goals as goal
 
@@ -9,7 +8,7 @@ returns-then-not-fits c =
     let whole =
     c.upgrade_plane-fits.ensures.upgraded c.self.inside.sums.items (bits_of c.args.srl.now) (bits_of c.args.raw.now)
     (upgrade-begins _ c.load.new.out _ (c.load.ensures.value ∙ c.deref.ensures.value) c.new.ensures c.new-2.ensures) in
-    rw (← c.self.view_is) (refl, leaves-sum _ c.upgrade_plane-fits.new.plane c.self.inside.kept.items c.upgrade_plane-fits.result _ c.if-not-fits.true whole, refl)
+    rw (← c.self.view_is) (refl, leaves-sum _ c.upgrade_plane-fits.new.plane c.self.inside.kept c.upgrade_plane-fits.result _ c.if-not-fits.true whole, refl)
 
 pub returns-then-not-fits_onto : goal.returns-then-not-fits_onto
 returns-then-not-fits_onto c =
@@ -18,8 +17,8 @@ returns-then-not-fits_onto c =
     (upgrade-begins _ c.load.new.out _ (c.load.ensures.value ∙ c.deref.ensures.value) c.new.ensures c.new-2.ensures) in
     rw (← c.self.view_is) (
       refl,
-      leaves-kept _ c.upgrade_plane-fits.new.plane c.self.inside.kept.items c.upgrade_plane-fits.result _ c.if-not-fits.false
-          (subst (λ l. LeavesKept l c.upgrade_plane-fits.new.plane) c.deref-2.ensures.value (rw c.if-not-fits_onto.true at c.fits_onto.ensures))
+      leaves-kept _ c.upgrade_plane-fits.new.plane c.self.inside.kept c.upgrade_plane-fits.result _ c.if-not-fits.false
+          (rw c.if-not-fits_onto.true at c.fits_onto.ensures)
           whole,
       refl,
     )
@@ -30,7 +29,7 @@ returns c =
     c.upgrade_plane-fits.ensures.upgraded c.self.inside.sums.items (bits_of c.args.srl.now) (bits_of c.args.raw.now)
     (upgrade-begins _ c.load.new.out _ (c.load.ensures.value ∙ c.deref.ensures.value) c.new.ensures c.new-2.ensures) in
     let done = upgraded-whole _ c.upgrade_plane-fits.new.plane c.put.new.kept.items c.upgrade_plane-fits.result _ c.if-not-fits.false c.put.ensures whole in
-    let fits = subst (λ l. FitsOnto l c.upgrade_plane-fits.new.plane) c.deref-2.ensures.value (rw c.if-not-fits_onto.false at c.fits_onto.ensures) in
+    let fits = rw c.if-not-fits_onto.false at c.fits_onto.ensures in
     rw (← c.self.view_is) (
       done.0,
       done.1,
@@ -38,5 +37,5 @@ returns c =
       refl,
       refl,
       ap length c.put.ensures ∙ omega arith,
-      stays-in c.self.inside.kept.items c.put.new.kept.items c.upgrade_plane-fits.new.plane c.put.ensures (omega arith) fits c.upgrade_plane-fits.ensures.coefficients,
+      stays-in c.self.inside.kept c.put.new.kept.items c.upgrade_plane-fits.new.plane c.put.ensures (omega arith) fits c.upgrade_plane-fits.ensures.coefficients,
     )

@@ -53,8 +53,8 @@ fn connect(alloc: Global) -> anyhow::Result<Client> {
 fn draw(rt: &impl Print, client: &mut Client) -> anyhow::Result<()> {
     for _ in 0..u64::MAX {
         match client.step()? {
-            Stepped::Applied => {}
-            Stepped::Ended { frame, reply } => {
+            Stepped::Applied { .. } => {}
+            Stepped::Ended { frame, reply, .. } => {
                 print!(rt; "frame {frame} is drawn; to the server:")?;
                 print_bytes(rt, reply.as_slice())?;
             }

@@ -1,22 +1,20 @@
 -- What a client has brought about, through its calls.
-use Rattle.std.proofs.Common.{◌≡◌, List, [], ◌∷◌, ◌++◌, map, ℕ, Option, Some, None, Ok, Err, refl, sym, ap, ◌∙◌, append_assoc}
+use Rattle.std.proofs.Common.{◌≡◌, List, [], ◌∷◌, ◌++◌, ℕ, Option, Some, None, Ok, Err, refl, sym, ap, ◌∙◌, append_assoc}
 use Rattle.std.proofs.lemmas.List.{append-nil}
 use Rattle.gfx_base.specs.declared.refusal.Refusal.{Refusal}
-use Rattle.gfx_pdu.specs.declared.pdu.Pdu.{Pdu}
 use Rattle.gfx_client.specs.declared.client.Client.{Client}
 use Rattle.gfx_client.specs.declared.fault.ClientFault.{ClientFault}
 use Rattle.gfx_client.specs.declared.fault.ClientFault.TheVariants as fault
 use Rattle.gfx_client.specs.declared.stepped.Stepped.{Stepped}
 use Rattle.gfx_client.specs.declared.stepped.Stepped.TheVariants as stepped
 use Rattle.gfx_client.specs.Client.{cursor_of, Advances, Moves, MovesBy, Ends}
-use Rattle.gfx_client.specs.Replies.{stepped_of}
+use Rattle.gfx_client.proofs.NextEffects.{still_coming}
 use Rattle.gfx_client.specs.Standing.{StandsFor, HasBrought, BringsNext, Brings, IsDrained}
-use Rattle.gfx_state.specs.Cursor.{Cursor, given, before_all, Reaches}
-use Rattle.gfx_state.specs.State.{State}
+use Rattle.gfx_state.specs.Cursor.{given, before_all, Reaches}
 use Rattle.gfx_state.specs.Run.{begun, run_of}
-use Rattle.gfx_state.specs.History.{Effect, history, history_of, state_after, coming}
+use Rattle.gfx_state.specs.History.{Effect, history, history_of, coming}
 use Rattle.gfx_state.proofs.Effects.{history-nil, history-append}
-use Rattle.gfx_state.proofs.Coming.{coming_before_all, coming-given, coming_reaches, coming_needs, coming_refuses}
+use Rattle.gfx_state.proofs.Coming.{coming_before_all, coming-given, coming_needs, coming_refuses}
 
 pub brought_new : (client : Client) → cursor_of client ≡ before_all → HasBrought client [] []
 brought_new client new = record { is = history-nil begun ∙ sym (ap coming new ∙ coming_before_all) }
@@ -32,38 +30,17 @@ brought_taken old new bytes piece all took s b = record {
 
 -- a message is applied ---------------------------------------------------------------------------------------
 
--- the one effect of one message
-one_effect : (es : List Effect) (pdu : Pdu) → map (λ (e : Effect). e.pdu) es ≡ pdu ∷ [] → (e : Effect) × (es ≡ e ∷ []) × (e.pdu ≡ pdu)
-one_effect [] pdu same = absurd cc
-one_effect (e ∷ []) pdu same = (e, refl, cc)
-one_effect (e ∷ f ∷ es) pdu same = absurd cc
-
 brought_next : (old new : Client) (said : Stepped) (bytes : List ℕ) (all : List Effect) → MovesBy old new said → HasBrought old bytes all → BringsNext new bytes all said
 brought_next old new said bytes all m b =
-    let done = coming_reaches (cursor_of old) (cursor_of new) (m.pdu ∷ []) m.moves.reaches in
-    let one = one_effect done.all m.pdu done.messages in
-    let after = done.state ∙ ap (state_after (cursor_of old).state) one.1 in
+    let next : Effect = record { pdu = m.pdu; size = m.size; state = (cursor_of new).state } in
     record {
-      next = one.0;
-      says = m.says ∙ ap (λ (s : State). stepped_of m.pdu s.decoded) after ∙ ap (λ pdu. stepped_of pdu one.0.state.decoded) (sym one.2);
-      state = after;
-      brought = record {
-        is = b.is ∙ ap (λ z. all ++ z) (done.first ∙ ap (λ z. z ++ coming (cursor_of new)) one.1)
-            ∙ sym (append_assoc all (one.0 ∷ []) (coming (cursor_of new)));
-      };
+      next = next;
+      says = m.says;
+      state = refl;
+      brought = record { is = b.is ∙ ap (λ z. all ++ z) m.first ∙ sym (append_assoc all (next ∷ []) (coming (cursor_of new))) };
     }
 
 -- no message is applied ----------------------------------------------------------------------------------------
-
-no_effect : (es : List Effect) → map (λ (e : Effect). e.pdu) es ≡ [] → es ≡ []
-no_effect [] none = refl
-no_effect (e ∷ es) none = absurd cc
-
--- moves without a message bring nothing about
-still_coming : (from to : Cursor) → Reaches from [] to → coming from ≡ coming to
-still_coming from to moves =
-    let done = coming_reaches from to [] moves in
-    done.first ∙ ap (λ z. z ++ coming to) (no_effect done.all done.messages)
 
 brought_on : (old new : Client) (bytes : List ℕ) (all : List Effect) → Reaches (cursor_of old) [] (cursor_of new) → HasBrought old bytes all → HasBrought new bytes all
 brought_on old new bytes all moves b = record { is = b.is ∙ ap (λ z. all ++ z) (still_coming (cursor_of old) (cursor_of new) moves) }
@@ -75,8 +52,7 @@ brings_said (Some f) old new said bytes all none a b = absurd cc
 brings_said None old new stepped.Need bytes all none w b =
     let on = brought_on old new bytes all w.moves.reaches b in
     (on, on.is ∙ ap (λ z. all ++ z) (coming_needs (cursor_of new) w.needs) ∙ append-nil all)
-brings_said None old new stepped.Applied bytes all none m b = brought_next old new stepped.Applied bytes all m b
-brings_said None old new (stepped.Ended frame reply) bytes all none m b = brought_next old new (stepped.Ended frame reply) bytes all m b
+brings_said None old new other bytes all none m b = brought_next old new other bytes all m b
 
 pub brings_refused : (closed : Option ClientFault) (old mid new : Client) (number : ℕ) (r : Refusal) (bytes : List ℕ) (all : List Effect) → closed ≡ None → Ends old mid r → HasBrought old bytes all → Brings closed (Err (fault.Refused number r)) new bytes all
 brings_refused (Some f) old mid new number r bytes all none e b = absurd cc

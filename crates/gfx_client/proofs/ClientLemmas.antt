@@ -1,5 +1,5 @@
 -- What reading, applying and opening come to for a client.
-use Rattle.std.proofs.Common.{◌≡◌, ℕ, ◌+◌, ◌%◌, ◌^◌, List, [], length, drop, true, false, ◌||◌, ◌==◌, Some, None, is_some, if◌then◌else◌, Result, Ok, Err, refl, sym, ap, ◌∙◌, subst}
+use Rattle.std.proofs.Common.{◌≡◌, ℕ, ◌+◌, ◌-◌, ◌%◌, ◌^◌, List, [], length, drop, true, false, ◌||◌, ◌==◌, Some, None, is_some, if◌then◌else◌, Result, Ok, Err, refl, sym, ap, ◌∙◌, subst, arith}
 use Rattle.std.proofs.lemmas.List.{drop-drop}
 use Rattle.gfx_base.specs.Memory.{next_count}
 use Rattle.gfx_base.specs.Outcome.{Gives, Applies}
@@ -25,7 +25,8 @@ use Rattle.gfx_client.specs.declared.client.Client.{Client}
 use Rattle.gfx_client.specs.declared.stepped.Stepped.{Stepped}
 use Rattle.gfx_client.specs.declared.stepped.Stepped.TheVariants as stepped
 use Rattle.gfx_client.specs.Replies.{acknowledgement, stepped_of}
-use Rattle.gfx_client.specs.Client.{cursor_of, closed_by, TakesMessage, TakesOne, OpensMessage, OpensOne, IsAtPayloadEnd, Moves, Ends, Waits, Advances, Steps, end_of}
+use Rattle.gfx_client.proofs.NextEffects.{still_coming, coming_takes}
+use Rattle.gfx_client.specs.Client.{cursor_of, closed_by, TakesMessage, TakesOne, OpensMessage, OpensOne, IsAtPayloadEnd, Moves, MovesBy, Ends, Waits, Advances, Steps, end_of}
 
 -- taking a message ---------------------------------------------------------------------------------
 
@@ -55,20 +56,23 @@ decoded_ended state next frame e =
     ap (λ (s : State). s.decoded) same
 
 -- what is said of a message before it is applied is right after it
-said_after : (pdu : Pdu) (state next : State) → step state pdu ≡ Ok next → stepped_of pdu ((state.decoded + 1) % 2 ^ 32) ≡ stepped_of pdu next.decoded
+said_after : (pdu : Pdu) (size : ℕ) (state next : State) → step state pdu ≡ Ok next → stepped_of pdu size ((state.decoded + 1) % 2 ^ 32) ≡ stepped_of pdu size next.decoded
 unfolding step
-said_after (pdus.EndFrame frame) state next e = ap (λ n. stepped.Ended frame (acknowledgement frame n)) (decoded_ended state next frame e)
-said_after other state next e = refl
+said_after (pdus.EndFrame frame) size state next e = ap (λ n. stepped.Ended frame size (acknowledgement frame n)) (decoded_ended state next frame e)
+said_after other size state next e = refl
 
 -- it is applied
-pub taken : (client : Client) (pdu : Pdu) (after applied decoded : ℕ) (state : State) (stepped : Stepped) → next_pdu client.payload client.at ≡ Ok (Some (pdu, after)) → step client.state pdu ≡ Ok state → applied ≡ next_count client.applied
-    → decoded ≡ (client.state.decoded + 1) % 2 ^ 32 → stepped ≡ stepped_of pdu decoded → TakesOne client (record client { at = after; state = state; applied = applied }) stepped
-taken client pdu after applied decoded state stepped read stepping counted ended says =
+pub taken : (client : Client) (pdu : Pdu) (after applied decoded size : ℕ) (state : State) (stepped : Stepped) → next_pdu client.payload client.at ≡ Ok (Some (pdu, after)) → step client.state pdu ≡ Ok state → applied ≡ next_count client.applied
+    → decoded ≡ (client.state.decoded + 1) % 2 ^ 32 → size ≡ after - client.at → stepped ≡ stepped_of pdu size decoded → TakesOne client (record client { at = after; state = state; applied = applied }) stepped
+taken client pdu after applied decoded size state stepped read stepping counted ended sized says =
     let found = next_pdu_found client.payload client.at pdu after read in
     let left : drop found.size (drop client.at client.payload) ≡ drop after client.payload = drop-drop found.size client.at client.payload ∙ ap (λ z. drop z client.payload) (sym found.behind) in
+    let long : size ≡ found.size = let behind = found.behind in omega arith in
     record {
       pdu = pdu;
-      says = says ∙ ap (stepped_of pdu) ended ∙ said_after pdu client.state state stepping;
+      size = found.size;
+      read = found.read;
+      says = says ∙ ap (λ n. stepped_of pdu n decoded) long ∙ ap (stepped_of pdu found.size) ended ∙ said_after pdu found.size client.state state stepping;
       takes = what_next_takes (cursor_of client) pdu found.size state found.read stepping
           ∙ ap (λ z. cursor.Takes pdu (record { splitter = client.splitter; left = z; state = state; applied = next_count client.applied })) left
           ∙ ap (λ z. cursor.Takes pdu (record { splitter = client.splitter; left = drop after client.payload; state = state; applied = z })) (sym counted);
@@ -109,9 +113,9 @@ opened client p held end due =
 -- one message or more ------------------------------------------------------------------------------
 
 -- no message says that more bytes are needed
-never_need : (pdu : Pdu) (decoded : ℕ) → stepped_of pdu decoded ≡ stepped.Need → ⊥
-never_need (pdus.EndFrame frame) decoded e = absurd cc
-never_need other decoded e = absurd cc
+never_need : (pdu : Pdu) (size decoded : ℕ) → stepped_of pdu size decoded ≡ stepped.Need → ⊥
+never_need (pdus.EndFrame frame) size decoded e = absurd cc
+never_need other size decoded e = absurd cc
 
 pub not_moved : (client : Client) → Moves client client []
 not_moved client = record { reaches = Here (cursor_of client); closed = refl }
@@ -124,18 +128,18 @@ moved_on old mid new m o = record {
 }
 
 -- a message was applied
+moved_one : (old mid new : Client) (said : Stepped) → Moves old mid [] → TakesOne mid new said → MovesBy old new said
+moved_one old mid new said m t = record {
+  pdu = t.pdu;
+  size = t.size;
+  says = t.says;
+  moves = record { reaches = Reaches-takes (cursor_of old) (cursor_of mid) (cursor_of new) [] t.pdu m.reaches t.takes; closed = t.closed ∙ m.closed };
+  first = still_coming (cursor_of old) (cursor_of mid) m.reaches ∙ coming_takes (cursor_of mid) (cursor_of new) t.pdu t.size t.read t.takes;
+}
+
 pub moved_by : (old mid new : Client) (said : Stepped) → Moves old mid [] → TakesOne mid new said → Advances (Ok said) old new
-moved_by old mid new stepped.Need m t = absurd (never_need t.pdu _ (sym t.says))
-moved_by old mid new stepped.Applied m t = record {
-  pdu = t.pdu;
-  says = t.says;
-  moves = record { reaches = Reaches-takes (cursor_of old) (cursor_of mid) (cursor_of new) [] t.pdu m.reaches t.takes; closed = t.closed ∙ m.closed };
-}
-moved_by old mid new (stepped.Ended frame reply) m t = record {
-  pdu = t.pdu;
-  says = t.says;
-  moves = record { reaches = Reaches-takes (cursor_of old) (cursor_of mid) (cursor_of new) [] t.pdu m.reaches t.takes; closed = t.closed ∙ m.closed };
-}
+moved_by old mid new stepped.Need m t = absurd (never_need t.pdu t.size _ (sym t.says))
+moved_by old mid new other m t = moved_one old mid new other m t
 
 -- more bytes are needed
 pub waits : (old mid new : Client) → Moves old mid [] → OpensMessage (Ok false) mid new → Waits old new

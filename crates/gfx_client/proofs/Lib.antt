@@ -1,4 +1,5 @@
 pub mod ReplyLemmas
+pub mod NextEffects
 pub mod ClientLemmas
 pub mod Playing
 pub mod Bringing

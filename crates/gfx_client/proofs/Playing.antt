@@ -1,5 +1,5 @@
 -- What a client stands for, through its calls.
-use Rattle.std.proofs.Common.{◌≡◌, ℕ, ◌<◌, List, [], ◌∷◌, ◌++◌, length, ◌==◌, true, false, if◌then◌else◌, Option, Some, None, Result, Ok, Err, ◌⊎◌, inl, inr, refl, sym, ap, ◌∙◌, subst, arith}
+use Rattle.std.proofs.Common.{◌≡◌, ℕ, ◌<◌, List, [], ◌∷◌, ◌++◌, length, ◌==◌, true, false, IsTrue, if◌then◌else◌, Option, Some, None, Result, Ok, Err, inl, inr, refl, sym, ap, ◌∙◌, subst, arith}
 use Rattle.gfx_base.specs.Memory.{next_count}
 use Rattle.gfx_base.specs.declared.refusal.Refusal.{Refusal}
 use Rattle.gfx_base.specs.declared.refusal.Refusal.TheVariants.{ChannelTruncated}
@@ -38,8 +38,8 @@ stands_taken old new bytes piece took s = record {
 -- a step is made, whatever it answers
 pub stands_advanced : (result : Result Stepped (Cause Refusal)) (old new : Client) → Advances result old new → settled (cursor_of new) ≡ settled (cursor_of old)
 stands_advanced (Ok stepped.Need) old new w = settled_reaches (cursor_of old) (cursor_of new) [] w.moves.reaches
-stands_advanced (Ok stepped.Applied) old new m = settled_reaches (cursor_of old) (cursor_of new) (m.pdu ∷ []) m.moves.reaches
-stands_advanced (Ok (stepped.Ended frame reply)) old new m = settled_reaches (cursor_of old) (cursor_of new) (m.pdu ∷ []) m.moves.reaches
+stands_advanced (Ok (stepped.Applied pdu size)) old new m = settled_reaches (cursor_of old) (cursor_of new) (m.pdu ∷ []) m.moves.reaches
+stands_advanced (Ok (stepped.Ended frame size reply)) old new m = settled_reaches (cursor_of old) (cursor_of new) (m.pdu ∷ []) m.moves.reaches
 stands_advanced (Err cause.Memory) old new m = settled_reaches (cursor_of old) (cursor_of new) [] m.reaches
 stands_advanced (Err (cause.Refused r)) old new e = e.0.run
 
@@ -67,15 +67,9 @@ moved start old new said same none m = record {
   lighter = let few = weight_reaches (cursor_of old) (cursor_of new) (m.pdu ∷ []) m.moves.reaches in omega arith;
 }
 
-pub goes_on : (start old new : Client) (said : Stepped) → (said ≡ stepped.Need → ⊥) → settled (cursor_of old) ≡ settled (cursor_of start) → closed_by old ≡ None → Steps (closed_by old) (Ok said) old new → GoesOn start old new
-goes_on start old new stepped.Need other same none s = absurd (other refl)
-goes_on start old new stepped.Applied other same none s = moved start old new stepped.Applied same none (open_step old new (Ok stepped.Applied) none s)
-goes_on start old new (stepped.Ended frame reply) other same none s = moved start old new (stepped.Ended frame reply) same none (open_step old new (Ok (stepped.Ended frame reply)) none s)
-
--- a message was applied, so no more bytes were needed for it
-pub not_need : (said : Stepped) → (said ≡ stepped.Applied) ⊎ ((x : ℕ) × (y : List ℕ) × (said ≡ stepped.Ended x y)) → said ≡ stepped.Need → ⊥
-not_need said (inl applied) need = absurd cc
-not_need said (inr ended) need = let last = ended.2 in absurd cc
+pub goes_on : (start old new : Client) (said : Stepped) → (said ≡ stepped.Need → IsTrue false) → settled (cursor_of old) ≡ settled (cursor_of start) → closed_by old ≡ None → Steps (closed_by old) (Ok said) old new → GoesOn start old new
+goes_on start old new stepped.Need other same none s = let more = other refl in absurd cc
+goes_on start old new said other same none s = moved start old new said same none (open_step old new (Ok said) none s)
 
 -- a step was refused
 refused : (start old new : Client) (bytes : List ℕ) (number : ℕ) (r : Refusal) → settled (cursor_of old) ≡ settled (cursor_of start) → Ends old new r → number ≡ next_count (cursor_of old).applied → closed_by new ≡ Some (fault.ClosedRefused number r) → StandsFor start bytes → IsRefused new bytes number r

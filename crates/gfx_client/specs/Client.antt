@@ -10,6 +10,7 @@ use Rattle.gfx_pdu.specs.declared.pdu.Pdu.{Pdu}
 use Rattle.gfx_pdu.specs.Reading.{message_at}
 use Rattle.gfx_state.specs.Cursor.{Cursor, given, Opens, Needs, Refuses, what_next, Reaches, settled}
 use Rattle.gfx_state.specs.Cursor as cursor
+use Rattle.gfx_state.specs.History.{coming}
 use Rattle.gfx_client.specs.declared.client.Client.{Client}
 use Rattle.gfx_client.specs.declared.fault.ClientFault.{ClientFault}
 use Rattle.gfx_client.specs.declared.fault.ClientFault.TheVariants.{Refused, Memory, ClosedRefused, ClosedMemory}
@@ -54,11 +55,13 @@ pub record Ends (old new : Client) (r : Refusal) : Type 0 where
   pub state : (cursor_of new).state ≡ (cursor_of old).state
   pub applied : (cursor_of new).applied ≡ (cursor_of old).applied
 
--- a message was applied, and this was said of it
+-- a message of this size was applied, the first of what was to come, and this was said of it
 pub record MovesBy (old new : Client) (stepped : Stepped) : Type 0 where
   pub pdu : Pdu
-  pub says : stepped ≡ stepped_of pdu (cursor_of new).state.decoded
+  pub size : ℕ
+  pub says : stepped ≡ stepped_of pdu size (cursor_of new).state.decoded
   pub moves : Moves old new (pdu ∷ [])
+  pub first : coming (cursor_of old) ≡ record { pdu = pdu; size = size; state = (cursor_of new).state } ∷ coming (cursor_of new)
 
 -- all messages are applied that the bytes taken hold whole
 pub record Waits (old new : Client) : Type 0 where
@@ -68,16 +71,16 @@ pub record Waits (old new : Client) : Type 0 where
 -- what a step did that wasn't closed off before
 abbrev pub Advances : Result Stepped (Cause Refusal) → Client → Client → Type 0
 Advances (Ok Need) old new = Waits old new
-Advances (Ok Applied) old new = MovesBy old new Applied
-Advances (Ok (Ended frame reply)) old new = MovesBy old new (Ended frame reply)
+Advances (Ok (Applied pdu size)) old new = MovesBy old new (Applied pdu size)
+Advances (Ok (Ended frame size reply)) old new = MovesBy old new (Ended frame size reply)
 Advances (Err fault.Memory) old new = Moves old new []
 Advances (Err (fault.Refused r)) old new = Ends old new r × (closed_by new ≡ closed_by old)
 
 -- what a step of a client answers. A closed client answers its fault, and stays as it is
 abbrev pub StepsOpen : Result Stepped ClientFault → Client → Client → Type 0
 StepsOpen (Ok Need) old new = Waits old new
-StepsOpen (Ok Applied) old new = MovesBy old new Applied
-StepsOpen (Ok (Ended frame reply)) old new = MovesBy old new (Ended frame reply)
+StepsOpen (Ok (Applied pdu size)) old new = MovesBy old new (Applied pdu size)
+StepsOpen (Ok (Ended frame size reply)) old new = MovesBy old new (Ended frame size reply)
 StepsOpen (Err (Refused number r)) old new =
     Ends old new r × (number ≡ next_count (cursor_of old).applied) × (closed_by new ≡ Some (ClosedRefused number r))
 StepsOpen (Err Memory) old new =
@@ -117,10 +120,12 @@ end_of None at =
 abbrev pub IsAtPayloadEnd : Client → Type 0
 IsAtPayloadEnd client = message_at (cursor_of client).left ≡ Ok None
 
--- a message was taken, and this was said of it
+-- the message of this size at the front was taken, and this was said of it
 pub record TakesOne (old new : Client) (stepped : Stepped) : Type 0 where
   pub pdu : Pdu
-  pub says : stepped ≡ stepped_of pdu (cursor_of new).state.decoded
+  pub size : ℕ
+  pub read : message_at (cursor_of old).left ≡ Ok (Some (pdu, size))
+  pub says : stepped ≡ stepped_of pdu size (cursor_of new).state.decoded
   pub takes : what_next (cursor_of old) ≡ cursor.Takes pdu (cursor_of new)
   pub closed : closed_by new ≡ closed_by old
 

@@ -1,7 +1,7 @@
 -- What a client writes to the server ([MS-RDPEGFX] 2.2.2.13, 2.2.2.18 and 2.2.5): each message of its own is
 -- alone in a channel message, behind its length and without blocks. That nothing ever waits at this
 -- client is this project's own rule: it applies each message before it takes the next.
-use Rattle.std.specs.Prelude.{◌≡◌, ℕ, List, [], ◌++◌, Ok}
+use Rattle.std.specs.Prelude.{◌≡◌, ℕ, List, [], ◌++◌, Option, Some, None, Ok}
 use Rattle.std.specs.List.{flat_map}
 use Rattle.gfx_caps.specs.declared.message.ClientPdu.{ClientPdu}
 use Rattle.gfx_caps.specs.declared.message.ClientPdu.TheVariants.{Ack}
@@ -13,6 +13,7 @@ use Rattle.gfx_pdu.specs.declared.pdu.Pdu.{Pdu}
 use Rattle.gfx_pdu.specs.declared.pdu.Pdu.TheVariants.{EndFrame}
 use Rattle.gfx_segment.specs.Framing.{prefixed, front, Whole}
 use Rattle.gfx_state.specs.History.{Effect}
+use Rattle.gfx_client.specs.declared.replies.Reply.{Reply}
 use Rattle.gfx_client.specs.declared.stepped.Stepped.{Stepped}
 use Rattle.gfx_client.specs.declared.stepped.Stepped.TheVariants.{Applied, Ended, Need}
 
@@ -33,19 +34,24 @@ hello offers = alone (advertised offers)
 abbrev pub acknowledgement : ℕ → ℕ → List ℕ
 acknowledgement frame decoded = alone (Ack 0 frame decoded)
 
--- what a step says of the message that it applied, where so many frames are decoded after it
-abbrev pub stepped_of : Pdu → ℕ → Stepped
-stepped_of (EndFrame frame) decoded = Ended frame (acknowledgement frame decoded)
-stepped_of other decoded = Applied
+-- the reply to a message, where so many frames are decoded after it
+abbrev pub reply_to : Pdu → ℕ → Option Reply
+reply_to (EndFrame frame) decoded = Some (record { frame = frame; bytes = acknowledgement frame decoded })
+reply_to other decoded = None
+
+-- what a step says of the message of this size that it applied, where so many frames are decoded after it
+abbrev pub stepped_of : Pdu → ℕ → ℕ → Stepped
+stepped_of (EndFrame frame) size decoded = Ended frame size (acknowledgement frame decoded)
+stepped_of other size decoded = Applied other size
 
 -- what a step says of an effect
 abbrev pub stepped_by : Effect → Stepped
-stepped_by effect = stepped_of effect.pdu effect.state.decoded
+stepped_by effect = stepped_of effect.pdu effect.size effect.state.decoded
 
 -- the bytes for the server in what a step says
 abbrev pub reply_in : Stepped → List ℕ
-reply_in (Ended frame reply) = reply
-reply_in Applied = []
+reply_in (Ended frame size reply) = reply
+reply_in (Applied pdu size) = []
 reply_in Need = []
 
 -- the acknowledgements of the frames that these effects end, in their order

@@ -57,8 +57,8 @@ pub record BringsNext (new : Client) (bytes : List ℕ) (all : List Effect) (sai
 -- what a step of an open client does of the history: nothing more comes where it needs bytes or refuses
 abbrev pub BringsOpen : Result Stepped ClientFault → Client → List ℕ → List Effect → Type 0
 BringsOpen (Ok Need) new bytes all = HasBrought new bytes all × (history_of bytes ≡ all)
-BringsOpen (Ok Applied) new bytes all = BringsNext new bytes all Applied
-BringsOpen (Ok (Ended frame reply)) new bytes all = BringsNext new bytes all (Ended frame reply)
+BringsOpen (Ok (Applied pdu size)) new bytes all = BringsNext new bytes all (Applied pdu size)
+BringsOpen (Ok (Ended frame size reply)) new bytes all = BringsNext new bytes all (Ended frame size reply)
 BringsOpen (Err (Refused number r)) new bytes all = history_of bytes ≡ all
 BringsOpen (Err Memory) new bytes all = HasBrought new bytes all
 BringsOpen (Err (ClosedRefused number r)) new bytes all = ⊥

@@ -1,11 +1,12 @@
-ghost use Rattle.std.specs.Prelude.{◌≡◌, ℕ, ◌≤◌, List, [], ◌++◌, length, OnOk, OnErr, IfOk, None};
+ghost use Rattle.std.specs.Prelude.{◌≡◌, ℕ, ◌≤◌, List, [], ◌++◌, length, ◌↔◌, IsTrue, OnOk, OnErr, IfOk, None};
+ghost use Rattle.std.specs.FinMap as finmap;
 ghost use Rattle.gfx_client.specs.Standing.{StandsFor, HasBrought, Brings, IsDrained, Plays, PlaysAll, ends_by};
 ghost use Rattle.gfx_state.specs.History.{Effect};
-ghost use Rattle.gfx_client.specs.Replies.{hello, stepped_of};
+ghost use Rattle.gfx_client.specs.Replies.{hello, reply_to, stepped_of};
 
 use crate::fault::ClientFault;
 use crate::offered::Offered;
-use crate::replies::acknowledgement;
+use crate::replies::{Reply, reply_to};
 use crate::stepped::Stepped;
 use gfx_base::{Bytes, Fault, NoMemory, Refusal};
 use gfx_bitmap_cache::Cache;
@@ -88,9 +89,9 @@ impl Client {
         Ok(())
     }
 
-    /// Applies the next message, and says what the server is to be told of it. `Need` says that the
-    /// bytes taken hold no further whole message and no refusal. The first fault closes the client; a
-    /// message for which memory ran out has changed nothing.
+    /// Applies the next message, and says which it is and what the server is to be told of it. `Need`
+    /// says that the bytes taken hold no further whole message and no refusal. The first fault closes the
+    /// client; a message for which memory ran out has changed nothing.
     pub fn step(&mut self) -> Result<Stepped, ClientFault>
         ensures steps { Steps (closed_by self.old) result self.old self.new }
 
@@ -168,6 +169,13 @@ impl Client {
         self.state.clear()
     }
 
+    /// How many tile records the messages so far have left.
+    pub fn records(&self) -> usize
+        ensures { result ≡ finmap.len (cursor_of self.now).state.records }
+    {
+        self.state.records().count()
+    }
+
     /// How many messages were applied, up to the last value of a count.
     pub fn applied(&self) -> u64
         ensures { result ≡ (cursor_of self.now).applied }
@@ -182,9 +190,8 @@ impl Client {
         ensures offers { offers_of self.new ≡ offers_of self.old }
     {
         'steps: loop {
-            match self.step()? {
-                Stepped::Need => return Ok(()),
-                Stepped::Applied | Stepped::Ended { .. } => {}
+            if needs_more(self.step()?) {
+                return Ok(());
             }
         }
     }
@@ -213,11 +220,12 @@ impl Client {
             return Ok(None);
         };
         // Before it is applied, so that want of memory leaves all as it was.
-        let stepped = stepped_of(self.alloc, &pdu, self.state.decoded().wrapping_add(1))?;
+        let reply = reply_to(self.alloc, &pdu, self.state.decoded().wrapping_add(1))?;
         self.state.apply(self.alloc, &pdu)?;
+        let size = after - self.at;
         self.at = after;
         self.applied = self.applied.saturating_add(1);
-        Ok(Some(stepped))
+        Ok(Some(stepped_of(pdu, size, reply)))
     }
 
     /// Goes on to the next channel message, if a whole one is there.
@@ -235,16 +243,26 @@ impl Client {
     }
 }
 
-/// What a step says of a message, where so many frames are decoded after it.
-fn stepped_of(alloc: Global, pdu: &Pdu, decoded: u32) -> Result<Stepped, NoMemory>
-    ensures { IfOk result (λ stepped. stepped ≡ stepped_of pdu.now decoded) }
+/// Whether a step found no whole message. What it says is let go here, once for all messages.
+fn needs_more(stepped: Stepped) -> bool
+    ensures { IsTrue result ↔ stepped ≡ Stepped.Need }
 {
-    match pdu {
-        Pdu::EndFrame { frame } => {
-            let reply = acknowledgement(alloc, *frame, decoded)?;
-            let frame = *frame;
-            Ok(Stepped::Ended { frame, reply })
-        }
-        _ => Ok(Stepped::Applied),
+    match stepped {
+        Stepped::Need => true,
+        Stepped::Applied { .. } | Stepped::Ended { .. } => false,
+    }
+}
+
+/// What a step says of the message of this size that it applied, with the reply to it.
+fn stepped_of(pdu: Pdu, size: usize, reply: Option<Reply>) -> Stepped
+    ensures { (decoded : ℕ) → reply ≡ reply_to pdu decoded → result ≡ stepped_of pdu size decoded }
+{
+    match reply {
+        Some(Reply { frame, bytes }) => Stepped::Ended {
+            frame,
+            size,
+            reply: bytes,
+        },
+        None => Stepped::Applied { pdu, size },
     }
 }

@@ -1,10 +1,11 @@
 //! What a client writes to the server: messages of its own, each alone in a channel message.
 ghost use Rattle.std.specs.Prelude.{◌≡◌, ◌≤◌, IfOk};
 ghost use Rattle.gfx_caps.specs.Spelling.{IsSpellable, size};
-ghost use Rattle.gfx_client.specs.Replies.{alone, acknowledgement};
+ghost use Rattle.gfx_client.specs.Replies.{alone, acknowledgement, reply_to};
 
 use gfx_base::{Bytes, NoMemory};
 use gfx_caps::{ClientPdu, write_client};
+use gfx_pdu::Pdu;
 use gfx_segment::{MOST_MESSAGE, prefix};
 use std::alloc::Global;
 
@@ -22,7 +23,7 @@ pub fn sent_alone(alloc: Global, pdu: &ClientPdu) -> Result<Bytes, NoMemory>
 }
 
 /// The acknowledgement of a frame behind which so many frames are decoded, as it is sent.
-pub fn acknowledgement(alloc: Global, frame: u32, decoded: u32) -> Result<Bytes, NoMemory>
+fn acknowledgement(alloc: Global, frame: u32, decoded: u32) -> Result<Bytes, NoMemory>
     ensures { IfOk result (λ bytes. bytes ≡ acknowledgement frame decoded) }
 {
     let depth = NOTHING_WAITS;
@@ -35,6 +36,28 @@ pub fn acknowledgement(alloc: Global, frame: u32, decoded: u32) -> Result<Bytes,
             total,
         },
     )
+}
+
+/// What a client tells the server of a frame that has ended.
+#[derive(Drop)]
+pub struct Reply {
+    pub frame: u32,
+    /// The acknowledgement of the frame, as it is sent.
+    pub bytes: Bytes,
+}
+
+/// The reply to a message, where so many frames are decoded after it.
+pub fn reply_to(alloc: Global, pdu: &Pdu, decoded: u32) -> Result<Option<Reply>, NoMemory>
+    ensures { IfOk result (λ reply. reply ≡ reply_to pdu.now decoded) }
+{
+    match pdu {
+        Pdu::EndFrame { frame } => {
+            let frame = *frame;
+            let bytes = acknowledgement(alloc, frame, decoded)?;
+            Ok(Some(Reply { frame, bytes }))
+        }
+        _ => Ok(None),
+    }
 }
 
 /// The queueDepth of a client that applies each message before it takes the next.

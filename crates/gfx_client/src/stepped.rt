@@ -1,13 +1,20 @@
 use gfx_base::Bytes;
+use gfx_pdu::Pdu;
 
 /// What a step of a client did.
 #[derive(Debug, Drop)]
 pub enum Stepped {
-    /// A message was applied.
-    Applied,
+    /// This message was applied.
+    Applied {
+        pdu: Pdu,
+        /// Its length on the wire in bytes (pduLength).
+        size: usize,
+    },
     /// A message was applied that ends this frame ([MS-RDPEGFX] RDPGFX_END_FRAME_PDU).
     Ended {
         frame: u32,
+        /// The length of the message on the wire in bytes (pduLength).
+        size: usize,
         /// The acknowledgement of the frame ([MS-RDPEGFX] RDPGFX_FRAME_ACKNOWLEDGE_PDU), as it is sent
         /// to the server.
         reply: Bytes,

@@ -24,14 +24,14 @@ use Rattle.gfx_schedule.proofs.Flights.{Flight, pair_of}
 abbrev pub word_in : ℕ × State → ClientPdu
 word_in pair = Ack 0 pair.0 pair.1.decoded
 
-one_said : (pdu : Pdu) (state : State) (others : List (ℕ × State)) → reply_in (stepped_of pdu state.decoded) ++ said (map word_in others) ≡ said (map word_in (frame_before pdu state others))
+one_said : (pdu : Pdu) (size : ℕ) (state : State) (others : List (ℕ × State)) → reply_in (stepped_of pdu size state.decoded) ++ said (map word_in others) ≡ said (map word_in (frame_before pdu state others))
 unfolding frame_before
-one_said (EndFrame frame) state others = refl
-one_said other state others = refl
+one_said (EndFrame frame) size state others = refl
+one_said other size state others = refl
 
 pub replies_said : (all : List Effect) → replies all ≡ said (map word_in (frames_of all))
 replies_said [] = refl
-replies_said (x ∷ xs) = ap (λ z. reply_in (stepped_of x.pdu x.state.decoded) ++ z) (replies_said xs) ∙ one_said x.pdu x.state (frames_of xs)
+replies_said (x ∷ xs) = ap (λ z. reply_in (stepped_of x.pdu x.size x.state.decoded) ++ z) (replies_said xs) ∙ one_said x.pdu x.size x.state (frames_of xs)
 
 pub said-append : (xs ys : List ClientPdu) → said (xs ++ ys) ≡ said xs ++ said ys
 said-append xs ys = flat_map-append alone xs ys

@@ -26,4 +26,5 @@ returns-in_err-apply-clause-takes c =
 pub returns-clause-takes : goal.returns-clause-takes
 returns-clause-takes c =
     let read = ap (λ (z : List ℕ). next_pdu z c.args.self.now.at) (sym c.as_slice.ensures) ∙ c.in_ok-pdu.ensures.value in
-    taken c.args.self.now c.in-Some.pdu c.in-Some.after _ _ c.apply.new.self _ (rw c.in-Some.is at read) c.in_ok-apply.ensures.applies c.saturating_add-self.ensures (ap (λ n. (n + 1) % 2 ^ 32) c.decoded.ensures) c.in_ok-stepped.ensures
+    taken c.args.self.now c.in-Some.pdu c.in-Some.after _ _ _ c.apply.new.self _ (rw c.in-Some.is at read) c.in_ok-apply.ensures.applies c.saturating_add-self.ensures (ap (λ n. (n + 1) % 2 ^ 32) c.decoded.ensures) refl
+    (c.stepped_of.ensures _ c.in_ok-reply.ensures)

@@ -1,16 +1,18 @@
--- What the definitions say of small pictures, and of a decoder that holds little.
+-- What the definitions say of small pictures, of a decoder that holds little, and of one message.
 use Rattle.std.proofs.Common.{◌≡◌, ℕ, ◌*◌, ◌<◌, ◌≤◌, List, [], ◌∷◌, ◌++◌, Some, None, Ok, refl, ap, ◌∙◌}
 use Rattle.std.specs.Prelude.{codes}
 use Rattle.std.proofs.lemmas.Bool.{lt-ltb, le-ltb, eq-eqb}
 use Rattle.gfx_base.specs.declared.format.Format.TheVariants.{Xrgb, Argb}
 use Rattle.std.specs.Fmt.{digits}
 use Rattle.hex.specs.Hex.{encode_with}
+use Rattle.gfx_pdu.specs.declared.pdu.Pdu.TheVariants.{StartFrame}
 use Rattle.gfx_base.specs.declared.pixel.Rgb.{Rgb}
 use Rattle.gfx_glyph.specs.Glyphs.{Slot as GlyphSlot, glyph, slot_at, shown, drawn}
 use Rattle.gfx_glyph.specs.declared.glyph.Glyph.{Glyph}
 use Rattle.gfx_glyph.specs.declared.glyphs.TheConstants.{PLACES, MOST_AREA}
 use Rattle.gfx_report.specs.StateBytes.{two_bytes, sides_bytes, colours_bytes, shown_bytes, ring_bytes, glyph_bytes, glyphs_bytes}
-use Rattle.gfx_report.specs.Texts.{surface_line, row_line, rows_text, surface_text}
+use Rattle.gfx_report.specs.Audit.{audit_line, key_digits, places_held, glyphs_held}
+use Rattle.gfx_report.specs.Texts.{surface_line, row_line, rows_text, surface_text, trial_text}
 
 -- a colour
 abbrev rgb : ℕ → ℕ → ℕ → Rgb
@@ -33,6 +35,28 @@ one_column = refl
 pub one_glyph : glyphs_bytes 2 (None ∷ Some (glyph 1 2 (rgb 1 2 3 ∷ rgb 4 5 6 ∷ [])) ∷ []) ≡ 1 ∷ 0 ∷ 1 ∷ 0 ∷ 2 ∷ 0 ∷ 1 ∷ 2 ∷ 3 ∷ 4 ∷ 5 ∷ 6 ∷ []
 unfolding glyphs_bytes shown drawn
 one_glyph = refl
+
+-- the places that hold something are counted, and an empty column is something
+pub two_of_four : places_held (None ∷ Some [] ∷ None ∷ Some (rgb 1 2 3 ∷ []) ∷ []) ≡ 2
+two_of_four = refl
+
+-- and so are the indices
+pub one_of_two : glyphs_held 2 (None ∷ Some (glyph 1 1 (rgb 1 2 3 ∷ [])) ∷ []) ≡ 1
+unfolding glyphs_held
+one_of_two = refl
+
+-- a key begins with its highest digit
+pub one_key : key_digits 0x0123456789abcdef ≡ codes "0123456789abcdef"
+unfolding encode_with
+one_key = refl
+
+pub one_message : audit_line 1 (StartFrame 7 2) 16 ≡ codes "1 StartFrame 16\n"
+unfolding audit_line digits
+one_message = refl
+
+pub one_trial : trial_text 1 7 402 ≡ codes "trial 1 acks 7 step 402"
+unfolding digits
+one_trial = refl
 
 -- a glyph that may be stored is shown whole
 shown_whole : (glyphs : List GlyphSlot) (index : ℕ) (held : Glyph) → index < PLACES → held.width * held.height ≤ MOST_AREA → slot_at glyphs index ≡ Some held

@@ -6,4 +6,5 @@ pub mod Pairs
 pub mod TookLemmas
 pub mod StateEntries
 pub mod DecoderBytes
+pub mod Counts
 pub mod Examples

@@ -1,5 +1,5 @@
 -- The bytes of the surfaces and of the filled slots from a number on.
-use Rattle.std.proofs.Common.{◌≡◌, ◌∙◌, ℕ, ◌+◌, ◌<◌, List, [], ◌++◌, length, suc, Bor, Option, Some, is_some, Ok, Err, Result, true, refl, ap, sym, arith}
+use Rattle.std.proofs.Common.{◌≡◌, ◌∙◌, ℕ, ◌+◌, ◌<◌, ◌≤◌, List, [], ◌++◌, length, suc, Bor, Option, Some, is_some, Ok, Err, Result, true, refl, ap, sym, arith}
 use Rattle.std.specs.Prelude.{IsOk}
 use Rattle.std.specs.List.{flat_map}
 use Rattle.std.specs.Ordering.{nat_cmp}
@@ -12,6 +12,7 @@ use Rattle.gfx_base.specs.declared.bitmap.Bitmap.{Bitmap}
 use Rattle.gfx_base.specs.declared.refusal.Refusal.{Refusal}
 use Rattle.gfx_base.specs.declared.refusal.Refusal.TheVariants.{SlotRange, SlotEmpty}
 use Rattle.gfx_base.proofs.MapLemmas.{from_key, first_key, from_key-zero, next_some}
+use Rattle.std.proofs.lemmas.Bool.Decides.{nat_tests}
 use Rattle.gfx_bitmap_cache.specs.Slots.{Entry, Cached, IsCached, is_slot, shown, entry, image_of}
 use Rattle.gfx_surface.specs.Picture.{Picture}
 use Rattle.gfx_surface_map.specs.Surfaces.{Surfaces}
@@ -41,6 +42,10 @@ module _ {X : Type 0} (f : ℕ → X → List ℕ) where
       → Owes a b due (bytes_from m from) → Took a b due
   none_due a b due m from none owes = Owes_none a b due _ (ap (flat_map (λ entry. f entry.0 entry.1)) none) owes
 
+  -- and no bytes are
+  pub none_left : (m : FinMap nat_cmp X) (from : ℕ) → from_key from (entries m) ≡ [] → bytes_from m from ≡ []
+  none_left m from none = ap (flat_map (λ entry. f entry.0 entry.1)) none
+
 module _ {X : Type 0} where
   -- behind the next entry there are fewer
   pub entries_fewer : (m : FinMap nat_cmp X) (from key : ℕ) → first_key (from_key from (entries m)) ≡ Some key
@@ -64,6 +69,13 @@ shown_filled cache slot held kept found =
     let there : is_slot slot ≡ true = kept.slots slot (ap is_some found) in
     λ i. and_then (check SlotRange (there i)) (λ _. and_then (ok_or (found i) SlotEmpty) (λ h. Ok h.image))
 
+-- the next slot is not before the one that is looked from, and is a slot
+pub next_within : (cache : Cached) (from slot : ℕ) → IsCached cache → Some slot ≡ first_key (from_key from (entries cache.slots)) → (from ≤ slot) × (slot ≤ 25600)
+next_within cache from slot kept first =
+    let next = next_some cache.slots from slot (sym first) in
+    let there : is_slot slot ≡ true = kept.slots slot (ap is_some next.found) in
+    (next.from_on, grind (arith, nat_tests))
+
 -- what is shown is said
 says_ok : {X Y R : Type 0} (view : X → Y) (answer : Result X R) (due : Result Y R) (y : Y) → Says view answer due → due ≡ Ok y → IsOk answer
 says_ok view (Ok x) due y says is = refl
@@ -80,14 +92,13 @@ next_shown cache from slot answer kept first says =
     let next = next_some cache.slots from slot (sym first) in
     says_ok (λ bitmap. image_of bitmap.now) answer (shown cache slot) next.value.image says (shown_filled cache slot next.value kept next.found)
 
--- the next slot as it was looked up: its bytes are due first
-pub slot_due : (a b : Sha256) (due : List ℕ) (cache : Cached) (from slot : ℕ) (looked : Option ℕ) (key : ℕ) (answer : Result (Bor Bitmap) Refusal) (bitmap : Bor Bitmap)
+-- what is said of the filled slots from one on is said of the next one, as it was looked up, and of those behind
+pub slot_next : (f : ℕ → Entry → List ℕ) (cache : Cached) (from slot : ℕ) (looked : Option ℕ) (key : ℕ) (answer : Result (Bor Bitmap) Refusal) (bitmap : Bor Bitmap)
     → IsCached cache → Some slot ≡ first_key (from_key from (entries cache.slots))
     → looked ≡ option_map (λ held. held.key) (get cache.slots slot) → looked ≡ Some key
     → Says (λ bitmap. image_of bitmap.now) answer (shown cache slot) → answer ≡ Ok bitmap
-    → Owes a b due (bytes_from slot_bytes cache.slots from)
-    → Owes a b due (slot_bytes slot (entry key (image_of bitmap.now)) ++ bytes_from slot_bytes cache.slots (slot + 1))
-slot_due a b due cache from slot looked key answer bitmap kept first keyed is says ok owes =
+    → bytes_from f cache.slots from ≡ f slot (entry key (image_of bitmap.now)) ++ bytes_from f cache.slots (slot + 1)
+slot_next f cache from slot looked key answer bitmap kept first keyed is says ok =
     let next = next_some cache.slots from slot (sym first) in
     let found = next.found in
     let same_key : Some key ≡ Some next.value.key = sym is ∙ keyed ∙ ap (option_map (λ held. held.key)) found in
@@ -95,4 +106,14 @@ slot_due a b due cache from slot looked key answer bitmap kept first keyed is sa
     let image_is : image_of bitmap.now ≡ next.value.image =
     says_same (λ bitmap. image_of bitmap.now) answer (shown cache slot) bitmap next.value.image says ok (shown_filled cache slot next.value kept found) in
     let here : get cache.slots slot ≡ Some (entry key (image_of bitmap.now)) = found ∙ (λ i. Some (entry (key_is i) (sym image_is i))) in
-    Owes_as a b due _ _ (next_bytes slot_bytes cache.slots from slot _ (sym first) here) owes
+    next_bytes f cache.slots from slot _ (sym first) here
+
+-- so its bytes are due first
+pub slot_due : (a b : Sha256) (due : List ℕ) (cache : Cached) (from slot : ℕ) (looked : Option ℕ) (key : ℕ) (answer : Result (Bor Bitmap) Refusal) (bitmap : Bor Bitmap)
+    → IsCached cache → Some slot ≡ first_key (from_key from (entries cache.slots))
+    → looked ≡ option_map (λ held. held.key) (get cache.slots slot) → looked ≡ Some key
+    → Says (λ bitmap. image_of bitmap.now) answer (shown cache slot) → answer ≡ Ok bitmap
+    → Owes a b due (bytes_from slot_bytes cache.slots from)
+    → Owes a b due (slot_bytes slot (entry key (image_of bitmap.now)) ++ bytes_from slot_bytes cache.slots (slot + 1))
+slot_due a b due cache from slot looked key answer bitmap kept first keyed is says ok owes =
+    Owes_as a b due _ _ (slot_next slot_bytes cache from slot looked key answer bitmap kept first keyed is says ok) owes

@@ -2,3 +2,4 @@ pub mod Texts
 pub mod Reports
 pub mod StateBytes
 pub mod Hashing
+pub mod Audit

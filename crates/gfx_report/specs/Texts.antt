@@ -1,5 +1,5 @@
--- The texts that report what surfaces show and which frames were acknowledged, as lists of bytes. They are
--- this project's own rule.
+-- The texts that report what surfaces show, which frames were acknowledged, and what a trial came to, as lists of
+-- bytes. They are this project's own rule.
 use Rattle.std.specs.Prelude.{ℕ, List, [], ◌∷◌, ◌++◌, codes, decimal}
 use Rattle.std.specs.List.{flat_map, range_with_len}
 use Rattle.std.specs.FinMap as finmap
@@ -54,11 +54,25 @@ dump_text surfaces = flat_map (λ entry. surface_text entry.0 entry.1) (finmap.e
 unfoldable pub output_line : ℕ → ℕ → List ℕ
 output_line width height = codes "output " ++ (sides_text width height ++ newline)
 
+-- the digests of the client's and the server's state, as in ` client <64 digits> server <64 digits>`
+abbrev pub digests_text : List ℕ → List ℕ → List ℕ
+digests_text client server = codes " client " ++ (encode_lower client ++ (codes " server " ++ (encode_lower server ++ newline)))
+
 -- the line of an acknowledged frame: its id, its recorded step, and the digests of the client's and the
 -- server's state right after it, as in `ack 1 step 2 client <64 digits> server <64 digits>`
 unfoldable pub ack_line : ℕ → ℕ → List ℕ → List ℕ → List ℕ
 ack_line frame step client server =
-    codes "ack " ++ (decimal frame ++ (codes " step " ++ (decimal step ++ (codes " client " ++ (encode_lower client ++ (codes " server " ++ (encode_lower server ++ newline)))))))
+    codes "ack " ++ (decimal frame ++ (codes " step " ++ (decimal step ++ digests_text client server)))
+
+-- what a trial came to, as in `trial 1 acks 7 step 402`
+abbrev pub trial_text : ℕ → ℕ → ℕ → List ℕ
+trial_text number count step = codes "trial " ++ (decimal number ++ (codes " acks " ++ (decimal count ++ (codes " step " ++ decimal step))))
+
+-- the line of a trial: its number, how many frames were acknowledged, the last recorded step, and the digests
+-- of the client's and the server's state right after it, as in
+-- `trial 1 acks 7 step 402 client <64 digits> server <64 digits>`
+unfoldable pub trial_line : ℕ → ℕ → ℕ → List ℕ → List ℕ → List ℕ
+trial_line number count step client server = trial_text number count step ++ digests_text client server
 
 -- the dump of the output: its line, and its rows
 unfoldable pub output_text : Shown → List ℕ

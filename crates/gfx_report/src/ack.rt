@@ -1,14 +1,11 @@
 //! The line of an acknowledged frame.
-ghost use Rattle.std.specs.Prelude.{◌≡◌, ◌+◌, ◌≤◌, ◌++◌, length};
+ghost use Rattle.std.specs.Prelude.{◌≡◌};
 ghost use Rattle.gfx_base.specs.Stream.{Writes, change};
 ghost use Rattle.gfx_report.specs.Texts.{ack_line};
-ghost use Rattle.hex.specs.Hex.{encode_lower};
 
+use crate::hexadecimal::put_digests;
 use gfx_base::{Failed, Sink, write_all};
-use gfx_line::{LINE_ROOM, Line};
-
-/// How many digits a digest has.
-const DIGITS: usize = 64;
+use gfx_line::Line;
 
 /// Writes the line of an acknowledged frame: its id, its recorded step, and the digests of the client's and
 /// of the server's state right after it. It takes no memory; after a fault the sink has gained a front of
@@ -37,21 +34,6 @@ fn ack_line(frame: u32, step: u32, client: &[u8; 32], server: &[u8; 32]) -> Line
     line.put_u32(frame);
     line.put(b" step ");
     line.put_u32(step);
-    line.put(b" client ");
-    put_digest(client, &mut line);
-    line.put(b" server ");
-    put_digest(server, &mut line);
-    line.put(b"\n");
+    put_digests(client, server, &mut line);
     line
-}
-
-/// Appends a digest, two lower-case hexadecimal digits a byte.
-fn put_digest(digest: &[u8; 32], line: &mut Line)
-    requires { length line.old + DIGITS ≤ LINE_ROOM }
-    ensures bytes { line.new ≡ line.old ++ encode_lower digest.now }
-    ensures len { length line.new ≡ length line.old + DIGITS }
-{
-    let mut digits = [0; DIGITS];
-    hex::encode_to_slice(digest, &mut digits).unwrap();
-    line.put(&digits);
 }

@@ -1,11 +1,12 @@
 //! The bytes of what a ClearCodec decoder holds, as a hasher takes them in.
-ghost use Rattle.std.specs.Prelude.{◌≡◌, List, Result, Some};
+ghost use Rattle.std.specs.Prelude.{◌≡◌, List, Result, Some, is_some};
 ghost use Rattle.std.specs.Option.{option_map};
 ghost use Rattle.gfx_base.specs.Outcome.{Says};
 ghost use Rattle.gfx_base.specs.declared.pixel.Rgb.{Rgb};
 ghost use Rattle.gfx_base.specs.declared.refusal.Refusal.{Refusal};
 ghost use Rattle.gfx_clear_store.specs.Rings.{AreRings};
 ghost use Rattle.gfx_glyph.specs.Glyphs.{slot_at};
+ghost use Rattle.gfx_report.specs.Audit.{places_held, glyphs_held};
 ghost use Rattle.gfx_report.specs.Hashing.{Took};
 ghost use Rattle.gfx_report.specs.StateBytes.{place_bytes, ring_bytes, shown_bytes, glyph_bytes, glyphs_bytes, clear_bytes};
 
@@ -18,7 +19,7 @@ use gfx_glyph::Glyphs;
 use sha2::{Digest, Sha256};
 
 /// The indices of glyphs are below this ([MS-RDPEGFX] 2.2.4.1, glyphIndex).
-const INDICES: u16 = 4000;
+pub const INDICES: u16 = 4000;
 
 /// Adds what a decoder holds: the bars, the shorts, the glyphs and the two cursors.
 pub fn add_decoder(decoder: &ClearState, hasher: &mut Sha256)
@@ -32,35 +33,46 @@ pub fn add_decoder(decoder: &ClearState, hasher: &mut Sha256)
     hasher.update(shorts.to_le_bytes());
 }
 
-/// Adds the bars, by ascending place, up to where nothing was ever written.
-fn add_bars(store: &Store, hasher: &mut Sha256)
+/// Adds the bars, by ascending place, up to where nothing was ever written, and gives how many there are.
+pub fn add_bars(store: &Store, hasher: &mut Sha256) -> u16
     requires { AreRings store.now.held }
-    ensures { Took hasher.old hasher.new (ring_bytes 0 store.now.held.bars.slots) }
+    ensures took { Took hasher.old hasher.new (ring_bytes 0 store.now.held.bars.slots) }
+    ensures held { result ≡ places_held store.now.held.bars.slots }
 {
     let (bars, _) = store.written();
+    let mut held = 0;
     'places: for place in 0..bars {
-        add_place(place, store.bar(place), hasher);
+        held += u16::from(add_place(place, store.bar(place), hasher));
     }
+    held
 }
 
-/// Adds the shorts, by ascending place, up to where nothing was ever written.
-fn add_shorts(store: &Store, hasher: &mut Sha256)
+/// Adds the shorts, by ascending place, up to where nothing was ever written, and gives how many there are.
+pub fn add_shorts(store: &Store, hasher: &mut Sha256) -> u16
     requires { AreRings store.now.held }
-    ensures { Took hasher.old hasher.new (ring_bytes 0 store.now.held.shorts.slots) }
+    ensures took { Took hasher.old hasher.new (ring_bytes 0 store.now.held.shorts.slots) }
+    ensures held { result ≡ places_held store.now.held.shorts.slots }
 {
     let (_, shorts) = store.written();
+    let mut held = 0;
     'places: for place in 0..shorts {
-        add_place(place, store.short(place), hasher);
+        held += u16::from(add_place(place, store.short(place), hasher));
     }
+    held
 }
 
-/// Adds a place of a ring, if it was ever written.
+/// Adds a place of a ring, if it was ever written, and gives whether it was.
 #[inline(always)]
-fn add_place(place: u16, slot: Option<&[Rgb]>, hasher: &mut Sha256)
-    ensures { Took hasher.old hasher.new (place_bytes place (option_map (λ pixels. pixels.now) slot.entry)) }
+fn add_place(place: u16, slot: Option<&[Rgb]>, hasher: &mut Sha256) -> bool
+    ensures took { Took hasher.old hasher.new (place_bytes place (option_map (λ pixels. pixels.now) slot.entry)) }
+    ensures held { result ≡ is_some slot.entry }
 {
-    if let Some(pixels) = slot {
-        add_column(place, pixels, hasher);
+    match slot {
+        Some(pixels) => {
+            add_column(place, pixels, hasher);
+            true
+        }
+        None => false,
     }
 }
 
@@ -74,24 +86,32 @@ fn add_column(place: u16, pixels: &[Rgb], hasher: &mut Sha256)
     add_colours(pixels, hasher);
 }
 
-/// Adds the glyphs of so many indices, ascending.
-fn add_glyphs(glyphs: &Glyphs, count: u16, hasher: &mut Sha256)
-    ensures { Took hasher.old hasher.new (glyphs_bytes count glyphs.now) }
+/// Adds the glyphs of so many indices, ascending, and gives how many there are.
+pub fn add_glyphs(glyphs: &Glyphs, count: u16, hasher: &mut Sha256) -> u16
+    ensures took { Took hasher.old hasher.new (glyphs_bytes count glyphs.now) }
+    ensures held { result ≡ glyphs_held count glyphs.now }
 {
+    let mut held = 0;
     'indices: for index in 0..count {
-        add_index(glyphs, index, hasher);
+        held += u16::from(add_index(glyphs, index, hasher));
     }
+    held
 }
 
-/// Adds an index, if a glyph is held there.
+/// Adds an index, if a glyph is held there, and gives whether one is.
 #[inline(always)]
-fn add_index(glyphs: &Glyphs, index: u16, hasher: &mut Sha256)
-    ensures { Took hasher.old hasher.new (glyph_bytes glyphs.now index (slot_at glyphs.now index)) }
+fn add_index(glyphs: &Glyphs, index: u16, hasher: &mut Sha256) -> bool
+    ensures took { Took hasher.old hasher.new (glyph_bytes glyphs.now index (slot_at glyphs.now index)) }
+    ensures held { result ≡ is_some (slot_at glyphs.now index) }
 {
-    if let Some((width, height)) = glyphs.size(index) {
-        hasher.update(index.to_le_bytes());
-        add_sides(width, height, hasher);
-        add_shown(glyphs.show(index, width, height), hasher);
+    match glyphs.size(index) {
+        Some((width, height)) => {
+            hasher.update(index.to_le_bytes());
+            add_sides(width, height, hasher);
+            add_shown(glyphs.show(index, width, height), hasher);
+            true
+        }
+        None => false,
     }
 }
 

@@ -96,7 +96,7 @@ fn add_run(
 }
 
 /// Adds pixels, piece by piece.
-fn add_pixels(pixels: &[Pixel], hasher: &mut Sha256)
+pub fn add_pixels(pixels: &[Pixel], hasher: &mut Sha256)
     ensures { Took hasher.old hasher.new (pixels_bytes pixels.now) }
 {
     let mut bytes = [0; BYTES_PER_PIXEL * PIECE];

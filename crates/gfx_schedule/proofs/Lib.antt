@@ -14,3 +14,4 @@ pub mod Keeping
 pub mod Confirming
 pub mod Turns
 pub mod Rounds
+pub mod Unseen

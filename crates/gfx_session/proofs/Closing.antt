@@ -4,10 +4,11 @@ use Rattle.std.proofs.lemmas.List.{length-map}
 use Rattle.gfx_schedule.specs.Hearing.{Heard, listening, hears}
 use Rattle.gfx_schedule.specs.Plan.{InPlan}
 use Rattle.gfx_schedule.specs.ServerEnd.{Stop, Refused as refuses, Unknown as unknown}
+use Rattle.gfx_script.specs.Kinds.{Fits}
 use Rattle.gfx_script.specs.Script.{IsAccepted}
 use Rattle.gfx_script.specs.Scripted.{Script}
 use Rattle.gfx_window.specs.declared.window.Sent.{Sent}
-use Rattle.gfx_session.specs.Kept.{digest_in, own_steps, InStep, IsServerEnd, Stands}
+use Rattle.gfx_session.specs.Kept.{digest_in, InStep, IsServerEnd, Stands}
 use Rattle.gfx_session.specs.Listening.{Amid, Beside, Hears}
 use Rattle.gfx_session.specs.Serving.{Takes, Listens, taken_of}
 use Rattle.gfx_session.specs.declared.server_end.ServerEnd.{ServerEnd}
@@ -18,10 +19,12 @@ use Rattle.gfx_session.specs.declared.server_end.listening.Taken.{Taken}
 -- what every server's end has stays
 in_step : (script : Script) (old new : ServerEnd) (had has : List Taken) → Beside old new had has → InStep old → InStep new
 in_step script old new had has b i = record {
+  kinded = i.kinded;
+  fits = subst (λ z. Fits i.kinded z.steps) (sym b.script) i.fits;
   at = record i.at { window = new.window };
   gone = i.gone;
   waiting = i.waiting;
-  plan = subst (λ z. InPlan z (own_steps z) (record i.at { window = new.window }) i.gone i.waiting) (sym b.script) (record {
+  plan = subst (λ z. InPlan z i.kinded (record i.at { window = new.window }) i.gone i.waiting) (sym b.script) (record {
     cut = i.plan.cut;
     last = i.plan.last;
     pending = b.pending ∙ ap (λ z. z.pending) i.window ∙ i.plan.pending;
@@ -46,7 +49,7 @@ keeps old new had has b i = record {
 pub closed_too : (new : ServerEnd) (closed : Bool) → IsServerEnd new → IsServerEnd (record new { closed = closed })
 closed_too new closed i = record {
   good = i.good;
-  in_step = λ fresh. let s = i.in_step fresh in record { at = s.at; gone = s.gone; waiting = s.waiting; plan = s.plan; last = s.last; window = s.window; planned = s.planned };
+  in_step = λ fresh. let s = i.in_step fresh in record { kinded = s.kinded; fits = s.fits; at = s.at; gone = s.gone; waiting = s.waiting; plan = s.plan; last = s.last; window = s.window; planned = s.planned };
 }
 
 -- a server's end that a fault closes stands for the schedule's that has stopped

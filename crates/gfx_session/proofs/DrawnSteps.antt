@@ -1,17 +1,17 @@
 -- What the client of a session draws, step by step.
-use Rattle.std.proofs.Common.{◌≡◌, ℕ, ◌<◌, List, [], ◌∷◌, ◌++◌, map, Option, Some, None, Err, refl, sym, ap, ◌∙◌, subst, append_assoc, arith}
+use Rattle.std.proofs.Common.{◌≡◌, ℕ, ◌<◌, List, [], ◌∷◌, ◌++◌, map, Option, Some, None, Ok, Err, refl, sym, ap, ◌∙◌, subst, append_assoc, arith}
 use Rattle.std.proofs.lemmas.List.{append-nil, map-append}
 use Rattle.std.proofs.lemmas.List.Elements.{filter-append}
 use Rattle.std.proofs.lemmas.Grind.{flat_map-append}
 use Rattle.gfx_base.specs.declared.refusal.Refusal.{Refusal}
 use Rattle.gfx_client.specs.Client.{cursor_of, closed_by, Steps, StepsOpen, Ends, MovesBy, Waits}
 use Rattle.gfx_client.specs.Replies.{stepped_of, stepped_by, reply_in, replies}
-use Rattle.gfx_client.specs.Standing.{HasBrought, BringsNext}
+use Rattle.gfx_client.specs.Standing.{HasBrought, BringsNext, BringsOpen}
 use Rattle.gfx_client.specs.declared.client.Client.{Client}
 use Rattle.gfx_client.specs.declared.fault.ClientFault.{ClientFault}
 use Rattle.gfx_client.specs.declared.fault.ClientFault.TheVariants.{Refused, Memory, ClosedRefused, ClosedMemory}
 use Rattle.gfx_client.specs.declared.stepped.Stepped.{Stepped}
-use Rattle.gfx_client.specs.declared.stepped.Stepped.TheVariants.{Applied, Ended}
+use Rattle.gfx_client.specs.declared.stepped.Stepped.TheVariants.{Applied, Ended, Need}
 use Rattle.gfx_pdu.specs.declared.pdu.Pdu.{Pdu}
 use Rattle.gfx_pdu.specs.declared.pdu.Pdu.TheVariants.{EndFrame}
 use Rattle.gfx_state.specs.Cursor.{settled, run_at}
@@ -20,6 +20,9 @@ use Rattle.gfx_state.specs.Run.{Run, refuse}
 use Rattle.gfx_state.specs.State.{State}
 use Rattle.gfx_state.proofs.Moves.{settled_reaches, settled_refuses}
 use Rattle.gfx_state.proofs.Weights.{weight, weight_reaches}
+use Rattle.gfx_session.specs.Drawing.{drawn_by}
+use Rattle.gfx_session.specs.declared.drawing.Drawn.{Drawn}
+use Rattle.gfx_session.specs.declared.drawing.Drawn.TheVariants.{Nothing, Message, Frame}
 use Rattle.gfx_session.specs.Kept.{digest_in}
 use Rattle.gfx_session.specs.Turning.{Drew, Draws}
 
@@ -44,10 +47,10 @@ memory_alone f old new none good s = only_memory f old new good (subst (λ (z : 
 
 -- the digest of the state at the end of a frame
 abbrev pub noted_of : Stepped → State → List (List ℕ)
-noted_of (Ended frame reply) state = digest_in state ∷ []
+noted_of (Ended frame size reply) state = digest_in state ∷ []
 noted_of other state = []
 
-one_noted : (pdu : Pdu) (size : ℕ) (state : State) → map digest_in (end_states (record { pdu = pdu; size = size; state = state } ∷ [])) ≡ noted_of (stepped_of pdu state.decoded) state
+one_noted : (pdu : Pdu) (size : ℕ) (state : State) → map digest_in (end_states (record { pdu = pdu; size = size; state = state } ∷ [])) ≡ noted_of (stepped_of pdu size state.decoded) state
 one_noted (EndFrame frame) size state = refl
 one_noted other size state = refl
 
@@ -87,18 +90,39 @@ draws_next old new said bytes all up_before up up_now noted_before noted noted_n
       ∙ ap (λ z. noted_before ++ z) (sym (more_noted d.more (n.next ∷ [])));
 }
 
-pub draws_applied : (start old new : Client) (up_before up : List ℕ) (noted_before noted : List (List ℕ)) → Draws start old up_before up noted_before noted
-    → ((bytes : List ℕ) (all : List Effect) → HasBrought old bytes all → BringsNext new bytes all Applied) → Draws start new up_before up noted_before noted
-draws_applied start old new up_before up noted_before noted before brings = λ bytes all b.
+draws_applied : (start old new : Client) (pdu : Pdu) (size : ℕ) (up_before up : List ℕ) (noted_before noted : List (List ℕ)) → Draws start old up_before up noted_before noted
+    → ((bytes : List ℕ) (all : List Effect) → HasBrought old bytes all → BringsNext new bytes all (Applied pdu size)) → Draws start new up_before up noted_before noted
+draws_applied start old new pdu size up_before up noted_before noted before brings = λ bytes all b.
     let d = before bytes all b in
-    draws_next old new Applied bytes all up_before up up noted_before noted noted d (brings bytes (all ++ d.more) d.brought) (sym (append-nil up)) (sym (append-nil noted))
+    draws_next old new (Applied pdu size) bytes all up_before up up noted_before noted noted d (brings bytes (all ++ d.more) d.brought) (sym (append-nil up)) (sym (append-nil noted))
 
-pub draws_ended : (start old new : Client) (frame : ℕ) (reply : List ℕ) (up_before up up_now : List ℕ) (noted_before noted noted_now : List (List ℕ)) → Draws start old up_before up noted_before noted
-    → ((bytes : List ℕ) (all : List Effect) → HasBrought old bytes all → BringsNext new bytes all (Ended frame reply))
+draws_ended : (start old new : Client) (frame size : ℕ) (reply : List ℕ) (up_before up up_now : List ℕ) (noted_before noted noted_now : List (List ℕ)) → Draws start old up_before up noted_before noted
+    → ((bytes : List ℕ) (all : List Effect) → HasBrought old bytes all → BringsNext new bytes all (Ended frame size reply))
     → up_now ≡ up ++ reply → noted_now ≡ noted ++ digest_in (cursor_of new).state ∷ [] → Draws start new up_before up_now noted_before noted_now
-draws_ended start old new frame reply up_before up up_now noted_before noted noted_now before brings replied shown = λ bytes all b.
+draws_ended start old new frame size reply up_before up up_now noted_before noted noted_now before brings replied shown = λ bytes all b.
     let d = before bytes all b in
-    draws_next old new (Ended frame reply) bytes all up_before up up_now noted_before noted noted_now d (brings bytes (all ++ d.more) d.brought) replied shown
+    draws_next old new (Ended frame size reply) bytes all up_before up up_now noted_before noted noted_now d (brings bytes (all ++ d.more) d.brought) replied shown
+
+-- a message that ends no frame
+pub draws_message : (start old new : Client) (stepped : Stepped) (up_before up : List ℕ) (noted_before noted : List (List ℕ)) → drawn_by stepped ≡ Message → Draws start old up_before up noted_before noted
+    → ((bytes : List ℕ) (all : List Effect) → HasBrought old bytes all → BringsOpen (Ok stepped) new bytes all) → Draws start new up_before up noted_before noted
+draws_message start old new Need up_before up noted_before noted is before brings = absurd cc
+draws_message start old new (Applied pdu size) up_before up noted_before noted is before brings = draws_applied start old new pdu size up_before up noted_before noted before brings
+draws_message start old new (Ended frame size reply) up_before up noted_before noted is before brings = absurd cc
+
+abbrev reply_drawn : Drawn → List ℕ
+reply_drawn (Frame reply) = reply
+reply_drawn other = []
+
+-- the end of a frame
+pub draws_frame : (start old new : Client) (stepped : Stepped) (said : List ℕ) (up_before up up_now : List ℕ) (noted_before noted noted_now : List (List ℕ)) → drawn_by stepped ≡ Frame said → Draws start old up_before up noted_before noted
+    → ((bytes : List ℕ) (all : List Effect) → HasBrought old bytes all → BringsOpen (Ok stepped) new bytes all)
+    → up_now ≡ up ++ said → noted_now ≡ noted ++ digest_in (cursor_of new).state ∷ [] → Draws start new up_before up_now noted_before noted_now
+draws_frame start old new Need said up_before up up_now noted_before noted noted_now is before brings replied shown = absurd cc
+draws_frame start old new (Applied pdu size) said up_before up up_now noted_before noted noted_now is before brings replied shown = absurd cc
+draws_frame start old new (Ended frame size reply) said up_before up up_now noted_before noted noted_now is before brings replied shown =
+    let same : reply ≡ said = ap reply_drawn is in
+    draws_ended start old new frame size reply up_before up up_now noted_before noted noted_now before brings (replied ∙ ap (λ z. up ++ z) (sym same)) shown
 
 -- it needs more bytes
 pub draws_rest : (start old new : Client) (up_before up : List ℕ) (noted_before noted : List (List ℕ)) → Draws start old up_before up noted_before noted
@@ -114,12 +138,35 @@ pub record GoesOn (start old new : Client) : Type 0 where
   pub not_closed : closed_by new ≡ None
   pub lighter : weight (cursor_of new) < weight (cursor_of old)
 
-pub goes_on : (start old new : Client) (said : Stepped) → settled (cursor_of old) ≡ settled (cursor_of start) → closed_by old ≡ None → MovesBy old new said → GoesOn start old new
+goes_on : (start old new : Client) (said : Stepped) → settled (cursor_of old) ≡ settled (cursor_of start) → closed_by old ≡ None → MovesBy old new said → GoesOn start old new
 goes_on start old new said same none m = record {
   run = settled_reaches (cursor_of old) (cursor_of new) (m.pdu ∷ []) m.moves.reaches ∙ same;
   not_closed = m.moves.closed ∙ none;
   lighter = let few = weight_reaches (cursor_of old) (cursor_of new) (m.pdu ∷ []) m.moves.reaches in omega arith;
 }
+
+-- a step that is no wait
+pub goes_by : (start old new : Client) (stepped : Stepped) → (drawn_by stepped ≡ Nothing → ⊥) → settled (cursor_of old) ≡ settled (cursor_of start) → closed_by old ≡ None → StepsOpen (Ok stepped) old new → GoesOn start old new
+goes_by start old new Need moved same none steps = absurd (moved refl)
+goes_by start old new (Applied pdu size) moved same none steps = goes_on start old new (Applied pdu size) same none steps
+goes_by start old new (Ended frame size reply) moved same none steps = goes_on start old new (Ended frame size reply) same none steps
+
+pub no_message : (stepped : Stepped) → drawn_by stepped ≡ Message → drawn_by stepped ≡ Nothing → ⊥
+no_message stepped is other = absurd cc
+
+pub no_frame : (stepped : Stepped) (said : List ℕ) → drawn_by stepped ≡ Frame said → drawn_by stepped ≡ Nothing → ⊥
+no_frame stepped said is other = absurd cc
+
+-- a step that is one
+pub needs : (old new : Client) (stepped : Stepped) → drawn_by stepped ≡ Nothing → StepsOpen (Ok stepped) old new → Waits old new
+needs old new Need is steps = steps
+needs old new (Applied pdu size) is steps = absurd cc
+needs old new (Ended frame size reply) is steps = absurd cc
+
+pub needs_brought : (new : Client) (bytes : List ℕ) (all : List Effect) (stepped : Stepped) → drawn_by stepped ≡ Nothing → BringsOpen (Ok stepped) new bytes all → HasBrought new bytes all
+needs_brought new bytes all Need is brings = brings.0
+needs_brought new bytes all (Applied pdu size) is brings = absurd cc
+needs_brought new bytes all (Ended frame size reply) is brings = absurd cc
 
 pub waits_on : (start old new : Client) → settled (cursor_of old) ≡ settled (cursor_of start) → Waits old new → settled (cursor_of new) ≡ settled (cursor_of start)
 waits_on start old new same w = settled_reaches (cursor_of old) (cursor_of new) [] w.moves.reaches ∙ same

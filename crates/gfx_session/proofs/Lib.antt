@@ -8,4 +8,6 @@ pub mod Midway
 pub mod Closing
 pub mod NotedFrames
 pub mod DrawnSteps
+pub mod LastHeard
+pub mod ChosenKinds
 pub mod TurnLemmas

@@ -28,7 +28,7 @@ use Rattle.gfx_state.specs.State.{State}
 use Rattle.gfx_window.specs.declared.window.AckUnknown.{AckUnknown}
 use Rattle.gfx_window.specs.declared.window.Sent.{Sent}
 use Rattle.gfx_window.specs.Window.{Window, acknowledged}
-use Rattle.gfx_session.specs.Kept.{digest_in, own_steps}
+use Rattle.gfx_session.specs.Kept.{digest_in}
 use Rattle.gfx_session.specs.Listening.{Amid, Beside, Obeys, fault_of}
 use Rattle.gfx_session.specs.Serving.{taken_of}
 use Rattle.gfx_session.specs.declared.server_end.ServerEnd.{ServerEnd}
@@ -213,7 +213,7 @@ amid_acked before now had has more old new heard frame step digest s oldest popp
     let joined = taken_of-append heard.taken (record { frame = frame; step = step }) (map digest_in heard.states) digest (length-map heard.states digest_in ∙ a.paired) in
     record {
       fresh = s.spent ∙ a.fresh;
-      left = a.left ∙ ap (λ z. drop heard.end.last (own_steps z)) (sym s.script);
+      left = a.left ∙ ap (λ z. drop heard.end.last z.steps) (sym s.script);
       last = s.last ∙ a.last;
       window = refl;
       planned = s.planner ∙ a.planned;

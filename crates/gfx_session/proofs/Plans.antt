@@ -1,14 +1,17 @@
--- A server's end that is in step with its script: what may go as a frame, and the start.
+-- A server's end that is in step with its script: what may go as a frame, the start, and choosers that are brought.
 use Rattle.std.proofs.Common.{◌≡◌, ◌+◌, ◌≤◌, ◌<◌, Bool, true, false, ◌&&◌, not, List, [], ◌∷◌, ◌++◌, length, drop, Some, IsSome, Ok, refl, sym, ap, ◌∙◌, subst, append_assoc, arith, length-append}
 use Rattle.std.specs.List.{AllByRecursion}
 use Rattle.std.specs.Option.{option_map}
 use Rattle.std.proofs.Math.Seq.{drop-append_seam}
 use Rattle.std.proofs.lemmas.Bool.{ne_eqb}
 use Rattle.std.proofs.lemmas.List.{map-append, length-map}
+use Rattle.gfx_chooser.specs.Choosing.{Chooser}
+use Rattle.gfx_chooser.specs.Kinded.{kinded as chosen}
+use Rattle.gfx_chooser.proofs.Asking.{bare_kinded, kinds_kinded}
 use Rattle.gfx_planner.specs.Joined.{after_frame, JoinsFrame}
 use Rattle.gfx_planner.specs.Planned.{Planned}
 use Rattle.gfx_planner.specs.Want.{want}
-use Rattle.gfx_script.proofs.OwnKinds.{own_steps_fit}
+use Rattle.gfx_planner.proofs.Lists.{all_both, all_front, all_behind}
 use Rattle.gfx_planner.proofs.Streams.{bare, first_held, stands_at_start}
 use Rattle.gfx_schedule.specs.Leaving.{step_of}
 use Rattle.gfx_schedule.specs.Plan.{InPlan}
@@ -16,11 +19,11 @@ use Rattle.gfx_schedule.specs.ServerEnd.{ServerEnd as EndOfSchedule, server_at_s
 use Rattle.gfx_schedule.proofs.Items.{length-numbered, step_at-middle}
 use Rattle.gfx_schedule.proofs.Planning.{Ahead, ahead, joins}
 use Rattle.gfx_script.specs.Checks.{held_through}
-use Rattle.gfx_script.specs.Kinds.{KindedStep, as_kind}
+use Rattle.gfx_script.specs.Kinds.{KindedStep, HasKind, Fits, as_kind}
 use Rattle.gfx_script.specs.Script.{IsAccepted, step_at}
 use Rattle.gfx_script.specs.Scripted.{Script}
 use Rattle.gfx_session.specs.Frames.{due_of, MayFrame, can_go}
-use Rattle.gfx_session.specs.Kept.{own_steps, InStep}
+use Rattle.gfx_session.specs.Kept.{GoesBy, InStep}
 use Rattle.gfx_session.specs.declared.server_end.ServerEnd.{ServerEnd}
 use Rattle.gfx_window.specs.Window.{Window, has_room}
 
@@ -52,21 +55,14 @@ some_wait (x ∷ xs) e = omega arith
 
 -- the plan ----------------------------------------------------------------------------------------------
 
--- what is left is what stands behind the last that was queued
-pub left_is : (script : Script) (kinded : List KindedStep) (at : EndOfSchedule) (gone waiting : List KindedStep) → InPlan script kinded at gone waiting → at.left ≡ drop at.last kinded
-left_is script kinded at gone waiting plan =
-    let cut : kinded ≡ (gone ++ waiting) ++ at.left = plan.cut ∙ sym (append_assoc gone waiting at.left) in
-    let count : at.last ≡ length (gone ++ waiting) = plan.last ∙ sym (length-append gone waiting) in
-    sym (drop-append_seam (gone ++ waiting) at.left) ∙ (λ i. drop (sym count i) (sym cut i))
-
-last_within : (script : Script) (at : EndOfSchedule) (gone waiting : List KindedStep) → InPlan script (own_steps script) at gone waiting → at.last ≤ length script.steps
-last_within script at gone waiting plan =
+last_within : (script : Script) (kinded : List KindedStep) (at : EndOfSchedule) (gone waiting : List KindedStep) → Fits kinded script.steps → InPlan script kinded at gone waiting → at.last ≤ length script.steps
+last_within script kinded at gone waiting fits plan =
     let all : length script.steps ≡ length gone + (length waiting + length at.left) =
-    sym (length-map script.steps _) ∙ ap length plan.cut ∙ length-append gone (waiting ++ at.left) ∙ ap (λ n. length gone + n) (length-append waiting at.left) in
+    ap length (sym fits.same) ∙ length-map kinded (λ (z : KindedStep). z.step) ∙ ap length plan.cut ∙ length-append gone (waiting ++ at.left) ∙ ap (λ n. length gone + n) (length-append waiting at.left) in
     omega (arith, plan.last, all)
 
 pub within : (end : ServerEnd) → InStep end → end.last ≤ length end.script.steps
-within end is = subst (λ n. n ≤ length end.script.steps) (sym is.last) (last_within end.script is.at is.gone is.waiting is.plan)
+within end is = subst (λ n. n ≤ length end.script.steps) (sym is.last) (last_within end.script is.kinded is.at is.gone is.waiting is.fits is.plan)
 
 -- each item that waits is a step of the script
 are_steps : (script : Script) (gone waiting left : List KindedStep) → bare (gone ++ (waiting ++ left)) ≡ script.steps → AllByRecursion (λ item. IsSome (step_of script item)) (numbered (length gone + 1) waiting)
@@ -84,16 +80,16 @@ are_steps script gone (one ∷ more) left same =
     )
 
 -- what waits may go as a frame
-pub record May (script : Script) (at : EndOfSchedule) (gone waiting : List KindedStep) (plan : InPlan script (own_steps script) at gone waiting) : Type 0 where
+pub record May (script : Script) (kinded : List KindedStep) (at : EndOfSchedule) (gone waiting : List KindedStep) (plan : InPlan script kinded at gone waiting) : Type 0 where
   pub may : MayFrame script at.server at.window
-  pub ahead : Ahead script (own_steps script) at gone waiting plan.held
+  pub ahead : Ahead script kinded at gone waiting plan.held
   pub joins : JoinsFrame script at.server (due script at) ahead.after (want script (gone ++ waiting))
   pub some : 0 < length waiting
 
-may_at : (script : Script) (at : EndOfSchedule) (gone waiting : List KindedStep) (plan : InPlan script (own_steps script) at gone waiting) → IsAccepted script → is_none at.window.pending ≡ false → May script at gone waiting plan
-may_at script at gone waiting plan good wait =
-    let fits = own_steps_fit script.steps in
-    let a = ahead script (own_steps script) at gone waiting good fits plan in
+may_at : (script : Script) (kinded : List KindedStep) (at : EndOfSchedule) (gone waiting : List KindedStep) (plan : InPlan script kinded at gone waiting) → IsAccepted script → Fits kinded script.steps → is_none at.window.pending ≡ false
+    → May script kinded at gone waiting plan
+may_at script kinded at gone waiting plan good fits wait =
+    let a = ahead script kinded at gone waiting good fits plan in
     let some : 0 < length waiting = omega (arith, some_wait at.window.pending wait, ap length plan.pending, length-numbered (length gone + 1) waiting) in
     record {
       may = record {
@@ -103,7 +99,7 @@ may_at script at gone waiting plan good wait =
         may = record { numbers = a.numbers; kinds = a.kinds; held = plan.held; holds = plan.holds; after = a.after; checked = a.checked };
       };
       ahead = a;
-      joins = joins script (own_steps script) at gone waiting good fits plan a;
+      joins = joins script kinded at gone waiting good fits plan a;
       some = some;
     }
 
@@ -113,8 +109,8 @@ waits end can =
     let tests = both_true end.confirmed (not (is_none end.window.pending) && has_room end.window) can in
     not_true (is_none end.window.pending) (both_true (not (is_none end.window.pending)) (has_room end.window) tests.1).0
 
-pub goes_at : (end : ServerEnd) → IsAccepted end.script → (is : InStep end) → can_go end ≡ true → May end.script is.at is.gone is.waiting is.plan
-goes_at end good is can = may_at end.script is.at is.gone is.waiting is.plan good (ap (λ (w : Window). is_none w.pending) (sym is.window) ∙ waits end can)
+pub goes_at : (end : ServerEnd) → IsAccepted end.script → (is : InStep end) → can_go end ≡ true → May end.script is.kinded is.at is.gone is.waiting is.plan
+goes_at end good is can = may_at end.script is.kinded is.at is.gone is.waiting is.plan good is.fits (ap (λ (w : Window). is_none w.pending) (sym is.window) ∙ waits end can)
 
 pub may_frame : (end : ServerEnd) → IsAccepted end.script → InStep end → can_go end ≡ true → MayFrame end.script end.planner.server end.window
 may_frame end good is can =
@@ -133,7 +129,63 @@ through_none : (script : Script) → held_through (first_held script) [] ≡ Ok 
 unfolding held_through
 through_none script = refl
 
-pub starts : (script : Script) → IsAccepted script → InPlan script (own_steps script) (server_at_start script (own_steps script)) [] []
-starts script good =
+pub starts : (script : Script) (kinded : List KindedStep) → IsAccepted script → InPlan script kinded (server_at_start script kinded) [] []
+starts script kinded good =
     let start = stands_at_start script good in
     record { cut = refl; last = refl; pending = refl; held = first_held script; checked = through_none script; holds = start.holds; agrees = start.agrees; frame = refl; frames = omega arith }
+
+-- choosers are brought -----------------------------------------------------------------------------------------
+
+-- the steps that are left
+left_steps : (script : Script) (kinded : List KindedStep) (at : EndOfSchedule) (gone waiting : List KindedStep) → Fits kinded script.steps → InPlan script kinded at gone waiting → bare at.left ≡ drop at.last script.steps
+left_steps script kinded at gone waiting fits plan =
+    let step = λ (one : KindedStep). one.step in
+    let cut : script.steps ≡ bare (gone ++ waiting) ++ bare at.left = sym fits.same ∙ ap bare (plan.cut ∙ sym (append_assoc gone waiting at.left)) ∙ map-append step (gone ++ waiting) at.left in
+    let count : at.last ≡ length (bare (gone ++ waiting)) = plan.last ∙ sym (length-append gone waiting) ∙ sym (length-map (gone ++ waiting) step) in
+    sym (drop-append_seam (bare (gone ++ waiting)) (bare at.left)) ∙ (λ i. drop (sym count i) (sym cut i))
+
+-- other kinds behind the same steps
+same_behind : (front one other : List KindedStep) → bare one ≡ bare other → bare (front ++ one) ≡ bare (front ++ other)
+same_behind [] one other e = e
+same_behind (x ∷ front) one other e = ap (λ steps. x.step ∷ steps) (same_behind front one other e)
+
+-- of a server's end that is in step what is left may go as any choosers choose
+pub record InStepBy (end : ServerEnd) (choosers : List Chooser) : Type 0 where
+  pub in_step : InStep end
+  pub goes_by : GoesBy end.script choosers in_step.at
+
+pub brings : (end : ServerEnd) (choosers : List Chooser) → InStep end → InStepBy end choosers
+brings end choosers is =
+    let steps = drop is.at.last end.script.steps in
+    let left : List KindedStep = chosen end.script (is.at.last + 1) choosers steps in
+    let same : bare left ≡ bare is.at.left = bare_kinded end.script (is.at.last + 1) choosers steps ∙ sym (left_steps end.script is.kinded is.at is.gone is.waiting is.fits is.plan) in
+    let kinds : AllByRecursion HasKind (is.gone ++ (is.waiting ++ is.at.left)) = subst (AllByRecursion HasKind) is.plan.cut is.fits.kinds in
+    let waiting_kinds = all_front HasKind is.waiting is.at.left (all_behind HasKind is.gone (is.waiting ++ is.at.left) kinds) in
+    record {
+      in_step = record {
+        kinded = is.gone ++ (is.waiting ++ left);
+        fits = record {
+          same = same_behind is.gone (is.waiting ++ left) (is.waiting ++ is.at.left) (same_behind is.waiting left is.at.left same) ∙ ap bare (sym is.plan.cut) ∙ is.fits.same;
+          kinds = all_both HasKind is.gone (is.waiting ++ left) (all_front HasKind is.gone (is.waiting ++ is.at.left) kinds)
+              (all_both HasKind is.waiting left waiting_kinds (kinds_kinded end.script (is.at.last + 1) choosers steps));
+        };
+        at = record is.at { left = left };
+        gone = is.gone;
+        waiting = is.waiting;
+        plan = record {
+          cut = refl;
+          last = is.plan.last;
+          pending = is.plan.pending;
+          held = is.plan.held;
+          checked = is.plan.checked;
+          holds = is.plan.holds;
+          agrees = is.plan.agrees;
+          frame = is.plan.frame;
+          frames = is.plan.frames;
+        };
+        last = is.last;
+        window = is.window;
+        planned = is.planned;
+      };
+      goes_by = refl;
+    }

@@ -1,28 +1,29 @@
 -- The turns of a session, against those of the schedule.
 use Rattle.std.proofs.Common.{◌≡◌, ℕ, zero, suc, add-one, ◌+◌, ◌==◌, Bool, true, false, ◌&&◌, not, if◌then◌else◌, List, [], ◌∷◌, ◌++◌, length, map, take, drop, None, Ok, refl, sym, ap, ◌∙◌, subst, arith, ◌≤◌, length-append}
-use Rattle.std.specs.List.{AllByRecursion}
 use Rattle.std.proofs.lemmas.Bool.{eqb-true}
-use Rattle.std.proofs.lemmas.List.{append-nil, map-append, append_cancel_left, length-map, take-append-drop}
-use Rattle.std.proofs.lemmas.List.Sums.{fold-append}
+use Rattle.std.proofs.lemmas.List.{append-nil, map-append, append_cancel_left, length-map, length-drop, take-append-drop}
 use Rattle.std.proofs.Math.Seq.{drop-append_seam}
 use Rattle.gfx_caps.specs.declared.offer.Offer.{Offer}
+use Rattle.gfx_chooser.specs.Choosing.{Chooser}
+use Rattle.gfx_chooser.specs.Kinded.{Asks}
+use Rattle.gfx_chooser.proofs.Asking.{asks_none, asks_on}
 use Rattle.gfx_client.specs.Client.{cursor_of, closed_by}
 use Rattle.gfx_client.specs.Replies.{hello, replies}
 use Rattle.gfx_client.specs.Standing.{StandsFor, HasBrought, IsDrained}
 use Rattle.gfx_client.specs.declared.client.Client.{Client}
 use Rattle.gfx_client.proofs.Bringing.{brought_drained}
 use Rattle.gfx_schedule.proofs.Turns.{every_schedule}
+use Rattle.gfx_schedule.proofs.Unseen.{left_behind, last_within_all}
 use Rattle.gfx_schedule.specs.Hearing.{listening, hears}
 use Rattle.gfx_schedule.specs.Schedule.{KeepsWorld, RoundsEnd, rounds_for}
 use Rattle.gfx_schedule.specs.ServerEnd.{ServerEnd as EndOfSchedule, server_at_start, is_none, serving, has_served, can_serve, queued}
-use Rattle.gfx_schedule.specs.World.{World, acknowledgements, begin, happens, server_turns, client_takes, server_heard, is_ended, answer, round, drained}
+use Rattle.gfx_schedule.specs.World.{World, acknowledgements, begin, happens, server_turns, client_takes, server_heard, world, is_ended, answer, round, drained}
 use Rattle.gfx_schedule.specs.declared.turned.Turned.{Turned}
 use Rattle.gfx_schedule.specs.declared.turned.Turned.TheVariants.{Moved, Waiting, Ended}
 use Rattle.gfx_script.specs.Kinds.{KindedStep, Fits, own}
 use Rattle.gfx_script.proofs.OwnKinds.{own_steps_fit}
 use Rattle.gfx_script.specs.Script.{IsAccepted}
 use Rattle.gfx_script.specs.Scripted.{Script}
-use Rattle.gfx_script.specs.declared.step.Step.{Step}
 use Rattle.gfx_script.specs.declared.turn.Turn.{Turn}
 use Rattle.gfx_script.specs.declared.turn.Turn.TheVariants.{Server, Client as ToClient, Answer}
 use Rattle.gfx_state.specs.Cursor.{settled}
@@ -33,37 +34,16 @@ use Rattle.gfx_state.proofs.Coming.{coming_needs}
 use Rattle.gfx_state.proofs.Effects.{history-append}
 use Rattle.gfx_window.specs.Window.{has_room}
 use Rattle.gfx_window.specs.declared.window.Sent.{Sent}
-use Rattle.gfx_session.specs.Kept.{digest_in, own_steps, InStep, IsServerEnd}
+use Rattle.gfx_session.specs.Kept.{digest_in, InStep, IsServerEnd}
 use Rattle.gfx_session.specs.Kept as kept
 use Rattle.gfx_session.specs.Serving.{Serves, ListensOpen, taken_of}
-use Rattle.gfx_session.specs.Session.{Stands, IsSession, Turns, Drains, script_of, acked_of}
-use Rattle.gfx_session.specs.Turning.{after, Does, GoesRound, has_moved, TakesBytes, Draws, WillHear, paired}
+use Rattle.gfx_session.specs.Session.{Stands, StandsBy, IsSession, AsksBetween, Turns, Drains, script_of, acked_of}
+use Rattle.gfx_session.specs.Turning.{Does, DoesBy, GoesRound, has_moved, TakesBytes, Draws, WillHear, paired}
 use Rattle.gfx_session.specs.declared.server_end.ServerEnd.{ServerEnd}
 use Rattle.gfx_session.specs.declared.server_end.listening.Taken.{Taken}
 use Rattle.gfx_session.specs.declared.session.Session.{Session}
-
--- the law, for a script's own session ---------------------------------------------------------------------
-
-keeps_after : (script : Script) (turns : List Turn) → IsAccepted script → KeepsWorld script (own_steps script) (after script turns)
-keeps_after script turns good = every_schedule script (own_steps script) turns good (own_steps_fit script.steps)
-
--- one more turn
-pub one_more : (script : Script) (turns : List Turn) (turn : Turn) → after script (turns ++ turn ∷ []) ≡ happens script (after script turns) turn
-one_more script turns turn = fold-append (happens script) (begin script (own_steps script)) turns (turn ∷ [])
-
-keeps_next : (script : Script) (turns : List Turn) (turn : Turn) → IsAccepted script → KeepsWorld script (own_steps script) (happens script (after script turns) turn)
-keeps_next script turns turn good = subst (KeepsWorld script (own_steps script)) (one_more script turns turn) (keeps_after script (turns ++ turn ∷ []) good)
-
--- what stays a session --------------------------------------------------------------------------------------
-
-pub is_on : (old new : Session) (moved : Bool) (turn : Turn) → IsSession old → old.spent ≡ false → IsServerEnd new.server → Does (Ok moved) old new turn → IsSession new
-is_on old new moved turn is fresh server does =
-    let here = is.stands fresh in
-    let there : Stands new (after (script_of old) (here.0 ++ turn ∷ [])) = subst (Stands new) (sym (one_more (script_of old) here.0 turn)) (does.2 here.0 here.1).0 in
-    record { server = server; stands = λ still. (here.0 ++ turn ∷ [], subst (λ (s : Script). Stands new (after s (here.0 ++ turn ∷ []))) (sym does.1) there) }
-
-pub is_spent : (session : Session) → IsServerEnd session.server → session.spent ≡ true → IsSession session
-is_spent session server spent = record { server = server; stands = λ fresh. absurd cc }
+use Rattle.gfx_session.proofs.ChosenKinds.{IsUnderWayBy, by_choosers, one_more, stands_by, by_any}
+use Rattle.gfx_session.proofs.LastHeard.{hears_last}
 
 -- the server's end has a turn ---------------------------------------------------------------------------------
 
@@ -96,28 +76,31 @@ moved_is true can none = sym (none refl)
 moved_is false true none = refl
 moved_is false false none = refl
 
-pub served : (old mid : Session) (before out : List ℕ) (turned : Turned) (moved : Bool) → before ≡ [] → Serves (Ok turned) old.server mid.server before out → mid.down ≡ old.down ++ out → moved ≡ has_moved turned
-    → Does (Ok moved) old (record old { server = mid.server; down = mid.down; spent = false }) Server
+pub served : (old mid : Session) (cs ds : List Chooser) (before out : List ℕ) (turned : Turned) (moved : Bool) → before ≡ [] → Serves (Ok turned) old.server mid.server cs ds before out → mid.down ≡ old.down ++ out → moved ≡ has_moved turned
+    → DoesBy (Ok moved) old (record old { server = mid.server; down = mid.down; spent = false }) cs ds Server
 unfolding happens server_turns
-served old mid before out turned moved none serves down_is moved_are = (
-  refl,
-  serves.1,
-  λ turns s.
-      let w : World = after (script_of old) turns in
-      let does = serves.2 w.server s.server in (
-        record {
-          fresh = refl;
-          server = does.0;
-          client = s.client;
-          brought = s.brought;
-          drained = s.drained;
-          down = down_is ∙ (λ i. s.down i ++ (does.1 ∙ ap (λ z. z ++ serving old.server.script w.server) none) i);
-          up = s.up;
-          drawn = s.drawn;
-          acks = s.acks;
-        },
-        moved_are ∙ ap has_moved does.2 ∙ moved_is (has_served w.server) (can_serve w.server) (served_rests w.server),
-      ),
+served old mid cs ds before out turned moved none serves down_is moved_are = (
+  serves.2,
+  (
+    refl,
+    serves.1,
+    λ kinded turns fits s goes.
+        let w : World = world (script_of old) kinded turns in
+        let does = serves.3 w.server s.server goes in (
+          record {
+            fresh = refl;
+            server = does.0;
+            client = s.client;
+            brought = s.brought;
+            drained = s.drained;
+            down = down_is ∙ (λ i. s.down i ++ (does.1 ∙ ap (λ z. z ++ serving old.server.script w.server) none) i);
+            up = s.up;
+            drawn = s.drawn;
+            acks = s.acks;
+          },
+          moved_are ∙ ap has_moved does.2 ∙ moved_is (has_served w.server) (can_serve w.server) (served_rests w.server),
+        ),
+  ),
 )
 
 -- the client takes bytes ----------------------------------------------------------------------------------------
@@ -158,10 +141,13 @@ pub drawn_on : (old mid : Session) (taken : Client) (most : ℕ) (moved : Bool) 
     → Does (Ok moved) old (record old { client = mid.client; down = mid.down; up = mid.up; drawn = mid.drawn; spent = false }) (ToClient most)
 unfolding happens
 drawn_on old mid taken most moved t run drained draws down_is moved_are = (
+  (
+    refl,
+    refl,
+    λ kinded turns fits s known.
+        (client_takes_on old mid taken most (world (script_of old) kinded turns) t run drained draws down_is s, moved_are ∙ ap (λ z. not (is_none z)) s.down),
+  ),
   refl,
-  refl,
-  λ turns s.
-      (client_takes_on old mid taken most (after (script_of old) turns) t run drained draws down_is s, moved_are ∙ ap (λ z. not (is_none z)) s.down),
 )
 
 -- the same of a piece that is the front of what is in flight
@@ -173,31 +159,38 @@ drew old mid taken most piece moved is t run drained draws down_is moved_are =
 
 -- it isn't closed, and refuses none of them
 pub will_take : (old : Session) → IsSession old → old.spent ≡ false → closed_by old.client ≡ None
-will_take old is fresh = (is.stands fresh).1.drained.not_closed
+will_take old is fresh = (is.under_way fresh).stands.drained.not_closed
+
+-- the law, of one more turn
+keeps_next : (script : Script) (kinded : List KindedStep) (turns : List Turn) (turn : Turn) → IsAccepted script → Fits kinded script.steps → KeepsWorld script kinded (happens script (world script kinded turns) turn)
+keeps_next script kinded turns turn good fits = subst (KeepsWorld script kinded) (one_more script kinded turns turn) (every_schedule script kinded (turns ++ turn ∷ []) good fits)
 
 pub will_draw : (old : Session) (taken : Client) (most : ℕ) (piece : List ℕ) → IsSession old → old.spent ≡ false → piece ≡ take most old.down → TakesBytes old.client taken piece → (settled (cursor_of taken)).refusal ≡ None
 unfolding happens client_takes
 will_draw old taken most piece is fresh same t =
-    let turns : List Turn = (is.stands fresh).0 in
-    let w : World = after (script_of old) turns in
-    let s : Stands old w = (is.stands fresh).1 in
-    let goes = (keeps_next (script_of old) turns (ToClient most) is.server.good).client_goes_on in
-    ap (λ (z : Run). z.refusal) ((t.stands w.taken s.client).run ∙ ap (λ z. run_of (w.taken ++ z)) (same ∙ ap (take most) s.down)) ∙ goes
+    let u = is.under_way fresh in
+    let w : World = world (script_of old) u.kinded u.turns in
+    let goes = (keeps_next (script_of old) u.kinded u.turns (ToClient most) is.server.good u.fits).client_goes_on in
+    ap (λ (z : Run). z.refusal) ((t.stands w.taken u.stands.client).run ∙ ap (λ z. run_of (w.taken ++ z)) (same ∙ ap (take most) u.stands.down)) ∙ goes
 
 -- the server's end takes bytes --------------------------------------------------------------------------------
 
 pub will_hear : (old : Session) (most : ℕ) (piece : List ℕ) → IsSession old → old.spent ≡ false → piece ≡ take most old.up → WillHear old.server piece
 unfolding happens server_heard
 will_hear old most piece is fresh same =
-    let turns : List Turn = (is.stands fresh).0 in
-    let w : World = after (script_of old) turns in
-    let s : Stands old w = (is.stands fresh).1 in
+    let script : Script = script_of old in
+    let u = is.under_way fresh in
+    let w : World = world script u.kinded u.turns in
     record {
       at = w.server;
-      stands = s.server;
-      goes_on = (keeps_after (script_of old) turns is.server.good).server_goes_on;
-      will = subst (λ z. (hears (script_of old) (listening w.server) z).end.stopped ≡ None) (sym (same ∙ ap (take most) s.up)) (keeps_next (script_of old) turns (Answer most) is.server.good).server_goes_on;
+      stands = u.stands.server;
+      goes_on = (every_schedule script u.kinded u.turns is.server.good u.fits).server_goes_on;
+      will = subst (λ z. (hears script (listening w.server) z).end.stopped ≡ None) (sym (same ∙ ap (take most) u.stands.up)) (keeps_next script u.kinded u.turns (Answer most) is.server.good u.fits).server_goes_on;
     }
+
+-- no step is queued by it
+heard_last : (old new : ServerEnd) (out : List ℕ) (notes : List Taken) (piece : List ℕ) → WillHear old piece → ListensOpen (Ok tt) old new [] out [] notes piece → new.last ≡ old.last
+heard_last old new out notes piece will listens = (listens will.at will.stands).0.last ∙ hears_last old.script (listening will.at) piece ∙ sym will.stands.last
 
 -- the frames that are noted, with what was drawn
 paired_are : (frames : List Sent) (servers clients : List State) → paired (taken_of frames (map digest_in servers)) (map digest_in clients) ≡ map acked_of (acknowledgements frames servers clients)
@@ -237,138 +230,189 @@ server_heard_on old mid out notes most w listens up_is down_is acks_are drawn_ar
       acks = acks_are ∙ (λ i. s.acks i ++ paired (does.3 i) (s.drawn i)) ∙ ap (λ z. map acked_of w.acks ++ z) (paired_are _ _ w.drawn) ∙ sym (map-append acked_of w.acks _);
     }
 
-pub heard_on : (old mid : Session) (out : List ℕ) (notes : List Taken) (most : ℕ) (moved : Bool) → ListensOpen (Ok tt) old.server mid.server [] out [] notes (take most old.up) → mid.server.script ≡ old.server.script → mid.up ≡ drop (length (take most old.up)) old.up
-    → mid.down ≡ old.down ++ out → mid.acks ≡ old.acks ++ paired notes old.drawn.items → mid.drawn.items ≡ drop (length notes) old.drawn.items → moved ≡ not (length old.up == 0)
+pub heard_on : (old mid : Session) (out : List ℕ) (notes : List Taken) (most : ℕ) (moved : Bool) → WillHear old.server (take most old.up) → ListensOpen (Ok tt) old.server mid.server [] out [] notes (take most old.up) → mid.server.script ≡ old.server.script
+    → mid.up ≡ drop (length (take most old.up)) old.up → mid.down ≡ old.down ++ out → mid.acks ≡ old.acks ++ paired notes old.drawn.items → mid.drawn.items ≡ drop (length notes) old.drawn.items → moved ≡ not (length old.up == 0)
     → Does (Ok moved) old (record old { server = mid.server; down = mid.down; up = mid.up; drawn = mid.drawn; acks = mid.acks; spent = false }) (Answer most)
 unfolding happens
-heard_on old mid out notes most moved listens script_is up_is down_is acks_are drawn_are moved_are = (
-  refl,
-  script_is,
-  λ turns s.
-      (server_heard_on old mid out notes most (after (script_of old) turns) listens up_is down_is acks_are drawn_are s, moved_are ∙ ap (λ z. not (is_none z)) s.up),
+heard_on old mid out notes most moved will listens script_is up_is down_is acks_are drawn_are moved_are = (
+  (
+    refl,
+    script_is,
+    λ kinded turns fits s known.
+        (server_heard_on old mid out notes most (world (script_of old) kinded turns) listens up_is down_is acks_are drawn_are s, moved_are ∙ ap (λ z. not (is_none z)) s.up),
+  ),
+  heard_last old.server mid.server out notes (take most old.up) will listens,
 )
 
 -- the same of a piece that is the front of what is in flight
-pub heard : (old mid : Session) (before out piece : List ℕ) (had notes : List Taken) (most : ℕ) (moved : Bool) → before ≡ [] → had ≡ [] → piece ≡ take most old.up → ListensOpen (Ok tt) old.server mid.server before out had notes piece → mid.server.script ≡ old.server.script
-    → mid.up ≡ drop (length piece) old.up → mid.down ≡ old.down ++ out → mid.acks ≡ old.acks ++ paired notes old.drawn.items → mid.drawn.items ≡ drop (length notes) old.drawn.items → moved ≡ not (length old.up == 0)
+pub heard : (old mid : Session) (before out piece : List ℕ) (had notes : List Taken) (most : ℕ) (moved : Bool) → before ≡ [] → had ≡ [] → piece ≡ take most old.up → WillHear old.server piece → ListensOpen (Ok tt) old.server mid.server before out had notes piece
+    → mid.server.script ≡ old.server.script → mid.up ≡ drop (length piece) old.up → mid.down ≡ old.down ++ out → mid.acks ≡ old.acks ++ paired notes old.drawn.items → mid.drawn.items ≡ drop (length notes) old.drawn.items → moved ≡ not (length old.up == 0)
     → Does (Ok moved) old (record old { server = mid.server; down = mid.down; up = mid.up; drawn = mid.drawn; acks = mid.acks; spent = false }) (Answer most)
-heard old mid before out piece had notes most moved none nothing is listens script_is up_is down_is acks_are drawn_are moved_are =
+heard old mid before out piece had notes most moved none nothing is will listens script_is up_is down_is acks_are drawn_are moved_are =
     let here = subst (λ z. ListensOpen (Ok tt) old.server mid.server z out had notes piece) none listens in
     let there = subst (λ z. ListensOpen (Ok tt) old.server mid.server [] out z notes piece) nothing here in
-    heard_on old mid out notes most moved (subst (ListensOpen (Ok tt) old.server mid.server [] out [] notes) is there) script_is (up_is ∙ ap (λ z. drop (length z) old.up) is) down_is acks_are drawn_are moved_are
+    heard_on old mid out notes most moved (subst (WillHear old.server) is will) (subst (ListensOpen (Ok tt) old.server mid.server [] out [] notes) is there) script_is (up_is ∙ ap (λ z. drop (length z) old.up) is) down_is acks_are drawn_are
+    moved_are
 
 -- whether it is ended --------------------------------------------------------------------------------------------
 
 pub within : (end : ServerEnd) → InStep end → end.last ≤ length end.script.steps
 within end is =
-    omega (arith, is.last, is.plan.last, ap length is.plan.cut, length-map end.script.steps own, length-append is.gone (is.waiting ++ is.at.left), length-append is.waiting is.at.left)
+    omega (arith, is.last, is.plan.last, ap length is.plan.cut, ap length is.fits.same, length-map is.kinded (λ (one : KindedStep). one.step), length-append is.gone (is.waiting ++ is.at.left), length-append is.waiting is.at.left)
 
 pub server_within : (session : Session) → IsSession session → session.spent ≡ false → session.server.last ≤ length session.server.script.steps
-server_within session is fresh = within session.server (is.server.in_step (is.stands fresh).1.server.fresh)
+server_within session is fresh = within session.server (is.server.in_step (is.under_way fresh).stands.server.fresh)
 
 -- what is told of a turn -----------------------------------------------------------------------------------------
 
-pub turns_told : (old new : Session) (turn : Turn) (ended moved : Bool) (turned : Turned) → old.spent ≡ false → ((w : World) → Stands old w → ended ≡ is_ended w) → Does (Ok moved) old new turn
-    → turned ≡ (if ended then Ended else (if moved then Moved else Waiting)) → Turns (Ok turned) old new turn
+pub turns_told : (old new : Session) (cs ds : List Chooser) (turn : Turn) (ended moved : Bool) (turned : Turned) → old.spent ≡ false → ((w : World) → Stands old w → ended ≡ is_ended w) → DoesBy (Ok moved) old new cs ds turn
+    → turned ≡ (if ended then Ended else (if moved then Moved else Waiting)) → Turns (Ok turned) old new cs ds turn
 unfolding answer
-turns_told old new turn ended moved turned fresh ends does told = (
+turns_told old new cs ds turn ended moved turned fresh ends does told = (
   fresh,
-  does.1,
-  λ turns s.
-      let did = does.2 turns s in (
-        subst (Stands new) (sym (one_more (script_of old) turns turn)) did.0,
-        told ∙ (λ i. if ends (after (script_of old) turns) s i then Ended else (if did.1 i then Moved else Waiting)),
+  does.1.1,
+  does.0,
+  λ kinded turns fits s.
+      let did = does.1.2 kinded turns fits s.stands s.goes_by in (
+        stands_by old new cs ds moved turn kinded turns does fits s,
+        told ∙ (λ i. if ends (world (script_of old) kinded turns) s.stands i then Ended else (if did.1 i then Moved else Waiting)),
       ),
 )
 
 -- rounds -----------------------------------------------------------------------------------------------------------
 
 -- what a turn does, said of a script
-does_at : (old new : Session) (moved : Bool) (turn : Turn) (script : Script) (turns : List Turn) → script_of old ≡ script → Does (Ok moved) old new turn → Stands old (after script turns) → Stands new (after script (turns ++ turn ∷ []))
-does_at old new moved turn script turns same does s =
-    let did = subst (λ (z : Script). Stands old (after z turns) → Stands new (happens z (after z turns) turn)) same (λ here. (does.2 turns here).0) in
-    subst (Stands new) (sym (one_more script turns turn)) (did s)
+does_at : (old new : Session) (cs ds : List Chooser) (moved : Bool) (turn : Turn) (script : Script) (kinded : List KindedStep) (turns : List Turn) → script_of old ≡ script → DoesBy (Ok moved) old new cs ds turn → Fits kinded script.steps
+    → StandsBy old cs script (world script kinded turns) → StandsBy new ds script (world script kinded (turns ++ turn ∷ []))
+does_at old new cs ds moved turn script kinded turns same does =
+    subst (λ (z : Script). Fits kinded z.steps → StandsBy old cs z (world z kinded turns) → StandsBy new ds z (world z kinded (turns ++ turn ∷ []))) same (stands_by old new cs ds moved turn kinded turns does)
 
-pub round_on : (a b c d : Session) (one two three : Bool) (down up : ℕ) → Does (Ok one) a b Server → down ≡ length b.down → Does (Ok two) b c (ToClient down) → up ≡ length c.up → Does (Ok three) c d (Answer up) → GoesRound (Ok tt) a d
+pub round_on : (a b c d : Session) (cs ds : List Chooser) (one two three : Bool) (down up : ℕ) → DoesBy (Ok one) a b cs ds Server → down ≡ length b.down → Does (Ok two) b c (ToClient down) → up ≡ length c.up → Does (Ok three) c d (Answer up)
+    → GoesRound (Ok tt) a d cs ds
 unfolding round
-round_on a b c d one two three down up first down_is second up_is third = (
-  third.0,
-  third.1 ∙ second.1 ∙ first.1,
-  λ turns s.
+round_on a b c d cs ds one two three down up first down_is second up_is third = (
+  third.0.0,
+  third.0.1 ∙ second.0.1 ∙ first.1.1,
+  subst (λ n. Asks (script_of a) a.server.last n cs ds) (sym (third.1 ∙ second.1)) first.0,
+  λ kinded turns fits s.
       let script : Script = script_of a in
       let drawing : World → World = λ sent. happens script sent (ToClient (length sent.down)) in
       let hearing : World → World = λ drawn. happens script drawn (Answer (length drawn.up)) in
       let t1 : List Turn = turns ++ Server ∷ [] in
       let t2 : List Turn = t1 ++ ToClient down ∷ [] in
       let t3 : List Turn = t2 ++ Answer up ∷ [] in
-      let s1 : Stands b (after script t1) = does_at a b one Server script turns refl first s in
-      let s2 : Stands c (after script t2) = does_at b c two (ToClient down) script t1 first.1 second s1 in
-      let s3 : Stands d (after script t3) = does_at c d three (Answer up) script t2 (second.1 ∙ first.1) third s2 in
-      let w1 : after script t1 ≡ happens script (after script turns) Server = one_more script turns Server in
-      let w2 : after script t2 ≡ drawing (after script t1) = one_more script t1 (ToClient down) ∙ ap (λ n. happens script (after script t1) (ToClient n)) (down_is ∙ ap length s1.down) in
-      let w3 : after script t3 ≡ hearing (after script t2) = one_more script t2 (Answer up) ∙ ap (λ n. happens script (after script t2) (Answer n)) (up_is ∙ ap length s2.up) in
+      let s1 : StandsBy b ds script (world script kinded t1) = stands_by a b cs ds one Server kinded turns first fits s in
+      let s2 : StandsBy c ds script (world script kinded t2) = does_at b c ds ds two (ToClient down) script kinded t1 first.1.1 (by_any b c ds two (ToClient down) second) fits s1 in
+      let s3 : StandsBy d ds script (world script kinded t3) = does_at c d ds ds three (Answer up) script kinded t2 (second.0.1 ∙ first.1.1) (by_any c d ds three (Answer up) third) fits s2 in
+      let w1 : world script kinded t1 ≡ happens script (world script kinded turns) Server = one_more script kinded turns Server in
+      let w2 : world script kinded t2 ≡ drawing (world script kinded t1) =
+      one_more script kinded t1 (ToClient down) ∙ ap (λ n. happens script (world script kinded t1) (ToClient n)) (down_is ∙ ap length s1.stands.down) in
+      let w3 : world script kinded t3 ≡ hearing (world script kinded t2) =
+      one_more script kinded t2 (Answer up) ∙ ap (λ n. happens script (world script kinded t2) (Answer n)) (up_is ∙ ap length s2.stands.up) in
       (t3, (sym (w3 ∙ ap hearing w2 ∙ ap (λ z. hearing (drawing z)) w1), s3)),
 )
 
-pub is_round : (old new : Session) → IsSession old → old.spent ≡ false → IsServerEnd new.server → GoesRound (Ok tt) old new → IsSession new
-is_round old new is fresh server goes =
-    let here = is.stands fresh in
-    let there = goes.2 here.0 here.1 in
-    record { server = server; stands = λ still. (there.0, subst (λ (s : Script). Stands new (after s there.0)) (sym goes.1) there.1.1) }
-
 -- the session has come so far that as many rounds are left
-abbrev pub Draining : Session → Session → ℕ → Type 0
-Draining start now left =
-    (turns : List Turn) → Stands start (after (script_of start) turns)
-    → (more : List Turn) × (Stands now (after (script_of start) more) × (drained (script_of start) (rounds_for (script_of start)) (after (script_of start) turns) ≡ drained (script_of start) left (after (script_of start) more)))
+abbrev pub Draining : Session → Session → List Chooser → List Chooser → ℕ → Type 0
+Draining start now choosers left count =
+    (kinded : List KindedStep) (turns : List Turn) → Fits kinded (script_of start).steps → StandsBy start choosers (script_of start) (world (script_of start) kinded turns)
+    → (more : List Turn) × (StandsBy now left (script_of start) (world (script_of start) kinded more) × (drained (script_of start) (rounds_for (script_of start)) (world (script_of start) kinded turns) ≡ drained (script_of start) count (world (script_of start) kinded more)))
 
-pub drains_none : (start : Session) → Draining start start (rounds_for (script_of start))
-drains_none start = λ turns s. (turns, (s, refl))
+-- and is a session of the same script
+pub record HasDrained (start now : Session) (choosers left : List Chooser) (count : ℕ) : Type 0 where
+  pub is : IsSession now
+  pub fresh : now.spent ≡ false
+  pub same : script_of now ≡ script_of start
+  pub asks : AsksBetween start now choosers left
+  pub goes : Draining start now choosers left count
 
-pub drains_next : (start now next : Session) (left less : ℕ) → left ≡ less + 1 → script_of now ≡ script_of start → Draining start now left → ((w : World) → Stands now w → false ≡ is_ended w) → GoesRound (Ok tt) now next → Draining start next less
-drains_next start now next left less count same before ends goes = λ turns s.
-    let b = before turns s in
+-- at the start all are
+pub drains_none : (start : Session) (cs : List Chooser) (count : ℕ) → IsSession start → start.spent ≡ false → count ≡ rounds_for (script_of start) → HasDrained start start cs cs count
+drains_none start cs count is fresh all = record {
+  is = is;
+  fresh = fresh;
+  same = refl;
+  asks = asks_none (script_of start) start.server.last cs;
+  goes = λ kinded turns fits s. (turns, (s, ap (λ n. drained (script_of start) n (world (script_of start) kinded turns)) (sym all)));
+}
+
+goes_next : (start now next : Session) (cs ds es : List Chooser) (count less : ℕ) → count ≡ less + 1 → script_of now ≡ script_of start → Draining start now cs ds count → ((w : World) → Stands now w → false ≡ is_ended w) → GoesRound (Ok tt) now next ds es
+    → Draining start next cs es less
+goes_next start now next cs ds es count less fewer same before ends goes = λ kinded turns fits s.
+    let b = before kinded turns fits s in
     let script : Script = script_of start in
-    let w : World = after script b.0 in
-    let did = subst (λ (z : Script). Stands now (after z b.0) → (more : List Turn) × ((round z (after z b.0) ≡ after z more) × Stands next (after z more))) same (goes.2 b.0) b.1.0 in (
+    let w : World = world script kinded b.0 in
+    let did = subst (λ (z : Script). Fits kinded z.steps → StandsBy now ds z (world z kinded b.0) → (more : List Turn) × ((round z (world z kinded b.0) ≡ world z kinded more) × StandsBy next es z (world z kinded more))) same
+    (goes.3 kinded b.0) fits b.1.0 in (
       did.0,
       (
         did.1.1,
-        b.1.1 ∙ ap (λ n. drained script n w) (count ∙ add-one less)
-            ∙ ap (λ z. if z then w else drained script less (round script w)) (sym (ends w b.1.0))
+        b.1.1 ∙ ap (λ n. drained script n w) (fewer ∙ add-one less)
+            ∙ ap (λ z. if z then w else drained script less (round script w)) (sym (ends w b.1.0.stands))
             ∙ ap (drained script less) did.1.0,
       ),
     )
+
+pub drains_next : (start now next : Session) (cs ds es : List Chooser) (count less : ℕ) → count ≡ less + 1 → HasDrained start now cs ds count → ((w : World) → Stands now w → false ≡ is_ended w) → GoesRound (Ok tt) now next ds es → IsSession next
+    → HasDrained start next cs es less
+drains_next start now next cs ds es count less fewer before ends goes is = record {
+  is = is;
+  fresh = goes.0;
+  same = goes.1 ∙ before.same;
+  asks = asks_on (script_of start) start.server.last now.server.last next.server.last cs ds es before.asks (subst (λ (z : Script). Asks z now.server.last next.server.last ds es) before.same goes.2);
+  goes = goes_next start now next cs ds es count less fewer before.same before.goes ends goes;
+}
 
 drained_ended : (script : Script) (left : ℕ) (w : World) → is_ended w ≡ true → drained script left w ≡ w
 drained_ended script zero w ended = refl
 drained_ended script (suc left) w ended = ap (λ z. if z then w else drained script left (round script w)) ended
 
+-- where a session is ended all steps were queued
+all_queued : (session : Session) (script : Script) (kinded : List KindedStep) (turns : List Turn) → Fits kinded script.steps → Stands session (world script kinded turns) → is_ended (world script kinded turns) ≡ true
+    → session.server.last ≡ length script.steps
+all_queued session script kinded turns fits s ended =
+    let w : World = world script kinded turns in
+    let served = both_true (is_none w.server.left) _ (both_true (has_served w.server) _ ended).0 in
+    let none : drop w.server.last kinded ≡ [] = sym (left_behind script kinded turns) ∙ none_of w.server.left served.0 in
+    let count : length kinded ≡ length script.steps = sym (length-map kinded (λ (one : KindedStep). one.step)) ∙ ap length fits.same in
+    omega (arith, s.server.last, ap length none, length-drop w.server.last kinded, last_within_all script kinded turns, count)
+
 -- no more rounds are due
-pub drains : (start now : Session) (left : ℕ) → RoundsEnd → IsAccepted (script_of start) → start.spent ≡ false → script_of now ≡ script_of start → Draining start now left
-    → ((w : World) → Stands now w → drained (script_of start) left w ≡ w) → Drains (Ok tt) start now
-drains start now left law good fresh same before rests = (
+pub drains : (start now : Session) (cs ds : List Chooser) (count : ℕ) → RoundsEnd → IsSession start → start.spent ≡ false → HasDrained start now cs ds count → ((w : World) → Stands now w → drained (script_of start) count w ≡ w) → Drains (Ok tt) start now cs ds
+drains start now cs ds count law is fresh before rests = (
   fresh,
-  same,
-  λ turns s.
-      let b = before turns s in (
-        subst (Stands now) (sym (b.1.1 ∙ rests (after (script_of start) b.0) b.1.0)) b.1.0,
-        law (script_of start) (own_steps (script_of start)) turns good (own_steps_fit (script_of start).steps),
-      ),
+  before.same,
+  before.asks,
+  queued_all (by_choosers start cs (is.under_way fresh)),
+  λ kinded turns fits s. (stands_there kinded turns fits s, law script kinded turns is.server.good fits),
 )
+  where
+    script : Script
+    script = script_of start
 
-pub drains_ended : (start now : Session) (left : ℕ) → RoundsEnd → IsAccepted (script_of start) → start.spent ≡ false → script_of now ≡ script_of start → Draining start now left
-    → ((w : World) → Stands now w → true ≡ is_ended w) → Drains (Ok tt) start now
-drains_ended start now left law good fresh same before ends = drains start now left law good fresh same before (λ w s. drained_ended (script_of start) left w (sym (ends w s)))
+    ends_there : (kinded : List KindedStep) (turns : List Turn) (fits : Fits kinded script.steps) (s : StandsBy start cs script (world script kinded turns))
+        → drained script (rounds_for script) (world script kinded turns) ≡ world script kinded (before.goes kinded turns fits s).0
+    ends_there kinded turns fits s = let b = before.goes kinded turns fits s in b.1.1 ∙ rests (world script kinded b.0) b.1.0.stands
 
-pub drains_last : (start now : Session) → RoundsEnd → IsAccepted (script_of start) → start.spent ≡ false → script_of now ≡ script_of start → Draining start now 0 → Drains (Ok tt) start now
-drains_last start now law good fresh same before = drains start now 0 law good fresh same before (λ w s. refl)
+    stands_there : (kinded : List KindedStep) (turns : List Turn) (fits : Fits kinded script.steps) (s : StandsBy start cs script (world script kinded turns)) → Stands now (drained script (rounds_for script) (world script kinded turns))
+    stands_there kinded turns fits s = subst (Stands now) (sym (ends_there kinded turns fits s)) (before.goes kinded turns fits s).1.0.stands
+
+    queued_all : IsUnderWayBy start cs → now.server.last ≡ length script.steps
+    queued_all u =
+        let b = before.goes u.kinded u.turns u.fits u.stands in
+        all_queued now script u.kinded b.0 u.fits b.1.0.stands (ap is_ended (sym (ends_there u.kinded u.turns u.fits u.stands)) ∙ law script u.kinded u.turns is.server.good u.fits)
+
+pub drains_ended : (start now : Session) (cs ds : List Chooser) (count : ℕ) → RoundsEnd → IsSession start → start.spent ≡ false → HasDrained start now cs ds count → ((w : World) → Stands now w → true ≡ is_ended w) → Drains (Ok tt) start now cs ds
+drains_ended start now cs ds count law is fresh before ends = drains start now cs ds count law is fresh before (λ w s. drained_ended (script_of start) count w (sym (ends w s)))
+
+pub drains_last : (start now : Session) (cs ds : List Chooser) → RoundsEnd → IsSession start → start.spent ≡ false → HasDrained start now cs ds 0 → Drains (Ok tt) start now cs ds
+drains_last start now cs ds law is fresh before = drains start now cs ds 0 law is fresh before (λ w s. refl)
 
 -- the start ----------------------------------------------------------------------------------------------------------
 
-pub starts : (session : Session) (script : Script) → session.spent ≡ false → kept.Stands session.server (server_at_start script (own_steps script)) → StandsFor session.client [] → IsDrained session.client → session.down ≡ [] → session.up ≡ hello script.offers
-    → session.drawn.items ≡ [] → session.acks ≡ [] → Stands session (begin script (own_steps script))
-starts session script fresh server client drained down up drawn acks = record {
+pub starts : (session : Session) (script : Script) (kinded : List KindedStep) → session.spent ≡ false → kept.Stands session.server (server_at_start script kinded) → StandsFor session.client [] → IsDrained session.client → session.down ≡ [] → session.up ≡ hello script.offers
+    → session.drawn.items ≡ [] → session.acks ≡ [] → Stands session (begin script kinded)
+starts session script kinded fresh server client drained down up drawn acks = record {
   fresh = fresh;
   server = server;
   client = client;
@@ -380,9 +424,25 @@ starts session script fresh server client drained down up drawn acks = record {
   acks = acks;
 }
 
-pub is_started : (session : Session) (script : Script) → IsServerEnd session.server → session.server.script ≡ script → Stands session (begin script (own_steps script)) → IsSession session × (script_of session ≡ script)
+pub is_started : (session : Session) (script : Script) → IsServerEnd session.server → session.server.script ≡ script → ((kinded : List KindedStep) → Fits kinded script.steps → Stands session (begin script kinded)) → IsSession session × (script_of session ≡ script)
 is_started session script server same stands =
-    (record { server = server; stands = λ fresh. ([], subst (λ (s : Script). Stands session (begin s (own_steps s))) (sym same) stands) }, same)
+    let all : List KindedStep = map own script.steps in
+    let fits : Fits all script.steps = own_steps_fit script.steps in (
+      record {
+        server = server;
+        under_way = λ fresh. record {
+          kinded = all;
+          fits = subst (λ (z : Script). Fits all z.steps) (sym same) fits;
+          turns = [];
+          stands = subst (λ (z : Script). Stands session (begin z all)) (sym same) (stands all fits);
+        };
+      },
+      same,
+    )
+
+-- nothing is queued
+pub last_started : (server : ServerEnd) (script : Script) → ((kinded : List KindedStep) → Fits kinded script.steps → kept.Stands server (server_at_start script kinded)) → server.last ≡ 0
+last_started server script stands = (stands (map own script.steps) (own_steps_fit script.steps)).last
 
 pub starts_up : (up before bytes : List ℕ) (offered had piece offers : List Offer) → up ≡ before ++ bytes → before ≡ [] → bytes ≡ hello offered → offered ≡ had ++ piece → had ≡ [] → piece ≡ offers → up ≡ hello offers
 starts_up up before bytes offered had piece offers put none says are nothing told = put ∙ ap (λ z. z ++ bytes) none ∙ says ∙ ap hello (are ∙ (λ i. nothing i ++ told i))

@@ -1,27 +1,32 @@
 -- A turn of a server's end, against what the schedule says of it.
-use Rattle.std.proofs.Common.{◌≡◌, ℕ, ◌+◌, ◌≤◌, Bool, true, false, ◌&&◌, ◌||◌, not, cond, nat_lt, List, [], ◌∷◌, ◌++◌, length, map, take, drop, is_some, Ok, Err, refl, sym, ap, ◌∙◌, subst, append_assoc, arith, length-append}
+use Rattle.std.proofs.Common.{◌≡◌, ℕ, ◌+◌, ◌≤◌, Bool, true, false, ◌&&◌, ◌||◌, not, ◌==◌, cond, nat_lt, List, [], ◌∷◌, ◌++◌, length, map, take, drop, is_some, Ok, Err, refl, sym, ap, ◌∙◌, subst, append_assoc, arith, length-append}
 use Rattle.std.proofs.Math.Seq.{drop-append_seam}
 use Rattle.std.proofs.lemmas.Bool.{lt-ltb, le-ltb}
 use Rattle.std.proofs.lemmas.List.{append-nil, map-append, length-map, length-take-le, take-append-drop}
 use Rattle.gfx_base.specs.declared.answer.NoMemory.{NoMemory}
+use Rattle.gfx_chooser.specs.Choosing.{Chooser}
+use Rattle.gfx_chooser.specs.Kinded.{Asks, kinded}
+use Rattle.gfx_chooser.proofs.Asking.{asks_none}
 use Rattle.gfx_planner.specs.Joined.{frame_of, after_frame}
 use Rattle.gfx_planner.specs.Planned.{PutsFront, ready}
 use Rattle.gfx_planner.specs.Wire.{Server}
+use Rattle.gfx_planner.proofs.Streams.{bare}
 use Rattle.gfx_schedule.specs.Plan.{InPlan}
 use Rattle.gfx_schedule.specs.ServerEnd.{ServerEnd as EndOfSchedule, first_frame, behind_frame, numbered, queued, is_none, can_send, due, with_sent, sends, bytes_sent, serves, serving, can_serve, has_served}
 use Rattle.gfx_schedule.specs.declared.turned.Turned.{Turned}
 use Rattle.gfx_schedule.specs.declared.turned.Turned.TheVariants.{Moved, Waiting, Ended}
 use Rattle.gfx_schedule.proofs.Items.{frame_parts}
 use Rattle.gfx_schedule.proofs.Planning.{queues, goes}
-use Rattle.gfx_script.specs.Kinds.{KindedStep, own}
+use Rattle.gfx_script.specs.Kinds.{KindedStep, Fits}
 use Rattle.gfx_script.specs.Script.{IsAccepted}
 use Rattle.gfx_script.specs.Scripted.{Script}
+use Rattle.gfx_script.specs.declared.step.Step.{Step}
 use Rattle.gfx_segment.specs.Framing.{front, holding}
 use Rattle.gfx_session.specs.Frames.{next_steps, QueuesFrame, due_of, can_go, Flies, frame_due, SendsFrame}
-use Rattle.gfx_session.specs.Kept.{digest_in, own_steps, Stands, InStep, IsServerEnd}
+use Rattle.gfx_session.specs.Kept.{digest_in, GoesBy, Stands, InStep, IsServerEnd}
 use Rattle.gfx_session.specs.Serving.{Serves, answers}
 use Rattle.gfx_session.specs.declared.server_end.ServerEnd.{ServerEnd}
-use Rattle.gfx_session.proofs.Plans.{both_true, none_false, some_is, none_is, left_is, within, goes_at, next_id}
+use Rattle.gfx_session.proofs.Plans.{both_true, none_false, some_is, none_is, within, goes_at, next_id, brings}
 use Rattle.gfx_state.specs.Sending.{sent}
 use Rattle.gfx_window.specs.Window.{Window, has_room, with_pending}
 use Rattle.gfx_window.specs.Window.{sent as with_frame}
@@ -47,11 +52,11 @@ queued_same : (at : EndOfSchedule) → QueuedSame at (queued at)
 unfolding queued
 queued_same at = record { server = refl; ends = refl; confirmed = refl; stopped = refl; heard = refl }
 
-queued_is : (script : Script) (last number : ℕ) (old new : Window) (at : EndOfSchedule) → at.left ≡ drop at.last (own_steps script) → last ≡ at.last → old ≡ at.window → QueuesFrame (Ok number) script last old new
+queued_is : (script : Script) (last number : ℕ) (choosers left : List Chooser) (old new : Window) (at : EndOfSchedule) → GoesBy script choosers at → last ≡ at.last → old ≡ at.window → QueuesFrame (Ok number) script last choosers left old new
     → (number ≡ (queued at).last) × (new ≡ (queued at).window)
 unfolding queued
-queued_is script last number old new at left same window q =
-    let first : next_steps script last ≡ first_frame at.left = ap (λ n. first_frame (drop n (own_steps script))) same ∙ ap first_frame (sym left) in (
+queued_is script last number choosers left old new at goes same window q =
+    let first : next_steps script choosers last ≡ first_frame at.left = ap (λ n. first_frame (kinded script (n + 1) choosers (drop n script.steps))) same ∙ ap first_frame (sym goes) in (
       q.0 ∙ (λ i. same i + length (first i)),
       q.1 ∙ (λ i. with_pending (window i) ((window i).pending ++ numbered (same i + 1) (first i))),
     )
@@ -63,23 +68,28 @@ drop_first few all xs ys is within =
     let count : length (front ++ xs) ≡ few + length xs = length-append front xs ∙ ap (λ n. n + length xs) (length-take-le few all within) in
     sym (drop-append_seam (front ++ xs) ys) ∙ (λ i. drop (count i) (sym cut i))
 
-queued_left : (at : EndOfSchedule) (all : List KindedStep) → at.left ≡ drop at.last all → at.last ≤ length all → (queued at).left ≡ drop (queued at).last all
+queued_left : (at : EndOfSchedule) (all : List Step) → bare at.left ≡ drop at.last all → at.last ≤ length all → bare (queued at).left ≡ drop (queued at).last all
 unfolding queued
-queued_left at all left within = drop_first at.last all (first_frame at.left) (behind_frame at.left) (sym left ∙ sym (frame_parts at.left)) within
+queued_left at all left within =
+    let step = λ (one : KindedStep). one.step in
+    let first : List KindedStep = first_frame at.left in
+    let behind : List KindedStep = behind_frame at.left in
+    let parts : drop at.last all ≡ bare first ++ bare behind = sym left ∙ ap bare (sym (frame_parts at.left)) ∙ map-append step first behind in
+    drop_first at.last all (bare first) (bare behind) parts within ∙ ap (λ n. drop (at.last + n) all) (length-map first step)
 
 queued_flying : (at : EndOfSchedule) → (queued at).window.flying ≡ at.window.flying
 unfolding queued
 queued_flying at = refl
 
-pub queued_stands : (end : ServerEnd) (at : EndOfSchedule) (number : ℕ) (window : Window) → end.last ≤ length end.script.steps → Stands end at → QueuesFrame (Ok number) end.script end.last end.window window
-    → Stands (awake (with_queued end number window)) (queued at)
-queued_stands end at number window few st q =
-    let is = queued_is end.script end.last number end.window window at st.left st.last st.window q in
+pub queued_stands : (end : ServerEnd) (at : EndOfSchedule) (number : ℕ) (choosers left : List Chooser) (window : Window) → end.last ≤ length end.script.steps → Stands end at → GoesBy end.script choosers at
+    → QueuesFrame (Ok number) end.script end.last choosers left end.window window → Stands (awake (with_queued end number window)) (queued at)
+queued_stands end at number choosers left window few st goes q =
+    let is = queued_is end.script end.last number choosers left end.window window at goes st.last st.window q in
     let same = queued_same at in
-    let all : at.last ≤ length (own_steps end.script) = omega (arith, few, st.last, length-map end.script.steps own) in
+    let all : at.last ≤ length end.script.steps = omega (arith, few, st.last) in
     record {
       fresh = refl;
-      left = queued_left at (own_steps end.script) st.left all;
+      left = queued_left at end.script.steps st.left all;
       last = is.0;
       window = is.1;
       planned = st.planned ∙ ap ready (sym same.server);
@@ -91,14 +101,19 @@ queued_stands end at number window few st q =
       short = λ none. ap front same.heard ∙ st.short (sym same.stopped ∙ none);
     }
 
-pub queued_in_step : (end : ServerEnd) (number : ℕ) (window : Window) → InStep end → QueuesFrame (Ok number) end.script end.last end.window window → InStep (with_queued end number window)
-queued_in_step end number window is q =
-    let new = queued_is end.script end.last number end.window window is.at (left_is end.script (own_steps end.script) is.at is.gone is.waiting is.plan) is.last is.window q in
+-- what is left goes as the choosers choose that are brought
+pub queued_in_step : (end : ServerEnd) (number : ℕ) (choosers left : List Chooser) (window : Window) → InStep end → QueuesFrame (Ok number) end.script end.last choosers left end.window window → InStep (with_queued end number window)
+queued_in_step end number choosers left window was q =
+    let by = brings end choosers was in
+    let is : InStep end = by.in_step in
+    let new = queued_is end.script end.last number choosers left end.window window is.at by.goes_by is.last is.window q in
     record {
+      kinded = is.kinded;
+      fits = is.fits;
       at = queued is.at;
       gone = is.gone;
       waiting = is.waiting ++ first_frame is.at.left;
-      plan = queues end.script (own_steps end.script) is.at is.gone is.waiting is.plan;
+      plan = queues end.script is.kinded is.at is.gone is.waiting is.plan;
       last = new.0;
       window = new.1;
       planned = is.planned ∙ ap ready (sym (queued_same is.at).server);
@@ -123,7 +138,7 @@ flown : (mid new : ServerEnd) (at : EndOfSchedule) (server : Server) → Stands 
 unfolding with_sent
 flown mid new at server st flies id = record {
   fresh = refl;
-  left = st.left ∙ ap (λ (s : Script). drop at.last (own_steps s)) (sym flies.script);
+  left = st.left ∙ ap (λ (s : Script). drop at.last s.steps) (sym flies.script);
   last = flies.last ∙ st.last;
   window = flies.window ∙ (λ i. with_frame (st.window i) (sym id i) (st.last i));
   planned = flies.planned;
@@ -166,29 +181,31 @@ stays mid new true before now good is s =
     let server = after_frame mid.script is.at.server (due mid.script is.at) in
     let same : after_frame mid.script mid.planner.server (due_of mid.script mid.window) ≡ server = λ i. after_frame mid.script ((is.planned i).server) (due_of mid.script (is.window i)) in
     record {
+      kinded = is.kinded;
+      fits = subst (λ (s : Script). Fits is.kinded s.steps) (sym flies.script) is.fits;
       at = with_sent is.at server;
       gone = is.gone ++ is.waiting;
       waiting = [];
-      plan = subst (λ (s : Script). InPlan s (own_steps s) (with_sent is.at server) (is.gone ++ is.waiting) []) (sym flies.script)
-          (goes mid.script (own_steps mid.script) is.at is.gone is.waiting is.plan m.ahead m.some m.joins);
+      plan = subst (λ (s : Script). InPlan s is.kinded (with_sent is.at server) (is.gone ++ is.waiting) []) (sym flies.script)
+          (goes mid.script is.kinded is.at is.gone is.waiting is.plan m.ahead m.some m.joins);
       last = flies.last ∙ is.last;
       window = flies.window ∙ (λ i. with_frame (is.window i) ((is.planned i).server.frames + 1) (is.last i)) ∙ ap (λ n. with_frame is.at.window n is.at.last) (sym m.joins.frames);
       planned = flies.planned ∙ ap ready same;
     }
 stays mid new false before now good is s =
-    subst InStep (sym (ap awake s.1)) record { at = is.at; gone = is.gone; waiting = is.waiting; plan = is.plan; last = is.last; window = is.window; planned = is.planned }
+    subst InStep (sym (ap awake s.1)) record { kinded = is.kinded; fits = is.fits; at = is.at; gone = is.gone; waiting = is.waiting; plan = is.plan; last = is.last; window = is.window; planned = is.planned }
 
 -- the turn --------------------------------------------------------------------------------------------------------
 
 -- all of it was served: a turn changes nothing
 abbrev pub served_now : ServerEnd → Bool
-served_now end = is_none (drop end.last (own_steps end.script)) && (is_none end.window.pending && is_none end.window.flying)
+served_now end = is_none (drop end.last end.script.steps) && (is_none end.window.pending && is_none end.window.flying)
+
+left_none : (end : ServerEnd) (at : EndOfSchedule) → Stands end at → is_none (drop end.last end.script.steps) ≡ is_none at.left
+left_none end at st = ap (λ n. is_none (drop n end.script.steps)) st.last ∙ ap is_none (sym st.left) ∙ ap (λ n. n == 0) (length-map at.left (λ (one : KindedStep). one.step))
 
 served_is : (end : ServerEnd) (at : EndOfSchedule) → Stands end at → served_now end ≡ has_served at
-served_is end at st = λ i. is_none (left i) && (is_none (st.window i).pending && is_none (st.window i).flying)
-  where
-    left : drop end.last (own_steps end.script) ≡ at.left
-    left = ap (λ n. drop n (own_steps end.script)) st.last ∙ sym st.left
+served_is end at st = λ i. left_none end at st i && (is_none (st.window i).pending && is_none (st.window i).flying)
 
 queued_none : (at : EndOfSchedule) → at.left ≡ [] → queued at ≡ at
 unfolding queued
@@ -206,8 +223,8 @@ idles script at done =
     let rests = rests_is script at can in
     (ap (sends script) still ∙ rests.0, ap (bytes_sent script) still ∙ rests.1)
 
-pub ended_turn : (end : ServerEnd) (before : List ℕ) → end.spent ≡ false → served_now end ≡ true → Serves (Ok Ended) end end before before
-ended_turn end before fresh done = (fresh, refl, λ at st. by at st)
+pub ended_turn : (end : ServerEnd) (choosers : List Chooser) (before : List ℕ) → end.spent ≡ false → served_now end ≡ true → Serves (Ok Ended) end end choosers choosers before before
+ended_turn end choosers before fresh done = (fresh, refl, asks_none end.script end.last choosers, λ at st goes. by at st)
   where
     by : (at : EndOfSchedule) → Stands end at → Stands end (serves end.script at) × (before ≡ before ++ serving end.script at) × (Ended ≡ answers at)
     by at st =
@@ -217,6 +234,15 @@ ended_turn end before fresh done = (fresh, refl, λ at st. by at st)
           sym (append-nil before) ∙ ap (λ z. before ++ z) (sym idle.1),
           ap (λ b. cond b Ended (cond (can_serve at) Moved Waiting)) (sym served),
         )
+
+-- what stays where a frame goes
+pub same_script : (mid new : ServerEnd) (went : Bool) (before now : List ℕ) → SendsFrame (Ok went) mid new before now → new.script ≡ mid.script
+same_script mid new true before now s = s.1.script
+same_script mid new false before now s = ap (λ (z : ServerEnd). z.script) s.1
+
+same_last : (mid new : ServerEnd) (went : Bool) (before now : List ℕ) → SendsFrame (Ok went) mid new before now → new.last ≡ mid.last
+same_last mid new true before now s = s.1.last
+same_last mid new false before now s = ap (λ (z : ServerEnd). z.last) s.1
 
 -- some step was queued where one was left
 some_queued : (left : List KindedStep) (last number : ℕ) → number ≡ last + length (first_frame left) → nat_lt last number ≡ not (is_none left)
@@ -232,20 +258,24 @@ either_is false b = refl
 abbrev pub told : Bool → Bool → Turned
 told some went = cond (some || went) Moved Waiting
 
-pub turn : (end new : ServerEnd) (number : ℕ) (window : Window) (went : Bool) (before now : List ℕ) → IsServerEnd end → end.spent ≡ false → served_now end ≡ false → QueuesFrame (Ok number) end.script end.last end.window window
-    → SendsFrame (Ok went) (with_queued end number window) new before now → new.script ≡ end.script → Serves (Ok (told (nat_lt end.last number) went)) end (awake new) before now
-turn end new number window went before now is fresh more q s kept_script = (fresh, kept_script, λ at st. by at st)
+pub turn : (end new : ServerEnd) (number : ℕ) (choosers left : List Chooser) (window : Window) (went : Bool) (before now : List ℕ) → IsServerEnd end → end.spent ≡ false → served_now end ≡ false
+    → QueuesFrame (Ok number) end.script end.last choosers left end.window window → SendsFrame (Ok went) (with_queued end number window) new before now → new.script ≡ end.script
+    → Serves (Ok (told (nat_lt end.last number) went)) end (awake new) choosers left before now
+turn end new number choosers left window went before now is fresh more q s kept_script = (fresh, kept_script, asked, λ at st goes. by at st goes)
   where
     mid : ServerEnd
     mid = with_queued end number window
 
-    by : (at : EndOfSchedule) → Stands end at → Stands (awake new) (serves end.script at) × (now ≡ before ++ serving end.script at) × (told (nat_lt end.last number) went ≡ answers at)
-    by at st =
+    asked : Asks end.script end.last new.last choosers left
+    asked = subst (λ n. Asks end.script end.last n choosers left) (sym (same_last mid new went before now s)) q.2
+
+    by : (at : EndOfSchedule) → Stands end at → GoesBy end.script choosers at → Stands (awake new) (serves end.script at) × (now ≡ before ++ serving end.script at) × (told (nat_lt end.last number) went ≡ answers at)
+    by at st goes =
         let steps = is.in_step fresh in
-        let stands = queued_stands end at number window (within end steps) st q in
-        let f = follows mid new went before now (queued at) is.good (queued_in_step end number window steps q) stands s in
-        let left : at.left ≡ drop end.last (own_steps end.script) = st.left ∙ ap (λ n. drop n (own_steps end.script)) (sym st.last) in
-        let some : nat_lt end.last number ≡ not (is_none at.left) = some_queued at.left end.last number (q.0 ∙ ap (λ z. end.last + length (first_frame z)) (sym left)) in
+        let stands = queued_stands end at number choosers left window (within end steps) st goes q in
+        let f = follows mid new went before now (queued at) is.good (queued_in_step end number choosers left window steps q) stands s in
+        let waits : at.left ≡ kinded end.script (end.last + 1) choosers (drop end.last end.script.steps) = goes ∙ ap (λ n. kinded end.script (n + 1) choosers (drop n end.script.steps)) (sym st.last) in
+        let some : nat_lt end.last number ≡ not (is_none at.left) = some_queued at.left end.last number (q.0 ∙ ap (λ z. end.last + length (first_frame z)) (sym waits)) in
         let moved : (nat_lt end.last number || went) ≡ can_serve at = (λ i. some i || f.2 i) ∙ either_is (is_none at.left) (can_send (queued at)) in
         let unserved : has_served at ≡ false = sym (served_is end at st) ∙ more in (
           f.0,
@@ -253,30 +283,26 @@ turn end new number window went before now is fresh more q s kept_script = (fres
           ap (λ b. cond b Moved Waiting) moved ∙ ap (λ b. cond b Ended (cond (can_serve at) Moved Waiting)) (sym unserved),
         )
 
-pub turned_is : (end new : ServerEnd) (number : ℕ) (window : Window) (went : Bool) (before now : List ℕ) → IsServerEnd end → end.spent ≡ false → QueuesFrame (Ok number) end.script end.last end.window window
-    → SendsFrame (Ok went) (with_queued end number window) new before now → new.script ≡ end.script → IsServerEnd (awake new)
-turned_is end new number window went before now is fresh q s kept_script = record {
+pub turned_is : (end new : ServerEnd) (number : ℕ) (choosers left : List Chooser) (window : Window) (went : Bool) (before now : List ℕ) → IsServerEnd end → end.spent ≡ false
+    → QueuesFrame (Ok number) end.script end.last choosers left end.window window → SendsFrame (Ok went) (with_queued end number window) new before now → new.script ≡ end.script → IsServerEnd (awake new)
+turned_is end new number choosers left window went before now is fresh q s kept_script = record {
   good = subst IsAccepted (sym kept_script) is.good;
-  in_step = λ again. stays (with_queued end number window) new went before now is.good (queued_in_step end number window (is.in_step fresh) q) s;
+  in_step = λ again. stays (with_queued end number window) new went before now is.good (queued_in_step end number choosers left window (is.in_step fresh) q) s;
 }
-
-pub same_script : (mid new : ServerEnd) (went : Bool) (before now : List ℕ) → SendsFrame (Ok went) mid new before now → new.script ≡ mid.script
-same_script mid new true before now s = s.1.script
-same_script mid new false before now s = ap (λ (z : ServerEnd). z.script) s.1
 
 -- without memory ------------------------------------------------------------------------------------------------------
 
 -- a front of the frame was
-pub unsent : (end new : ServerEnd) (number : ℕ) (window : Window) (before now : List ℕ) (e f : NoMemory) → IsServerEnd end → end.spent ≡ false → QueuesFrame (Ok number) end.script end.last end.window window
-    → SendsFrame (Err f) (with_queued end number window) new before now → Serves (Err e) end new before now
-unsent end new number window before now e f is fresh q s = (s.2, s.1, λ was. absurd cc, λ at st. by at st)
+pub unsent : (end new : ServerEnd) (number : ℕ) (choosers left : List Chooser) (window : Window) (before now : List ℕ) (e f : NoMemory) → IsServerEnd end → end.spent ≡ false
+    → QueuesFrame (Ok number) end.script end.last choosers left end.window window → SendsFrame (Err f) (with_queued end number window) new before now → Serves (Err e) end new choosers left before now
+unsent end new number choosers left window before now e f is fresh q s = (s.2, s.1, λ was. absurd cc, λ at st goes. by at st goes)
   where
     mid : ServerEnd
     mid = with_queued end number window
 
-    by : (at : EndOfSchedule) → Stands end at → PutsFront before now (serving end.script at)
-    by at st =
-        let stands = queued_stands end at number window (within end (is.in_step fresh)) st q in
+    by : (at : EndOfSchedule) → Stands end at → GoesBy end.script choosers at → PutsFront before now (serving end.script at)
+    by at st goes =
+        let stands = queued_stands end at number choosers left window (within end (is.in_step fresh)) st goes q in
         let can = sym (can_is mid (queued at) stands) ∙ s.0 in
         let put : frame_due mid ≡ serving end.script at = (λ i. sent (frame_of end.script ((stands.planned i).server) (due_of end.script (stands.window i)))) ∙ sym (sends_is end.script (queued at) can).1 in
         subst (PutsFront before now) put s.3

@@ -2,6 +2,8 @@
 use Rattle.std.specs.Prelude.{◌≡◌, ◌<◌, ◌+◌, ℕ, Bool, true, false, ◌&&◌, not, List, [], ◌∷◌, ◌++◌, drop, length, map, None, IsSome, Result, Ok, Err}
 use Rattle.std.specs.List.{AllByRecursion}
 use Rattle.gfx_base.specs.declared.answer.NoMemory.{NoMemory}
+use Rattle.gfx_chooser.specs.Choosing.{Chooser}
+use Rattle.gfx_chooser.specs.Kinded.{Asks, kinded}
 use Rattle.gfx_planner.specs.Agree.{Holds}
 use Rattle.gfx_planner.specs.Joined.{frame_of, after_frame}
 use Rattle.gfx_planner.specs.Planned.{Planned, PutsFront, AllSent, ready}
@@ -13,21 +15,24 @@ use Rattle.gfx_script.specs.Checks.{Held, held_through}
 use Rattle.gfx_script.specs.Kinds.{KindedStep, HasKind}
 use Rattle.gfx_script.specs.Script.{IsStep}
 use Rattle.gfx_script.specs.Scripted.{Script}
-use Rattle.gfx_session.specs.Kept.{digest_in, own_steps}
+use Rattle.gfx_session.specs.Kept.{digest_in}
 use Rattle.gfx_session.specs.declared.server_end.ServerEnd.{ServerEnd}
 use Rattle.gfx_state.specs.Sending.{sent}
 use Rattle.gfx_window.specs.Window.{Window, has_room, with_pending}
 use Rattle.gfx_window.specs.Window.{sent as with_frame}
 
--- the steps of a script behind this number, up to and including the next of the word `frame`
-abbrev pub next_steps : Script → ℕ → List KindedStep
-next_steps script last = first_frame (drop last (own_steps script))
+-- the steps of a script behind this number, up to and including the next of the word `frame`, as these choosers
+-- choose
+abbrev pub next_steps : Script → List Chooser → ℕ → List KindedStep
+next_steps script choosers last = first_frame (kinded script (last + 1) choosers (drop last script.steps))
 
--- they are queued, and the number of the last of them is answered
-abbrev pub QueuesFrame : Result ℕ NoMemory → Script → ℕ → Window → Window → Type 0
-QueuesFrame (Ok number) script last old new =
-    (number ≡ last + length (next_steps script last)) × (new ≡ with_pending old (old.pending ++ numbered (last + 1) (next_steps script last)))
-QueuesFrame (Err e) script last old new = Unit {0}
+-- they are queued, and the number of the last of them is answered; the choosers were asked of them alone
+abbrev pub QueuesFrame : Result ℕ NoMemory → Script → ℕ → List Chooser → List Chooser → Window → Window → Type 0
+QueuesFrame (Ok number) script last before after old new =
+    (number ≡ last + length (next_steps script before last))
+    × (new ≡ with_pending old (old.pending ++ numbered (last + 1) (next_steps script before last)))
+    × Asks script last number before after
+QueuesFrame (Err e) script last before after old new = Unit {0}
 
 -- the steps of a frame of all that waits
 abbrev pub due_of : Script → Window → List KindedStep

@@ -1,11 +1,13 @@
 -- What the server's end of a session keeps, against what the schedule says of it: past states by their
 -- digests, and of the client's bytes those that aren't a whole message yet.
-use Rattle.std.specs.Prelude.{◌≡◌, ℕ, false, List, drop, length, map, None, is_some}
+use Rattle.std.specs.Prelude.{◌≡◌, ℕ, ◌+◌, false, List, drop, length, map, None, is_some}
+use Rattle.gfx_chooser.specs.Choosing.{Chooser}
+use Rattle.gfx_chooser.specs.Kinded as chosen
 use Rattle.gfx_planner.specs.Planned.{ready}
 use Rattle.gfx_report.specs.StateBytes.{digest_of}
 use Rattle.gfx_schedule.specs.Plan.{InPlan}
 use Rattle.gfx_schedule.specs.ServerEnd.{ServerEnd as EndOfSchedule}
-use Rattle.gfx_script.specs.Kinds.{KindedStep, own}
+use Rattle.gfx_script.specs.Kinds.{KindedStep, Fits}
 use Rattle.gfx_script.specs.Script.{IsAccepted}
 use Rattle.gfx_script.specs.Scripted.{Script}
 use Rattle.gfx_segment.specs.Framing.{Short, front, holding}
@@ -16,14 +18,14 @@ use Rattle.gfx_state.specs.State.{State}
 abbrev pub digest_in : State → List ℕ
 digest_in state = digest_of state.shown.surfaces state.cache.slots state.clear.rings state.clear.glyphs
 
--- the steps of a script, each as the kind that it goes as where nothing else chooses one
-abbrev pub own_steps : Script → List KindedStep
-own_steps script = map own script.steps
+-- the steps that are left go as these choosers choose
+abbrev pub GoesBy : Script → List Chooser → EndOfSchedule → Type 0
+GoesBy script choosers at = at.left ≡ chosen.kinded script (at.last + 1) choosers (drop at.last script.steps)
 
--- a server's end that isn't spent stands for one of the schedule's
+-- a server's end that isn't spent stands for one of the schedule's, whatever kinds the steps that are left go as
 pub record Stands (end : ServerEnd) (at : EndOfSchedule) : Type 0 where
   pub fresh : end.spent ≡ false
-  pub left : at.left ≡ drop at.last (own_steps end.script)
+  pub left : map (λ one. one.step) at.left ≡ drop at.last end.script.steps
   pub last : end.last ≡ at.last
   pub window : end.window ≡ at.window
   pub planned : end.planner ≡ ready at.server
@@ -34,12 +36,14 @@ pub record Stands (end : ServerEnd) (at : EndOfSchedule) : Type 0 where
   pub heard : at.stopped ≡ None → end.splitter ≡ holding at.heard
   pub short : at.stopped ≡ None → front at.heard ≡ Short
 
--- what the planner of a server's end has is in step with the script
+-- what the planner of a server's end has is in step with the script, whose steps go as these kinds
 pub record InStep (end : ServerEnd) : Type 0 where
+  pub kinded : List KindedStep
+  pub fits : Fits kinded end.script.steps
   pub at : EndOfSchedule
   pub gone : List KindedStep
   pub waiting : List KindedStep
-  pub plan : InPlan end.script (own_steps end.script) at gone waiting
+  pub plan : InPlan end.script kinded at gone waiting
   pub last : end.last ≡ at.last
   pub window : end.window ≡ at.window
   pub planned : end.planner ≡ ready at.server

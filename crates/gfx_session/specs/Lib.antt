@@ -4,3 +4,4 @@ pub mod Frames
 pub mod Listening
 pub mod Session
 pub mod Turning
+pub mod Drawing

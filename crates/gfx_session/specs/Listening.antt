@@ -7,7 +7,7 @@ use Rattle.gfx_planner.specs.Planned.{PutsFront, ready}
 use Rattle.gfx_schedule.specs.Hearing.{Heard, listening, hears}
 use Rattle.gfx_schedule.specs.ServerEnd.{ServerEnd as EndOfSchedule}
 use Rattle.gfx_segment.specs.Framing.{Short, front, holding}
-use Rattle.gfx_session.specs.Kept.{digest_in, own_steps, Stands}
+use Rattle.gfx_session.specs.Kept.{digest_in, Stands}
 use Rattle.gfx_session.specs.Serving.{Tells, taken_of}
 use Rattle.gfx_session.specs.declared.server_end.listening.Taken.{Taken}
 use Rattle.gfx_session.specs.declared.server_end.ServerEnd.{ServerEnd}
@@ -23,7 +23,7 @@ fault_of cause.Memory = Memory
 -- for the bytes that are held and whether it goes on. So much was put out since, and these frames were noted
 pub record Amid (before now : List ℕ) (had has : List Taken) (end : ServerEnd) (heard : Heard) : Type 0 where
   pub fresh : end.spent ≡ false
-  pub left : heard.end.left ≡ drop heard.end.last (own_steps end.script)
+  pub left : map (λ one. one.step) heard.end.left ≡ drop heard.end.last end.script.steps
   pub last : end.last ≡ heard.end.last
   pub window : end.window ≡ heard.end.window
   pub planned : end.planner ≡ ready heard.end.server

@@ -1,6 +1,8 @@
 -- What the calls of a server's end do.
 use Rattle.std.specs.Prelude.{◌≡◌, ℕ, Bool, true, false, List, [], ◌∷◌, ◌++◌, length, map, Option, Some, None, Result, Ok, Err, if◌then◌else◌}
 use Rattle.gfx_base.specs.declared.answer.NoMemory.{NoMemory}
+use Rattle.gfx_chooser.specs.Choosing.{Chooser}
+use Rattle.gfx_chooser.specs.Kinded.{Asks}
 use Rattle.gfx_planner.specs.Planned.{PutsFront}
 use Rattle.gfx_schedule.specs.Hearing.{listening, hears}
 use Rattle.gfx_schedule.specs.ServerEnd.{ServerEnd as EndOfSchedule, Stop, serves, serving, can_serve, has_served}
@@ -8,7 +10,7 @@ use Rattle.gfx_schedule.specs.ServerEnd.{Refused as refuses, Unknown as unknown}
 use Rattle.gfx_schedule.specs.declared.turned.Turned.{Turned}
 use Rattle.gfx_schedule.specs.declared.turned.Turned.TheVariants.{Moved, Waiting, Ended}
 use Rattle.gfx_window.specs.declared.window.Sent.{Sent}
-use Rattle.gfx_session.specs.Kept.{digest_in, Stands}
+use Rattle.gfx_session.specs.Kept.{digest_in, GoesBy, Stands}
 use Rattle.gfx_session.specs.declared.server_end.listening.Taken.{Taken}
 use Rattle.gfx_session.specs.declared.server_end.ServerEnd.{ServerEnd}
 use Rattle.gfx_session.specs.declared.server_end.ServerFault.{ServerFault}
@@ -18,15 +20,17 @@ use Rattle.gfx_session.specs.declared.server_end.ServerFault.TheVariants.{Refuse
 abbrev pub answers : EndOfSchedule → Turned
 answers at = if has_served at then Ended else (if can_serve at then Moved else Waiting)
 
--- what a turn does: that of the schedule, whatever it stood for. Without memory it is spent, and a front of
--- what was due is put out; one that was spent before puts nothing out
-abbrev pub Serves : Result Turned NoMemory → ServerEnd → ServerEnd → List ℕ → List ℕ → Type 0
-Serves (Ok turned) old new before now =
-    (old.spent ≡ false) × (new.script ≡ old.script)
-    × ((at : EndOfSchedule) → Stands old at → Stands new (serves old.script at) × (now ≡ before ++ serving old.script at) × (turned ≡ answers at))
-Serves (Err e) old new before now =
+-- what a turn does: that of the schedule, whatever it stood for, where the steps that are left go as the choosers
+-- choose. They were asked of the steps that it queued, and of no others. Without memory it is spent, and a front
+-- of what was due is put out; one that was spent before puts nothing out
+abbrev pub Serves : Result Turned NoMemory → ServerEnd → ServerEnd → List Chooser → List Chooser → List ℕ → List ℕ → Type 0
+Serves (Ok turned) old new choosers left before now =
+    (old.spent ≡ false) × (new.script ≡ old.script) × Asks old.script old.last new.last choosers left
+    × ((at : EndOfSchedule) → Stands old at → GoesBy old.script choosers at
+    → Stands new (serves old.script at) × (now ≡ before ++ serving old.script at) × (turned ≡ answers at))
+Serves (Err e) old new choosers left before now =
     (new.spent ≡ true) × (new.script ≡ old.script) × (old.spent ≡ true → now ≡ before)
-    × ((at : EndOfSchedule) → Stands old at → PutsFront before now (serving old.script at))
+    × ((at : EndOfSchedule) → Stands old at → GoesBy old.script choosers at → PutsFront before now (serving old.script at))
 
 -- why a server's end of the schedule has stopped is what is answered
 abbrev pub Tells : ServerFault → Option Stop → Type 0

@@ -1,13 +1,16 @@
 -- A session against what the schedule says of it.
-use Rattle.std.specs.Prelude.{◌≡◌, true, false, List, [], ◌∷◌, ◌++◌, map, Result, Ok, Err}
+use Rattle.std.specs.Prelude.{◌≡◌, true, false, List, [], ◌∷◌, ◌++◌, length, map, Result, Ok, Err}
 use Rattle.gfx_base.specs.declared.answer.NoMemory.{NoMemory}
+use Rattle.gfx_chooser.specs.Choosing.{Chooser}
+use Rattle.gfx_chooser.specs.Kinded.{Asks}
 use Rattle.gfx_client.specs.Standing.{StandsFor, HasBrought, IsDrained}
 use Rattle.gfx_schedule.specs.Schedule.{rounds_for}
 use Rattle.gfx_schedule.specs.World.{World, Acknowledged, world, answer, is_ended, drained}
 use Rattle.gfx_schedule.specs.declared.turned.Turned.{Turned}
+use Rattle.gfx_script.specs.Kinds.{KindedStep, Fits}
 use Rattle.gfx_script.specs.Scripted.{Script}
 use Rattle.gfx_script.specs.declared.turn.Turn.{Turn}
-use Rattle.gfx_session.specs.Kept.{digest_in, own_steps, IsServerEnd}
+use Rattle.gfx_session.specs.Kept.{digest_in, GoesBy, IsServerEnd}
 use Rattle.gfx_session.specs.Kept as kept
 use Rattle.gfx_session.specs.declared.acked.Acked.{Acked}
 use Rattle.gfx_session.specs.declared.session.Session.{Session}
@@ -34,25 +37,45 @@ pub record Stands (session : Session) (w : World) : Type 0 where
   pub drawn : session.drawn.items ≡ map digest_in w.drawn
   pub acks : session.acks ≡ map acked_of w.acks
 
--- what holds of every session that is made, and stays through each of its calls: while it isn't spent it
--- stands for that of its script after some turns
+-- a session stands for that of its script after some turns, where the steps go as some kinds
+pub record IsUnderWay (session : Session) : Type 0 where
+  pub kinded : List KindedStep
+  pub fits : Fits kinded (script_of session).steps
+  pub turns : List Turn
+  pub stands : Stands session (world (script_of session) kinded turns)
+
+-- what holds of every session that is made, and stays through each of its calls, whatever choosers are brought to
+-- it: while it isn't spent it is under way
 pub record IsSession (session : Session) : Type 0 where
   pub server : IsServerEnd session.server
-  pub stands : session.spent ≡ false → (turns : List Turn) × Stands session (world (script_of session) (own_steps (script_of session)) turns)
+  pub under_way : session.spent ≡ false → IsUnderWay session
+
+-- the choosers were asked of the steps that were queued between two states of a session, and of no others
+abbrev pub AsksBetween : Session → Session → List Chooser → List Chooser → Type 0
+AsksBetween old new choosers left = Asks (script_of old) old.server.last new.server.last choosers left
+
+-- a session of a script stands for a world of the schedule, in which the steps that are left go as these choosers
+-- choose
+pub record StandsBy (session : Session) (choosers : List Chooser) (script : Script) (w : World) : Type 0 where
+  pub stands : Stands session w
+  pub goes_by : GoesBy script choosers w.server
 
 -- what a turn does: that of the schedule, whatever the session stood for. Without memory it is spent
-abbrev pub Turns : Result Turned NoMemory → Session → Session → Turn → Type 0
-Turns (Ok turned) old new turn =
-    (old.spent ≡ false) × (script_of new ≡ script_of old)
-    × ((turns : List Turn) → Stands old (world (script_of old) (own_steps (script_of old)) turns)
-    → Stands new (world (script_of old) (own_steps (script_of old)) (turns ++ turn ∷ [])) × (turned ≡ answer (world (script_of old) (own_steps (script_of old)) turns) turn))
-Turns (Err e) old new turn = (new.spent ≡ true) × (script_of new ≡ script_of old)
+abbrev pub Turns : Result Turned NoMemory → Session → Session → List Chooser → List Chooser → Turn → Type 0
+Turns (Ok turned) old new choosers left turn =
+    (old.spent ≡ false) × (script_of new ≡ script_of old) × AsksBetween old new choosers left
+    × ((kinded : List KindedStep) (turns : List Turn) → Fits kinded (script_of old).steps
+    → StandsBy old choosers (script_of old) (world (script_of old) kinded turns)
+    → StandsBy new left (script_of old) (world (script_of old) kinded (turns ++ turn ∷ [])) × (turned ≡ answer (world (script_of old) kinded turns) turn))
+Turns (Err e) old new choosers left turn = (new.spent ≡ true) × (script_of new ≡ script_of old)
 
 -- what draining does: rounds until the session is ended
-abbrev pub Drains : Result (Unit {0}) NoMemory → Session → Session → Type 0
-Drains (Ok done) old new =
-    (old.spent ≡ false) × (script_of new ≡ script_of old)
-    × ((turns : List Turn) → Stands old (world (script_of old) (own_steps (script_of old)) turns)
-    → Stands new (drained (script_of old) (rounds_for (script_of old)) (world (script_of old) (own_steps (script_of old)) turns))
-    × (is_ended (drained (script_of old) (rounds_for (script_of old)) (world (script_of old) (own_steps (script_of old)) turns)) ≡ true))
-Drains (Err e) old new = (new.spent ≡ true) × (script_of new ≡ script_of old)
+abbrev pub Drains : Result (Unit {0}) NoMemory → Session → Session → List Chooser → List Chooser → Type 0
+Drains (Ok done) old new choosers left =
+    (old.spent ≡ false) × (script_of new ≡ script_of old) × AsksBetween old new choosers left
+    × (new.server.last ≡ length (script_of old).steps)
+    × ((kinded : List KindedStep) (turns : List Turn) → Fits kinded (script_of old).steps
+    → StandsBy old choosers (script_of old) (world (script_of old) kinded turns)
+    → Stands new (drained (script_of old) (rounds_for (script_of old)) (world (script_of old) kinded turns))
+    × (is_ended (drained (script_of old) (rounds_for (script_of old)) (world (script_of old) kinded turns)) ≡ true))
+Drains (Err e) old new choosers left = (new.spent ≡ true) × (script_of new ≡ script_of old)

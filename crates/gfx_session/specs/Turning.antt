@@ -1,6 +1,7 @@
 -- What the parts of a session's turns do: this project's own words.
 use Rattle.std.specs.Prelude.{◌≡◌, ℕ, Bool, true, false, List, [], ◌∷◌, ◌++◌, map, None, Result, Ok, Err}
 use Rattle.gfx_base.specs.declared.answer.NoMemory.{NoMemory}
+use Rattle.gfx_chooser.specs.Choosing.{Chooser}
 use Rattle.gfx_client.specs.Client.{closed_by}
 use Rattle.gfx_client.specs.Replies.{replies}
 use Rattle.gfx_client.specs.Standing.{StandsFor, HasBrought}
@@ -10,28 +11,41 @@ use Rattle.gfx_schedule.specs.ServerEnd.{ServerEnd as EndOfSchedule}
 use Rattle.gfx_schedule.specs.World.{World, world, happens, can_turn, round}
 use Rattle.gfx_schedule.specs.declared.turned.Turned.{Turned}
 use Rattle.gfx_schedule.specs.declared.turned.Turned.TheVariants.{Moved}
-use Rattle.gfx_script.specs.Scripted.{Script}
+use Rattle.gfx_script.specs.Kinds.{KindedStep, Fits}
 use Rattle.gfx_script.specs.declared.turn.Turn.{Turn}
 use Rattle.gfx_state.specs.History.{Effect, end_states}
-use Rattle.gfx_session.specs.Kept.{digest_in, own_steps}
+use Rattle.gfx_session.specs.Kept.{digest_in, GoesBy}
 use Rattle.gfx_session.specs.Kept as kept
-use Rattle.gfx_session.specs.Session.{script_of, Stands}
+use Rattle.gfx_session.specs.Session.{script_of, AsksBetween, Stands, StandsBy}
 use Rattle.gfx_session.specs.declared.acked.Acked.{Acked}
 use Rattle.gfx_session.specs.declared.server_end.ServerEnd.{ServerEnd}
 use Rattle.gfx_session.specs.declared.server_end.listening.Taken.{Taken}
 use Rattle.gfx_session.specs.declared.session.Session.{Session}
 
--- the session of a script, whose steps go as the kinds that they name, after these turns
-abbrev pub after : Script → List Turn → World
-after script turns = world script (own_steps script) turns
-
--- what a turn does, whatever the session stood for; the answer is whether it had something to do
-abbrev pub Does : Result Bool NoMemory → Session → Session → Turn → Type 0
-Does (Ok moved) old new turn =
+-- what a turn does, whatever the session stood for of which this is known; the answer is whether it had something
+-- to do
+abbrev pub DoesWhere : (World → Type 0) → Result Bool NoMemory → Session → Session → Turn → Type 0
+DoesWhere is_known (Ok moved) old new turn =
     (new.spent ≡ false) × (script_of new ≡ script_of old)
-    × ((turns : List Turn) → Stands old (after (script_of old) turns)
-    → Stands new (happens (script_of old) (after (script_of old) turns) turn) × (moved ≡ can_turn (after (script_of old) turns) turn))
-Does (Err e) old new turn = (new.spent ≡ true) × (script_of new ≡ script_of old)
+    × ((kinded : List KindedStep) (turns : List Turn) → Fits kinded (script_of old).steps → Stands old (world (script_of old) kinded turns)
+    → is_known (world (script_of old) kinded turns)
+    → Stands new (happens (script_of old) (world (script_of old) kinded turns) turn) × (moved ≡ can_turn (world (script_of old) kinded turns) turn))
+DoesWhere is_known (Err e) old new turn = (new.spent ≡ true) × (script_of new ≡ script_of old)
+
+-- nothing has to be known
+abbrev pub AnyWorld : World → Type 0
+AnyWorld w = Unit {0}
+
+-- a turn in which no step is queued
+abbrev pub Does : Result Bool NoMemory → Session → Session → Turn → Type 0
+Does (Ok moved) old new turn = DoesWhere AnyWorld (Ok moved) old new turn × (new.server.last ≡ old.server.last)
+Does (Err e) old new turn = DoesWhere AnyWorld (Err e) old new turn
+
+-- a turn to which choosers are brought: the steps that are left go as they choose
+abbrev pub DoesBy : Result Bool NoMemory → Session → Session → List Chooser → List Chooser → Turn → Type 0
+DoesBy (Ok moved) old new choosers left turn =
+    AsksBetween old new choosers left × DoesWhere (λ w. GoesBy (script_of old) choosers w.server) (Ok moved) old new turn
+DoesBy (Err e) old new choosers left turn = DoesWhere AnyWorld (Err e) old new turn
 
 -- the server's end did something in its turn
 abbrev pub has_moved : Turned → Bool
@@ -39,12 +53,13 @@ has_moved Moved = true
 has_moved other = false
 
 -- what a round does
-abbrev pub GoesRound : Result (Unit {0}) NoMemory → Session → Session → Type 0
-GoesRound (Ok done) old new =
-    (new.spent ≡ false) × (script_of new ≡ script_of old)
-    × ((turns : List Turn) → Stands old (after (script_of old) turns)
-    → (more : List Turn) × ((round (script_of old) (after (script_of old) turns) ≡ after (script_of old) more) × Stands new (after (script_of old) more)))
-GoesRound (Err e) old new = (new.spent ≡ true) × (script_of new ≡ script_of old)
+abbrev pub GoesRound : Result (Unit {0}) NoMemory → Session → Session → List Chooser → List Chooser → Type 0
+GoesRound (Ok done) old new choosers left =
+    (new.spent ≡ false) × (script_of new ≡ script_of old) × AsksBetween old new choosers left
+    × ((kinded : List KindedStep) (turns : List Turn) → Fits kinded (script_of old).steps
+    → StandsBy old choosers (script_of old) (world (script_of old) kinded turns)
+    → (more : List Turn) × ((round (script_of old) (world (script_of old) kinded turns) ≡ world (script_of old) kinded more) × StandsBy new left (script_of old) (world (script_of old) kinded more)))
+GoesRound (Err e) old new choosers left = (new.spent ≡ true) × (script_of new ≡ script_of old)
 
 -- the client ------------------------------------------------------------------------------------------
 

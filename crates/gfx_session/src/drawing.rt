@@ -5,14 +5,26 @@ ghost use Rattle.gfx_client.specs.declared.fault.ClientFault.TheVariants.{Memory
 ghost use Rattle.gfx_client.specs.Standing.{HasBrought, BringsOpen, IsDrained};
 ghost use Rattle.gfx_state.specs.Cursor.{settled};
 ghost use Rattle.gfx_state.specs.History.{Effect};
+ghost use Rattle.gfx_session.specs.Drawing.{drawn_by};
 ghost use Rattle.gfx_session.specs.Kept.{digest_in};
 ghost use Rattle.gfx_session.specs.Turning.{TakesBytes, Draws};
 
 use crate::queue::Queue;
-use gfx_base::NoMemory;
+use gfx_base::{Bytes, NoMemory};
 use gfx_client::{Client, ClientFault, Stepped};
 use gfx_report::digest;
 use std::collections::VecDeque;
+
+/// What a step of a client is to its session.
+#[derive(Drop)]
+pub(crate) enum Drawn {
+    /// No whole message is there.
+    Nothing,
+    /// A message that ends no frame.
+    Message,
+    /// The end of a frame, and what the client says of it.
+    Frame(Bytes),
+}
 
 /// The client takes bytes.
 pub fn take_bytes(client: &mut Client, piece: &[u8]) -> Result<(), NoMemory>
@@ -40,15 +52,27 @@ pub fn draw_all(
     ensures draws { OnOk result (Draws client.old client.new up.old up.new drawn.old.items drawn.new.items) }
 {
     'steps: loop {
-        match next_step(client)? {
-            Stepped::Need => return Ok(()),
-            Stepped::Applied => {}
-            Stepped::Ended { reply, .. } => {
+        let stepped = next_step(client)?;
+        match drawn_by(stepped) {
+            Drawn::Nothing => return Ok(()),
+            Drawn::Message => {}
+            Drawn::Frame(reply) => {
                 up.put(reply)?;
                 let state = digest_of(client);
                 drawn.push_back(state)?;
             }
         }
+    }
+}
+
+/// What a step is to a session. Its message is let go.
+fn drawn_by(stepped: Stepped) -> Drawn
+    ensures { result ≡ drawn_by stepped }
+{
+    match stepped {
+        Stepped::Need => Drawn::Nothing,
+        Stepped::Applied { .. } => Drawn::Message,
+        Stepped::Ended { reply, .. } => Drawn::Frame(reply),
     }
 }
 

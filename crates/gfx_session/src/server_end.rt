@@ -1,9 +1,10 @@
 //! The server's end of a session.
 
-ghost use Rattle.std.specs.Prelude.{◌≡◌, false, IfOk};
+ghost use Rattle.std.specs.Prelude.{◌≡◌, false, IfOk, List};
 ghost use Rattle.gfx_schedule.specs.ServerEnd.{server_at_start};
 ghost use Rattle.gfx_script.specs.Script.{IsAccepted};
-ghost use Rattle.gfx_session.specs.Kept.{Stands, IsServerEnd, own_steps};
+ghost use Rattle.gfx_script.specs.Kinds.{Fits, KindedStep};
+ghost use Rattle.gfx_session.specs.Kept.{Stands, IsServerEnd};
 
 mod listening;
 mod serving;
@@ -56,10 +57,11 @@ pub struct ServerEnd {
 }
 
 impl ServerEnd {
-    /// A server's end of a script, whose steps go as the kinds that they name. Nothing is queued yet.
+    /// A server's end of a script, whose steps will go as the kinds that they name, or that choosers choose.
+    /// Nothing is queued yet.
     pub fn new(alloc: Global, script: Script) -> Result<ServerEnd, NoMemory>
         requires { IsAccepted script }
-        ensures stands { IfOk result (λ end. Stands end (server_at_start script (own_steps script))) }
+        ensures stands { IfOk result (λ end. (kinded : List KindedStep) → Fits kinded script.steps → Stands end (server_at_start script kinded)) }
         ensures is { IfOk result (λ end. IsServerEnd end × (end.script ≡ script) × (end.closed ≡ false)) }
     {
         let planner = Planner::new(alloc, script.small())?;

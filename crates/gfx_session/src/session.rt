@@ -1,15 +1,16 @@
 //! Both ends of a session.
 
 ghost use Rattle.std.specs.Prelude.{◌≡◌, ℕ, List, [], ◌++◌, ◌≤◌, length, IfOk, OnOk, false, if◌then◌else◌};
+ghost use Rattle.gfx_chooser.specs.Seen.{seen};
 ghost use Rattle.gfx_schedule.specs.World.{World, begin, is_ended};
 ghost use Rattle.gfx_schedule.specs.Schedule.{rounds_for};
 ghost use Rattle.gfx_schedule.specs.declared.turned.Turned.TheVariants.{Moved, Waiting, Ended};
+ghost use Rattle.gfx_script.specs.Kinds.{Fits, KindedStep};
 ghost use Rattle.gfx_script.specs.Script.{IsAccepted};
 ghost use Rattle.gfx_script.specs.declared.TheConstants.{MOST_STEPS};
 ghost use Rattle.gfx_script.specs.declared.turn.Turn.TheVariants.{Server, Client as ToClient, Answer};
-ghost use Rattle.gfx_session.specs.Kept.{own_steps};
 ghost use Rattle.gfx_session.specs.Session.{Stands, IsSession, Turns, Drains, script_of};
-ghost use Rattle.gfx_session.specs.Turning.{Does, GoesRound, has_moved};
+ghost use Rattle.gfx_session.specs.Turning.{Does, DoesBy, GoesRound, has_moved};
 
 use crate::acked::Acks;
 use crate::drawing::{draw_all, take_bytes};
@@ -17,6 +18,7 @@ use crate::noting::{hear_bytes, note_all};
 use crate::queue::Queue;
 use crate::server_end::ServerEnd;
 use gfx_base::{Bytes, NoMemory};
+use gfx_chooser::Chooser;
 use gfx_client::{Client, Offers};
 use gfx_schedule::{Turned, rounds_end};
 use gfx_script::{Script, Turn};
@@ -38,11 +40,12 @@ pub struct Session {
 }
 
 impl Session {
-    /// The session of a script, whose steps go as the kinds that they name: the client has said which
-    /// versions it offers.
+    /// The session of a script, whose steps will go as the kinds that they name, or that choosers choose: the
+    /// client has said which versions it offers.
     pub fn new(alloc: Global, script: Script) -> Result<Session, NoMemory>
         requires { IsAccepted script }
-        ensures stands { IfOk result (λ session. Stands session (begin script (own_steps script))) }
+        ensures stands { IfOk result (λ session. (kinded : List KindedStep) → Fits kinded script.steps → Stands session (begin script kinded)) }
+        ensures last { IfOk result (λ session. session.server.last ≡ 0) }
         ensures is { IfOk result (λ session. IsSession session × (script_of session ≡ script)) }
     {
         let mut offers = Offers::new(alloc);
@@ -63,26 +66,31 @@ impl Session {
         })
     }
 
-    /// One turn. Ended is told where nothing was left to do before it. Without memory the session is
+    /// One turn. Where steps are queued in it, these choosers are asked for the kinds that they don't name, and
+    /// those that are spent are dropped. Ended is told where nothing was left to do before it. Without memory the session is
     /// spent, and answers that from then on.
-    pub fn turn(&mut self, turn: Turn) -> Result<Turned, NoMemory>
+    pub fn turn<C: Chooser>(
+        &mut self,
+        turn: Turn,
+        choosers: &mut Vec<C>,
+    ) -> Result<Turned, NoMemory>
         requires { IsSession self.old }
-        ensures turns { Turns result self.old self.new turn }
+        ensures turns { Turns result self.old self.new (seen C.reply C.is_spent choosers.old.items) (seen C.reply C.is_spent choosers.new.items) turn }
         ensures is { IsSession self.new }
     {
         if self.spent {
             return Err(NoMemory);
         }
         let ended = self.has_ended();
-        let moved = self.take_turn(turn)?;
+        let moved = self.take_turn(turn, choosers)?;
         Ok(told(ended, moved))
     }
 
-    /// Rounds until the session is ended: the server's end has a turn, and then all bytes are taken both
-    /// ways.
-    pub fn drain(&mut self) -> Result<(), NoMemory>
+    /// Rounds until the session is ended: the server's end has a turn, for which these choosers are asked, and then
+    /// all bytes are taken both ways.
+    pub fn drain<C: Chooser>(&mut self, choosers: &mut Vec<C>) -> Result<(), NoMemory>
         requires { IsSession self.old }
-        ensures drains { Drains result self.old self.new }
+        ensures drains { Drains result self.old self.new (seen C.reply C.is_spent choosers.old.items) (seen C.reply C.is_spent choosers.new.items) }
         ensures is { IsSession self.new }
     {
         if self.spent {
@@ -94,7 +102,7 @@ impl Session {
             if self.has_ended() {
                 return Ok(());
             }
-            self.round()?;
+            self.round(choosers)?;
         }
         Ok(())
     }
@@ -130,13 +138,13 @@ impl Session {
         self.server.has_served() && (self.down.is_empty() && self.up.is_empty())
     }
 
-    fn round(&mut self) -> Result<(), NoMemory>
+    fn round<C: Chooser>(&mut self, choosers: &mut Vec<C>) -> Result<(), NoMemory>
         requires is { IsSession self.old }
         requires fresh { self.old.spent ≡ false }
-        ensures goes { GoesRound result self.old self.new }
+        ensures goes { GoesRound result self.old self.new (seen C.reply C.is_spent choosers.old.items) (seen C.reply C.is_spent choosers.new.items) }
         ensures is { IsSession self.new }
     {
-        self.serve()?;
+        self.serve(choosers)?;
         let coming = self.down.len();
         self.draw(coming)?;
         let coming = self.up.len();
@@ -144,29 +152,29 @@ impl Session {
         Ok(())
     }
 
-    fn take_turn(&mut self, turn: Turn) -> Result<bool, NoMemory>
+    fn take_turn<C: Chooser>(&mut self, turn: Turn, choosers: &mut Vec<C>) -> Result<bool, NoMemory>
         requires is { IsSession self.old }
         requires fresh { self.old.spent ≡ false }
-        ensures does { Does result self.old self.new turn }
+        ensures does { DoesBy result self.old self.new (seen C.reply C.is_spent choosers.old.items) (seen C.reply C.is_spent choosers.new.items) turn }
         ensures is { IsSession self.new }
     {
         match turn {
-            Turn::Server => self.serve(),
+            Turn::Server => self.serve(choosers),
             Turn::Client(most) => self.draw(most as usize),
             Turn::Answer(most) => self.hear(most as usize),
         }
     }
 
     /// The server's end queues and sends.
-    fn serve(&mut self) -> Result<bool, NoMemory>
+    fn serve<C: Chooser>(&mut self, choosers: &mut Vec<C>) -> Result<bool, NoMemory>
         requires is { IsSession self.old }
         requires fresh { self.old.spent ≡ false }
-        ensures does { Does result self.old self.new Server }
+        ensures does { DoesBy result self.old self.new (seen C.reply C.is_spent choosers.old.items) (seen C.reply C.is_spent choosers.new.items) Server }
         ensures is { IsSession self.new }
     {
         self.spent = true;
         let mut out = Bytes::new(self.alloc);
-        let served = self.server.serve(&mut out)?;
+        let served = self.server.serve(choosers, &mut out)?;
         self.down.put(out)?;
         self.spent = false;
         Ok(has_moved(served))

@@ -1,14 +1,16 @@
 //! A turn of the server's end.
 ghost use Rattle.std.specs.Prelude.{◌≡◌, ◌≤◌, ◌+◌, ◌&&◌, ◌||◌, if◌then◌else◌, true, false, drop, length};
+ghost use Rattle.gfx_chooser.specs.Seen.{seen};
 ghost use Rattle.gfx_schedule.specs.ServerEnd.{is_none};
 ghost use Rattle.gfx_schedule.specs.declared.turned.Turned.TheVariants.{Moved, Waiting};
 ghost use Rattle.gfx_script.specs.declared.TheConstants.{MOST_STEPS};
 ghost use Rattle.gfx_session.specs.Frames.{QueuesFrame, MayFrame, PutsFrame, SendsFrame, due_of, can_go};
-ghost use Rattle.gfx_session.specs.Kept.{IsServerEnd, own_steps};
+ghost use Rattle.gfx_session.specs.Kept.{IsServerEnd};
 ghost use Rattle.gfx_session.specs.Serving.{Serves};
 
 use super::ServerEnd;
 use gfx_base::{Bytes, NoMemory};
+use gfx_chooser::{Chooser, kind_at};
 use gfx_planner::Planner;
 use gfx_report::digest;
 use gfx_schedule::Turned;
@@ -16,13 +18,17 @@ use gfx_script::Script;
 use gfx_window::{Queued, Window};
 
 impl ServerEnd {
-    /// A turn: the next frame of the script is queued, where one is left, and then all that waits goes as
-    /// one frame, where the client's version is confirmed and the window has room. Ended is told first,
-    /// Waiting where neither was possible. Without memory the server's end is spent, and answers that from
-    /// then on.
-    pub fn serve(&mut self, out: &mut Bytes) -> Result<Turned, NoMemory>
+    /// A turn: the next frame of the script is queued, where one is left, its paints that name no kind as
+    /// these choosers choose, of which those that are spent are dropped; and then all that waits goes as one
+    /// frame, where the client's version is confirmed and the window has room. Ended is told first, Waiting
+    /// where neither was possible. Without memory the server's end is spent, and answers that from then on.
+    pub fn serve<C: Chooser>(
+        &mut self,
+        choosers: &mut Vec<C>,
+        out: &mut Bytes,
+    ) -> Result<Turned, NoMemory>
         requires { IsServerEnd self.old }
-        ensures serves { Serves result self.old self.new out.old out.new }
+        ensures serves { Serves result self.old self.new (seen C.reply C.is_spent choosers.old.items) (seen C.reply C.is_spent choosers.new.items) out.old out.new }
         ensures is { IsServerEnd self.new }
     {
         if self.spent {
@@ -32,7 +38,7 @@ impl ServerEnd {
             return Ok(Turned::Ended);
         }
         self.spent = true;
-        let last = queue_frame(&self.script, self.last, &mut self.window)?;
+        let last = queue_frame(&self.script, self.last, choosers, &mut self.window)?;
         let queued = last > self.last;
         self.last = last;
         let sent = self.send_frame(out)?;
@@ -44,7 +50,7 @@ impl ServerEnd {
     pub(crate) fn has_served(&self) -> bool
         requires within { self.now.last ≤ length self.now.script.steps }
         requires few { length self.now.script.steps ≤ MOST_STEPS }
-        ensures { result ≡ (is_none (drop self.now.last (own_steps self.now.script)) && (is_none self.now.window.pending && is_none self.now.window.flying)) }
+        ensures { result ≡ (is_none (drop self.now.last self.now.script.steps) && (is_none self.now.window.pending && is_none self.now.window.flying)) }
     {
         self.script.step(self.last + 1).is_none()
             && self.window.due() == 0
@@ -89,20 +95,23 @@ fn turned(queued: bool, sent: bool) -> Turned
     }
 }
 
-/// Queues the steps behind this number, up to the next of the word `frame`, and answers the number of the
-/// last of them.
-fn queue_frame(script: &Script, last: u32, window: &mut Window) -> Result<u32, NoMemory>
+/// Queues the steps behind this number, up to the next of the word `frame`, as these choosers choose, and answers
+/// the number of the last of them.
+fn queue_frame<C: Chooser>(
+    script: &Script,
+    last: u32,
+    choosers: &mut Vec<C>,
+    window: &mut Window,
+) -> Result<u32, NoMemory>
     requires within { last ≤ length script.now.steps }
     requires few { length script.now.steps ≤ MOST_STEPS }
-    ensures { QueuesFrame result script.now last window.old window.new }
+    ensures { QueuesFrame result script.now last (seen C.reply C.is_spent choosers.old.items) (seen C.reply C.is_spent choosers.new.items) window.old window.new }
 {
     let mut number = last;
     'steps: while let Some(step) = script.step(number + 1) {
         number += 1;
-        window.queue(Queued {
-            step: number,
-            kind: step.kind(),
-        })?;
+        let kind = kind_at(script, number, choosers);
+        window.queue(Queued { step: number, kind })?;
         if step.is_frame() {
             break;
         }

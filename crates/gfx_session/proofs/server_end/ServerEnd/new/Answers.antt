@@ -1,18 +1,19 @@
-use Rattle.std.proofs.Common.{[], ◌∙◌, refl, ap}
+use Rattle.std.proofs.Common.{List, [], map, ◌∙◌, refl, ap}
 use Rattle.gfx_planner.specs.Planned.{ready}
 use Rattle.gfx_planner.specs.Wire.{at_start}
 use Rattle.gfx_segment.proofs.FrontLemmas.{front-nil}
 use Rattle.gfx_schedule.specs.ServerEnd.{server_at_start}
-use Rattle.gfx_session.specs.Kept.{own_steps}
+use Rattle.gfx_script.proofs.OwnKinds.{own_steps_fit}
+use Rattle.gfx_script.specs.Kinds.{KindedStep, own}
 use Rattle.gfx_session.proofs.Plans.{starts}
 use Rattle.gfx_session.proofs.server_end.ServerEnd.new.Goals as goal
 use Rattle.gfx_window.specs.Window.{Window}
 
 pub returns-clause-stands : goal.returns-clause-stands
-returns-clause-stands c =
+returns-clause-stands c = λ kinded fits.
     let window : Window = record { size = c.window.result; pending = []; flying = [] } in record {
       fresh = refl;
-      left = refl;
+      left = fits.same;
       last = refl;
       window = c.new-window.ensures ∙ ap (λ n. record window { size = n }) c.window.ensures;
       planned = c.in_ok-planner.ensures ∙ ap (λ b. ready (at_start b)) c.small.ensures;
@@ -26,14 +27,17 @@ returns-clause-stands c =
 
 pub returns-clause-is : goal.returns-clause-is
 returns-clause-is c =
+    let kinded : List KindedStep = map own c.args.script.steps in
     let window : Window = record { size = c.window.result; pending = []; flying = [] } in (
       record {
         good = c.requires;
         in_step = λ fresh. record {
-          at = server_at_start c.args.script (own_steps c.args.script);
+          kinded = kinded;
+          fits = own_steps_fit c.args.script.steps;
+          at = server_at_start c.args.script kinded;
           gone = [];
           waiting = [];
-          plan = starts c.args.script c.requires;
+          plan = starts c.args.script kinded c.requires;
           last = refl;
           window = c.new-window.ensures ∙ ap (λ n. record window { size = n }) c.window.ensures;
           planned = c.in_ok-planner.ensures ∙ ap (λ b. ready (at_start b)) c.small.ensures;

@@ -1,31 +1,33 @@
 use Rattle.std.proofs.Common.{◌∙◌, sym}
 use Rattle.std.proofs.lemmas.Result.{err_from_is_err_and}
+use Rattle.gfx_chooser.specs.Seen.{seen}
 use Rattle.gfx_session.proofs.Plans.{may_frame}
 use Rattle.gfx_session.proofs.Turning.{with_queued, queued_in_step, ended_turn, turn, turned_is, same_script, unsent}
 use Rattle.gfx_session.proofs.server_end.ServerEnd.serve.Goals as goal
 
 pub returns-then-has_served-clause-serves : goal.returns-then-has_served-clause-serves
-returns-then-has_served-clause-serves c = ended_turn c.args.self.now c.args.out.now c.if-self.false (sym c.has_served.ensures ∙ c.if-has_served.true)
+returns-then-has_served-clause-serves g c =
+    ended_turn c.args.self.now (seen g.C.Chooser.reply g.C.Chooser.is_spent c.args.choosers.now.items) c.args.out.now c.if-self.false (sym c.has_served.ensures ∙ c.if-has_served.true)
 
 pub send_frame-requires-clause-may : goal.send_frame-requires-clause-may
-send_frame-requires-clause-may c =
+send_frame-requires-clause-may g c =
     let mid = with_queued c.args.self.now c.in_ok-last.last c.queue_frame.new.window in
-    may_frame mid c.requires.good (queued_in_step c.args.self.now c.in_ok-last.last c.queue_frame.new.window (c.requires.in_step c.if-self.false) c.in_ok-last.ensures)
+    may_frame mid c.requires.good (queued_in_step c.args.self.now c.in_ok-last.last _ _ c.queue_frame.new.window (c.requires.in_step c.if-self.false) c.in_ok-last.ensures)
 
 pub returns-in_err-sent-clause-serves : goal.returns-in_err-sent-clause-serves
-returns-in_err-sent-clause-serves c =
+returns-in_err-sent-clause-serves g c =
     let p = err_from_is_err_and c.from_residual-in_err-sent.result c.from_residual-in_err-sent.ensures.1 in
-    rw p.1 (unsent c.args.self.now c.send_frame.new.self c.in_ok-last.last c.queue_frame.new.window c.args.out.now c.send_frame.new.out p.0 c.in_err-sent.field-0.0
+    rw p.1 (unsent c.args.self.now c.send_frame.new.self c.in_ok-last.last _ _ c.queue_frame.new.window c.args.out.now c.send_frame.new.out p.0 c.in_err-sent.field-0.0
     c.requires c.if-self.false c.in_ok-last.ensures c.in_err-sent.ensures)
 
 pub returns-clause-serves : goal.returns-clause-serves
-returns-clause-serves c =
+returns-clause-serves g c =
     let mid = with_queued c.args.self.now c.in_ok-last.last c.queue_frame.new.window in
-    rw c.turned.ensures (turn c.args.self.now c.send_frame.new.self c.in_ok-last.last c.queue_frame.new.window c.in_ok-sent.sent c.args.out.now c.send_frame.new.out c.requires c.if-self.false
+    rw c.turned.ensures (turn c.args.self.now c.send_frame.new.self c.in_ok-last.last _ _ c.queue_frame.new.window c.in_ok-sent.sent c.args.out.now c.send_frame.new.out c.requires c.if-self.false
     (sym c.has_served.ensures ∙ c.if-has_served.false) c.in_ok-last.ensures c.in_ok-sent.ensures (same_script mid c.send_frame.new.self c.in_ok-sent.sent c.args.out.now c.send_frame.new.out c.in_ok-sent.ensures))
 
 pub returns-clause-is : goal.returns-clause-is
-returns-clause-is c =
+returns-clause-is g c =
     let mid = with_queued c.args.self.now c.in_ok-last.last c.queue_frame.new.window in
-    turned_is c.args.self.now c.send_frame.new.self c.in_ok-last.last c.queue_frame.new.window c.in_ok-sent.sent c.args.out.now c.send_frame.new.out c.requires c.if-self.false
+    turned_is c.args.self.now c.send_frame.new.self c.in_ok-last.last _ _ c.queue_frame.new.window c.in_ok-sent.sent c.args.out.now c.send_frame.new.out c.requires c.if-self.false
     c.in_ok-last.ensures c.in_ok-sent.ensures (same_script mid c.send_frame.new.self c.in_ok-sent.sent c.args.out.now c.send_frame.new.out c.in_ok-sent.ensures)

@@ -1,6 +1,7 @@
 use Rattle.std.proofs.Common.{false, not, ap}
 use Rattle.gfx_script.specs.declared.turn.Turn.TheVariants.{Client}
-use Rattle.gfx_session.proofs.TurnLemmas.{drew, will_take, will_draw, is_on}
+use Rattle.gfx_session.proofs.ChosenKinds.{is_on}
+use Rattle.gfx_session.proofs.TurnLemmas.{drew, will_take, will_draw}
 use Rattle.gfx_session.proofs.session.Session.draw.Goals as goal
 
 pub take_bytes-requires : goal.take_bytes-requires

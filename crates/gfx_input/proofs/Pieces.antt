@@ -7,10 +7,13 @@ use Rattle.gfx_base.proofs.Streams.{Tells-Gave, Tells-Keeps}
 use Rattle.gfx_input.specs.declared.fault.InputFault.TheVariants as fault
 use Rattle.gfx_input.specs.declared.fault.InputFault.{InputFault}
 use Rattle.gfx_input.specs.declared.reading.TheConstants.{PIECE}
+use Rattle.gfx_input.specs.declared.reading.Portion.{Portion}
+use Rattle.gfx_input.specs.declared.reading.Portion.TheVariants.{Within, Past}
 use Rattle.gfx_input.specs.declared.reading.Read.{Read}
 use Rattle.gfx_input.specs.declared.reading.Read.TheVariants as read
+use Rattle.gfx_input.specs.declared.taker.Taken.{Taken}
 use Rattle.gfx_input.specs.declared.taker.Taken.TheVariants as taken
-use Rattle.gfx_input.specs.Reading.{TakesPiece, rest_of, Reads, EndsBy, ReadsInput, Got, GoesOn, EndsHere, Turns}
+use Rattle.gfx_input.specs.Reading.{TakesPiece, rest_of, Reads, input_of, EndsBy, ReadsInput, Got, within_of, Gives, turn_of, GoesOn, EndsHere, Turns}
 
 -- one turn ------------------------------------------------------------------------------------------
 
@@ -71,7 +74,7 @@ in_piece_got limit i bytes buffer count within p = record {
 }
 
 -- the input goes on past the limit
-pub ends_past : {S : Type 0} (stands stops : S → List ℕ → Type 0) (limit : ℕ) (i : Change) (bytes buffer : List ℕ) (count within : ℕ) (taker : S) → InPiece limit i bytes buffer count within → within < count
+ends_past : {S : Type 0} (stands stops : S → List ℕ → Type 0) (limit : ℕ) (i : Change) (bytes buffer : List ℕ) (count within : ℕ) (taker : S) → InPiece limit i bytes buffer count within → within < count
     → TakesPiece stands stops (Ok taken.More) taker (bytes ++ take within buffer) → EndsHere stands stops limit i bytes read.TooLong taker
 ends_past stands stops limit i bytes buffer count within taker p past there =
     let whole = bytes ++ (take count buffer ++ rest_of i.new) in
@@ -89,7 +92,7 @@ ends_past stands stops limit i bytes buffer count within taker p past there =
     }
 
 -- it was refused
-pub ends_stopped : {S : Type 0} (stands stops : S → List ℕ → Type 0) (limit : ℕ) (i : Change) (bytes buffer : List ℕ) (count within : ℕ) (taker : S) → InPiece limit i bytes buffer count within
+ends_stopped : {S : Type 0} (stands stops : S → List ℕ → Type 0) (limit : ℕ) (i : Change) (bytes buffer : List ℕ) (count within : ℕ) (taker : S) → InPiece limit i bytes buffer count within
     → TakesPiece stands stops (Ok taken.Stopped) taker (bytes ++ take within buffer) → EndsHere stands stops limit i bytes read.Stopped taker
 ends_stopped stands stops limit i bytes buffer count within taker p there =
     let is_within = p.is_within in let fits = p.fits in let most = p.most in let before = p.before in
@@ -101,6 +104,62 @@ ends_stopped stands stops limit i bytes buffer count within taker p there =
       most = omega arith;
       ends = record { front = bytes ++ take within buffer; behind = c.more; cut = c.whole; within = omega arith; stopped = there };
     }
+
+-- a portion ----------------------------------------------------------------------------------------
+
+-- how many bytes were read of it
+abbrev read_of : Portion → ℕ
+read_of (Within count) = count
+read_of (Past count) = count + 1
+
+portion_piece : (portion : Portion) (limit taken : ℕ) (i : Change) (bytes buffer : List ℕ) → length bytes ≡ taken → Gives portion limit taken i buffer → length buffer ≤ PIECE → taken + length buffer ≤ limit + 1 → taken ≤ limit
+    → InPiece limit i bytes buffer (read_of portion) (within_of portion)
+portion_piece (Within count) limit taken i bytes buffer sized (got, some, fits, in_limit) piece most before =
+    record { counted = got.count; gave = got.gave; fits = fits; piece = piece; most = omega arith; before = omega arith; is_within = omega arith }
+portion_piece (Past count) limit taken i bytes buffer sized (got, fits, in_limit) piece most before =
+    record { counted = got.count; gave = got.gave; fits = fits; piece = piece; most = omega arith; before = omega arith; is_within = omega arith }
+
+-- the piece that was read, and what of the input lies behind the part of it that is given away
+pub record CutFrom (limit : ℕ) (i : Change) (bytes given : List ℕ) : Type 0 where
+  pub piece : List ℕ
+  pub got : Got i piece
+  pub most : length bytes + length piece ≤ limit + 1
+  pub behind : List ℕ
+  pub whole : bytes ++ (piece ++ rest_of i.new) ≡ (bytes ++ given) ++ behind
+  pub in_limit : length (bytes ++ given) ≤ limit
+
+pub cut_from : (portion : Portion) (limit taken : ℕ) (i : Change) (bytes buffer : List ℕ) → length bytes ≡ taken → Gives portion limit taken i buffer → length buffer ≤ PIECE → taken + length buffer ≤ limit + 1 → taken ≤ limit
+    → CutFrom limit i bytes (take (within_of portion) buffer)
+cut_from portion limit taken i bytes buffer sized gives piece most before =
+    let p = portion_piece portion limit taken i bytes buffer sized gives piece most before in
+    let is_within = p.is_within in let fits = p.fits in
+    let c = cut bytes buffer (rest_of i.new) (read_of portion) (within_of portion) (omega arith) fits in
+    let size = c.size in let front_size = c.front_size in
+    record {
+      piece = take (read_of portion) buffer;
+      got = in_piece_got limit i bytes buffer (read_of portion) (within_of portion) p;
+      most = omega arith;
+      behind = c.more;
+      whole = c.whole;
+      in_limit = omega arith;
+    }
+
+-- it was given away
+pub turns_given : {S : Type 0} (stands stops : S → List ℕ → Type 0) (portion : Portion) (answer : Taken) (limit taken : ℕ) (i : Change) (bytes buffer : List ℕ) (taker : S) → length bytes ≡ taken
+    → Gives portion limit taken i buffer → length buffer ≤ PIECE → taken + length buffer ≤ limit + 1 → taken ≤ limit
+    → TakesPiece stands stops (Ok answer) taker (bytes ++ take (within_of portion) buffer) → Turns stands stops (Ok (turn_of portion answer)) limit i bytes taker
+turns_given stands stops portion taken.Stopped limit taken i bytes buffer taker sized gives piece most before there =
+    ends_stopped stands stops limit i bytes buffer (read_of portion) (within_of portion) taker (portion_piece portion limit taken i bytes buffer sized gives piece most before) there
+turns_given stands stops (Past count) taken.More limit taken i bytes buffer taker sized gives piece most before there =
+    ends_past stands stops limit i bytes buffer (count + 1) count taker (portion_piece (Past count) limit taken i bytes buffer sized gives piece most before) (omega arith) there
+turns_given stands stops (Within count) taken.More limit taken i bytes buffer taker sized (got, some, fits, in_limit) piece most before there = record {
+  piece = take count buffer;
+  got = got;
+  as_many = length-take-le count buffer fits;
+  some = some;
+  within = omega arith;
+  stands_on = there;
+}
 
 -- many turns ----------------------------------------------------------------------------------------
 
@@ -165,6 +224,27 @@ reads_piece stands is_fine limit x y z taken a b c old fronts r piece got most =
   early = early_piece stands is_fine old r.bytes piece fronts r.there got.few;
 }
 
+-- all of the input, where a piece ends it
+pub reads_all : {S : Type 0} (stands : S → List ℕ → Type 0) (is_fine : List ℕ → Type 0) (limit x y z taken : ℕ) (a b c : Option (List ℕ)) (old : S) → Fronts stands is_fine
+    → (r : Reading stands limit (change x y a b) taken old) (piece : List ℕ) → Got (change y z b c) piece → length r.bytes + length piece ≤ limit + 1
+    → (reads : Reads is_fine limit (change x z a c)) × (input_of reads ≡ r.bytes ++ (piece ++ rest_of c))
+unfolding reads_piece
+reads_all stands is_fine limit x y z taken a b c old fronts r piece got most =
+    (reads_piece stands is_fine limit x y z taken a b c old fronts r piece got most, append_assoc r.bytes piece (rest_of c))
+
+-- all of the input, where a read fails
+pub reads_left : {S : Type 0} (stands : S → List ℕ → Type 0) (is_fine : List ℕ → Type 0) (limit x y z taken : ℕ) (a b c : Option (List ℕ)) (old : S) → Fronts stands is_fine
+    → (r : Reading stands limit (change x y a b) taken old) → Keeps b c → (reads : Reads is_fine limit (change x z a c)) × (input_of reads ≡ r.bytes ++ rest_of c)
+reads_left stands is_fine limit x y z taken a b c old fronts r kept = (
+  record {
+    taken = r.bytes;
+    few = let size = r.sized in let within = r.within in omega arith;
+    told = r.told (rest_of c) (Tells-Keeps b c (rest_of c) kept (Tells_rest c));
+    early = fronts old r.bytes (length r.bytes - PIECE) r.there;
+  },
+  refl,
+)
+
 -- the reading ends
 pub reads_end : {S : Type 0} (stands stops : S → List ℕ → Type 0) (is_fine : List ℕ → Type 0) (limit x y z taken : ℕ) (a b c : Option (List ℕ)) (old new : S) (last : Read) → Fronts stands is_fine
     → (r : Reading stands limit (change x y a b) taken old) → EndsHere stands stops limit (change y z b c) r.bytes last new → ReadsInput stands stops is_fine (Ok last) limit (change x z a c) new
@@ -179,12 +259,7 @@ reads_end stands stops is_fine limit x y z taken a b c old new last fronts r e =
 reads_failed : {S : Type 0} (stands stops : S → List ℕ → Type 0) (is_fine : List ℕ → Type 0) (limit x y z taken : ℕ) (a b c : Option (List ℕ)) (old new : S) → Fronts stands is_fine
     → (r : Reading stands limit (change x y a b) taken old) → (y ≤ z) × Rose y z × Keeps b c → ReadsInput stands stops is_fine (Err fault.Failed) limit (change x z a c) new
 reads_failed stands stops is_fine limit x y z taken a b c old new fronts r (falls, rose, kept) = (
-  record {
-    taken = r.bytes;
-    few = let size = r.sized in let within = r.within in omega arith;
-    told = r.told (rest_of c) (Tells-Keeps b c (rest_of c) kept (Tells_rest c));
-    early = fronts old r.bytes (length r.bytes - PIECE) r.there;
-  },
+  (reads_left stands is_fine limit x y z taken a b c old fronts r kept).0,
   (let same : y ≡ x = r.counted in omega arith),
   λ below. let same : y ≡ x = r.counted in let up : y < z = rose below in omega arith,
 )

@@ -4,6 +4,8 @@ use Rattle.gfx_base.specs.Stream.{Change, Tells, Gave, Keeps, Rose}
 use Rattle.gfx_base.specs.declared.answer.NoMemory.{NoMemory}
 use Rattle.gfx_input.specs.declared.fault.InputFault.{InputFault}
 use Rattle.gfx_input.specs.declared.fault.InputFault.TheVariants.{Failed, Memory}
+use Rattle.gfx_input.specs.declared.reading.Portion.{Portion}
+use Rattle.gfx_input.specs.declared.reading.Portion.TheVariants.{Within, Past}
 use Rattle.gfx_input.specs.declared.reading.Read.{Read}
 use Rattle.gfx_input.specs.declared.reading.Read.TheVariants.{Whole, TooLong, Stopped}
 use Rattle.gfx_input.specs.declared.reading.Turn.{Turn}
@@ -62,6 +64,31 @@ pub record Got (i : Change) (bytes : List ℕ) : Type 0 where
   pub count : i.now ≡ i.before
   pub few : length bytes ≤ PIECE
   pub gave : Gave i.old bytes i.new
+
+-- how many bytes of a portion lie within the limit
+abbrev pub within_of : Portion → ℕ
+within_of (Within count) = count
+within_of (Past count) = count
+
+-- a read gave this portion behind so many bytes: it stands at the front of this buffer
+abbrev pub Gives : Portion → ℕ → ℕ → Change → List ℕ → Type 0
+Gives (Within count) limit taken i buffer =
+    Got i (take count buffer) × (0 < count) × (count ≤ length buffer) × (taken + count ≤ limit)
+Gives (Past count) limit taken i buffer =
+    Got i (take (count + 1) buffer) × (count + 1 ≤ length buffer) × (taken + count ≡ limit)
+
+-- what reading a portion answers
+abbrev pub ReadsPortion : Result (Option Portion) InputFault → ℕ → ℕ → Change → List ℕ → Type 0
+ReadsPortion (Ok None) limit taken i buffer = (i.now ≡ i.before) × Gave i.old [] i.new
+ReadsPortion (Ok (Some portion)) limit taken i buffer = Gives portion limit taken i buffer
+ReadsPortion (Err Failed) limit taken i buffer = (i.before ≤ i.now) × Rose i.before i.now × Keeps i.old i.new
+ReadsPortion (Err Memory) limit taken i buffer = ⊥
+
+-- what a turn did that gave this portion to what answered so
+abbrev pub turn_of : Portion → Taken → Turn
+turn_of portion taken.Stopped = Ended Stopped
+turn_of (Past count) taken.More = Ended TooLong
+turn_of (Within count) taken.More = More count
 
 -- one piece was read and taken behind these bytes
 pub record GoesOn {S : Type 0} (stands : S → List ℕ → Type 0) (limit : ℕ) (i : Change) (bytes : List ℕ) (count : ℕ) (new : S) : Type 0 where

@@ -10,5 +10,5 @@ mod reading;
 mod taker;
 
 pub use fault::InputFault;
-pub use reading::{PIECE, Read, Turn, read_input};
+pub use reading::{PIECE, Portion, Read, Turn, read_input, read_portion};
 pub use taker::{Taken, Taker};

@@ -1,6 +1,6 @@
--- Which words clap takes as a name, alone or with the flag, one word after another.
+-- Which words clap takes as a name, alone, with the flag or with a number, one word after another.
 use Rattle.std.proofs.Common.{◌≡◌, ◌∙◌, ◌==◌, ◌⊎◌, ℕ, inl, inr, Bool, true, false, arith, ap, refl, subst, sym, length, codes, List, [], ◌∷◌, Option, Some, None}
-use Rattle.std.specs.Prelude.{if◌then◌else◌, fold, is_some, slice_get}
+use Rattle.std.specs.Prelude.{if◌then◌else◌, fold, is_some, option_and_then, slice_get}
 use Rattle.std.specs.Str.{bytes_eq, chars}
 use Rattle.std.proofs.lemmas.Slice.Eq.{bytes_eq-Decides}
 use Rattle.std.proofs.lemmas.Bool.{ne_eqb}
@@ -14,10 +14,11 @@ use Rattle.clap.specs.declared.error.kind.ErrorKind.TheVariants as kind
 use Rattle.gfx_words.specs.CommandLine.{accepted, command_line, command_matched, output_rule}
 use Rattle.clap.proofs.OnLiterals.{clap_on_literals}
 use Rattle.gfx_words.proofs.LongWords.{long_word}
-use Rattle.gfx_words.specs.Laws.{IsNameAlone, IsNameAndFlag, OnlyNameIsCommand, OnlyNamesAreCommands, OnlyRenderAndFlagAreRenderOutput}
-use Rattle.gfx_words.specs.Table.{command_named, output_command, plain_command}
+use Rattle.gfx_words.proofs.NumberLemmas.{begins_with_digit}
+use Rattle.gfx_words.specs.Laws.{IsNameAlone, IsNameAndFlag, IsNameAndNumber, IsNameThenText, OnlyNameAndNumberAreCommand, OnlyNameIsCommand, OnlyNamesAndNumbersAreCommands, OnlyNamesAreCommands, OnlyRenderAndFlagAreRenderOutput}
+use Rattle.gfx_words.specs.Table.{command_named, number_of, numbered_command, output_command, plain_command}
 use Rattle.gfx_words.specs.declared.table.Command.{Command}
-use Rattle.gfx_words.specs.declared.table.Command.TheVariants.{Encode, Render, RenderOutput, Session}
+use Rattle.gfx_words.specs.declared.table.Command.TheVariants.{Encode, Make, Render, RenderOutput, Session, Trial}
 
 -- ---- the walk as an answer
 
@@ -200,28 +201,37 @@ next_behind : (c : Command) (h : Held) (p : ℕ) (word : Text) (rest : List Text
     → (given_fault (marked (at h p)) ≡ []) × (answer (given word (marked (at h p))) rest ≡ Some c)
 next_behind c h p word rest is = step _ _ word rest _ c (read_behind h p word).0 (read_behind h p word).1 is
 
--- behind the mark, with both places taken
-full_behind : (c : Command) (h : Held) → EndsWithout c (marked (at h 3)) → Never c (marked (at h 3))
-full_behind c h end [] is = end is
-full_behind c h end (word ∷ rest) is = faultless kind.UnknownArgument (next_behind c h 3 word rest is).0
+-- behind the mark, with both places taken, there is no word
+full_behind : (c : Command) (h : Held) (V : Type 0) → (answer (marked (at h 3)) [] ≡ Some c → V) → (rest : List Text)
+    → answer (marked (at h 3)) rest ≡ Some c → V × (rest ≡ [])
+full_behind c h V end [] is = (end is, refl)
+full_behind c h V end (word ∷ rest) is = absurd (faultless kind.UnknownArgument (next_behind c h 3 word rest is).0)
 
--- with one place left, which no command fills
-number_behind : (c : Command) (h : Held) (V : Type 0) → (answer (marked (at h 2)) [] ≡ Some c → V)
-    → ((word : Text) → EndsWithout c (given word (marked (at h 2)))) → (rest : List Text)
-    → answer (marked (at h 2)) rest ≡ Some c → V × (rest ≡ [])
-number_behind c h V end more [] is = (end is, refl)
-number_behind c h V end more (word ∷ rest) is =
-    absurd (full_behind c (given word (marked (at h 2))).held (more word) rest (next_behind c h 2 word rest is).1)
+-- with one place left there is no word, or one
+abbrev Behind : Type 0 → (Text → Type 0) → List Text → Type 0
+Behind V N rest = (V × (rest ≡ [])) ⊎ ((b : Text) × (N b × (rest ≡ b ∷ [])))
 
--- and with both places left
-name_behind : (c : Command) (h : Held) (V : Text → Type 0) → EndsWithout c (marked (at h 1))
+number_behind : (c : Command) (h : Held) (V : Type 0) (N : Text → Type 0) → (answer (marked (at h 2)) [] ≡ Some c → V)
+    → ((b : Text) → answer (given b (marked (at h 2))) [] ≡ Some c → N b) → (rest : List Text)
+    → answer (marked (at h 2)) rest ≡ Some c → Behind V N rest
+number_behind c h V N one two [] is = inl (one is, refl)
+number_behind c h V N one two (b ∷ rest) is =
+    let n = full_behind c (given b (marked (at h 2))).held (N b) (two b) rest (next_behind c h 2 b rest is).1 in
+    inr (b, (n.0, ap (λ (words : List Text). b ∷ words) n.1))
+
+-- with both places left, one word or two
+name_behind : (c : Command) (h : Held) (V : Text → Type 0) (N : Text → Text → Type 0) → EndsWithout c (marked (at h 1))
     → ((a : Text) → answer (given a (marked (at h 1))) [] ≡ Some c → V a)
-    → ((a b : Text) → EndsWithout c (given b (given a (marked (at h 1))))) → (rest : List Text)
-    → answer (marked (at h 1)) rest ≡ Some c → (a : Text) × (V a × (rest ≡ a ∷ []))
-name_behind c h V end one two [] is = absurd (end is)
-name_behind c h V end one two (a ∷ rest) is =
-    let n = number_behind c (given a (marked (at h 1))).held (V a) (one a) (two a) rest (next_behind c h 1 a rest is).1 in
-    (a, (n.0, ap (λ (words : List Text). a ∷ words) n.1))
+    → ((a b : Text) → answer (given b (given a (marked (at h 1)))) [] ≡ Some c → N a b) → (words : List Text)
+    → answer (marked (at h 1)) words ≡ Some c → (a : Text) × ((rest : List Text) × ((words ≡ a ∷ rest) × Behind (V a) (N a) rest))
+name_behind c h V N none one two [] is = absurd (none is)
+name_behind c h V N none one two (a ∷ rest) is =
+    (a, (rest, (refl, number_behind c (given a (marked (at h 1))).held (V a) (N a) (one a) (two a) rest (next_behind c h 1 a rest is).1)))
+
+-- where a number can't be the command, no word
+no_more : (V : Type 0) (rest : List Text) → Behind V (λ _. ⊥) rest → V × (rest ≡ [])
+no_more V rest (inl end) = end
+no_more V rest (inr (b, (bad, is))) = absurd bad
 
 -- where the walk stands after the flag and some values, in the order that the names say
 abbrev start : Walk
@@ -242,7 +252,7 @@ full : (c : Command) (rows : List Row) (pending : Option (Text × List Text)) �
     → Never c (standing rows pending 3)
 full c rows pending end marked_end again [] is = end is
 full c rows pending end marked_end again (word ∷ rest) is =
-    next_word c rows pending 3 word rest ⊥ (λ _. full_behind c (standing rows pending 3).held marked_end rest)
+    next_word c rows pending 3 word rest ⊥ (λ _ e. (full_behind c (standing rows pending 3).held ⊥ marked_end rest e).0)
     (λ _ fault _. again fault) (λ fault _. faultless kind.UnknownArgument fault) is
 
 -- no word, or the mark alone
@@ -259,79 +269,88 @@ flag_and_name : (c : Command) (rows : List Row) (pending : Option (Text × List 
 flag_and_name c rows pending V end marked_end again more never [] is = (end is, inl refl)
 flag_and_name c rows pending V end marked_end again more never (word ∷ rest) is =
     next_word c rows pending 2 word rest (V × IsEnd (word ∷ rest))
-    (λ mark e. let n = number_behind c (standing rows pending 2).held V marked_end more rest e in (n.0, inr (rw (mark, n.1) refl)))
+    (λ mark e. let n = no_more V rest (number_behind c (standing rows pending 2).held V (λ _. ⊥) marked_end more rest e) in (n.0, inr (rw (mark, n.1) refl)))
     (λ _ fault _. absurd (again fault)) (λ _ e. absurd (never word rest e)) is
 
 -- ---- which words are a command
 
--- no row of the table with a number is the command
-abbrev HasNoNumber : Command → Type 0
-HasNoNumber c = (has_output : Bool) (a b : Text) → command_named (Some a) has_output (Some b) ≡ Some c → ⊥
+-- the command of the name with the number's text
+abbrev numbered : Text → Text → Option Command
+numbered a b = command_named (Some a) false (Some b)
 
-never_name_flag_number : (c : Command) → HasNoNumber c → (a b : Text) → Never c (given b (name_flag a))
+never_name_flag_number : (c : Command) (a b : Text) → Never c (given b (name_flag a))
 unfolding clap_on_literals
-never_name_flag_number c no_number a b = full c (given b (name_flag a)).held.rows (given b (name_flag a)).held.pending
-    (no_number true a b) (no_number true a b) (faultless kind.ArgumentConflict)
+never_name_flag_number c a b = full c (given b (name_flag a)).held.rows (given b (name_flag a)).held.pending
+    (no_answer c) (no_answer c) (faultless kind.ArgumentConflict)
 
-never_flag_name_number : (c : Command) → HasNoNumber c → (a b : Text) → Never c (given b (flag_name a))
+never_flag_name_number : (c : Command) (a b : Text) → Never c (given b (flag_name a))
 unfolding clap_on_literals
-never_flag_name_number c no_number a b = full c (given b (flag_name a)).held.rows (given b (flag_name a)).held.pending
-    (no_number true a b) (no_number true a b) (faultless kind.ArgumentConflict)
+never_flag_name_number c a b = full c (given b (flag_name a)).held.rows (given b (flag_name a)).held.pending
+    (no_answer c) (no_answer c) (faultless kind.ArgumentConflict)
 
-never_name_number_flag : (c : Command) → HasNoNumber c → (a b : Text) → Never c (flagged (name_number a b))
+never_name_number_flag : (c : Command) (a b : Text) → Never c (flagged (name_number a b))
 unfolding clap_on_literals
-never_name_number_flag c no_number a b = full c (flagged (name_number a b)).held.rows (flagged (name_number a b)).held.pending
-    (no_number true a b) (no_number true a b) (faultless kind.ArgumentConflict)
+never_name_number_flag c a b = full c (flagged (name_number a b)).held.rows (flagged (name_number a b)).held.pending
+    (no_answer c) (no_answer c) (faultless kind.ArgumentConflict)
 
-never_name_number : (c : Command) → HasNoNumber c → (a b : Text) → Never c (name_number a b)
+-- what follows a name and a number
+behind_name_number : (c : Command) (a b : Text) (words : List Text)
+    → answer (name_number a b) words ≡ Some c → (numbered a b ≡ Some c) × IsEnd words
 unfolding clap_on_literals
-never_name_number c no_number a b [] is = no_number false a b is
-never_name_number c no_number a b (word ∷ rest) is =
-    next_word c (name_number a b).held.rows (name_number a b).held.pending 3 word rest ⊥
-    (λ _. full_behind c (name_number a b).held (no_number false a b) rest)
-    (λ _ _. never_name_number_flag c no_number a b rest) (λ fault _. faultless kind.UnknownArgument fault) is
+behind_name_number c a b [] is = (is, inl refl)
+behind_name_number c a b (word ∷ rest) is =
+    next_word c (name_number a b).held.rows (name_number a b).held.pending 3 word rest ((numbered a b ≡ Some c) × IsEnd (word ∷ rest))
+    (λ mark e. let n = full_behind c (name_number a b).held (numbered a b ≡ Some c) (λ same. same) rest e in (n.0, inr (rw (mark, n.1) refl)))
+    (λ _ _ e. absurd (never_name_number_flag c a b rest e)) (λ fault _. absurd (faultless kind.UnknownArgument fault)) is
 
 -- what follows a name and the flag
-behind_name_flag : (c : Command) → HasNoNumber c → (a : Text) (words : List Text)
+behind_name_flag : (c : Command) (a : Text) (words : List Text)
     → answer (name_flag a) words ≡ Some c → (output_command a ≡ Some c) × IsEnd words
 unfolding clap_on_literals
-behind_name_flag c no_number a =
+behind_name_flag c a =
     flag_and_name c (name_flag a).held.rows (name_flag a).held.pending (output_command a ≡ Some c) (λ is. is) (λ is. is)
-    (faultless kind.ArgumentConflict) (no_number true a) (never_name_flag_number c no_number a)
+    (faultless kind.ArgumentConflict) (λ _. no_answer c) (never_name_flag_number c a)
 
-behind_flag_name : (c : Command) → HasNoNumber c → (a : Text) (words : List Text)
+behind_flag_name : (c : Command) (a : Text) (words : List Text)
     → answer (flag_name a) words ≡ Some c → (output_command a ≡ Some c) × IsEnd words
 unfolding clap_on_literals
-behind_flag_name c no_number a =
+behind_flag_name c a =
     flag_and_name c (flag_name a).held.rows (flag_name a).held.pending (output_command a ≡ Some c) (λ is. is) (λ is. is)
-    (faultless kind.ArgumentConflict) (no_number true a) (never_flag_name_number c no_number a)
-
-mark_before : (a word : Text) (words : List Text) → word ≡ codes "--" → words ≡ a ∷ [] → IsNameAlone a (word ∷ words)
-mark_before a word words mark name = inr (inr (rw (mark, name) refl))
+    (faultless kind.ArgumentConflict) (λ _. no_answer c) (never_flag_name_number c a)
 
 alone : (a : Text) (words : List Text) → IsEnd words → IsNameAlone a (a ∷ words)
 alone a words (inl none) = inl (rw none refl)
 alone a words (inr mark) = inr (inl (rw mark refl))
 
+mark_before : (a word : Text) (words : List Text) → word ≡ codes "--" → words ≡ a ∷ [] → IsNameAlone a (word ∷ words)
+mark_before a word words mark name = inr (inr (rw (mark, name) refl))
+
 -- what follows the flag is the name alone
-behind_flag : (c : Command) → HasNoNumber c → (words : List Text) → answer (flagged start) words ≡ Some c
+behind_flag : (c : Command) (words : List Text) → answer (flagged start) words ≡ Some c
     → (a : Text) × ((output_command a ≡ Some c) × IsNameAlone a words)
 unfolding clap_on_literals
-behind_flag c no_number [] is = absurd (no_answer c is)
-behind_flag c no_number (word ∷ rest) is =
+behind_flag c [] is = absurd (no_answer c is)
+behind_flag c (word ∷ rest) is =
     next_word c (flagged start).held.rows (flagged start).held.pending 1 word rest
     ((a : Text) × ((output_command a ≡ Some c) × IsNameAlone a (word ∷ rest)))
-    (λ mark e. let n = name_behind c (flagged start).held (λ a. output_command a ≡ Some c) (no_answer c) (λ a same. same) (no_number true) rest e in
-    (n.0, (n.1.0, mark_before n.0 word rest mark n.1.1)))
+    (λ mark e. let n = name_behind c (flagged start).held (λ a. output_command a ≡ Some c) (λ _ _. ⊥) (no_answer c) (λ a same. same) (λ _ _. no_answer c) rest e in
+    let m = no_more (output_command n.0 ≡ Some c) n.1.0 n.1.1.1 in
+    (n.0, (m.0, mark_before n.0 word rest mark (n.1.1.0 ∙ ap (λ (words : List Text). n.0 ∷ words) m.1))))
     (λ _ fault _. absurd (faultless kind.ArgumentConflict fault))
-    (λ _ e. let n = behind_flag_name c no_number word rest e in (word, (n.0, alone word rest n.1))) is
+    (λ _ e. let n = behind_flag_name c word rest e in (word, (n.0, alone word rest n.1))) is
 
--- the words are a name alone that is the command, or a name and the flag that are
+-- the words are a name alone that is the command, a name and the flag that are, or a name and a number that are
 abbrev ByName : Command → List Text → Type 0
 ByName c words = (a : Text) × ((plain_command a ≡ Some c) × IsNameAlone a words)
 
 abbrev ByFlag : Command → List Text → Type 0
 ByFlag c words = (a : Text) × ((output_command a ≡ Some c) × IsNameAndFlag a words)
+
+abbrev ByNumber : Command → List Text → Type 0
+ByNumber c words = (a : Text) × ((b : Text) × ((numbered a b ≡ Some c) × IsNameThenText a b words))
+
+abbrev ByAny : Command → List Text → Type 0
+ByAny c words = ByName c words ⊎ (ByFlag c words ⊎ ByNumber c words)
 
 flag_behind : (a word : Text) (words : List Text) → word ≡ codes "--output" → IsEnd words → IsNameAndFlag a (a ∷ word ∷ words)
 flag_behind a word words flag (inl none) = inl (rw (flag, none) refl)
@@ -342,33 +361,44 @@ flag_before a word words flag (inl name) = inr (inl (rw (flag, name) refl))
 flag_before a word words flag (inr (inl before)) = inr (inr (inr (inl (rw (flag, before) refl))))
 flag_before a word words flag (inr (inr behind)) = inr (inr (inr (inr (rw (flag, behind) refl))))
 
-behind_name : (c : Command) → HasNoNumber c → (a : Text) (words : List Text) → answer (given a start) words ≡ Some c
-    → ByName c (a ∷ words) ⊎ ByFlag c (a ∷ words)
+number_last : (a b : Text) (words : List Text) → IsEnd words → IsNameThenText a b (a ∷ b ∷ words)
+number_last a b words (inl none) = inl (rw none refl)
+number_last a b words (inr mark) = inr (inr (inr (rw mark refl)))
+
+-- the name is followed by the mark
+mark_second : (c : Command) (a word : Text) (rest : List Text) → word ≡ codes "--"
+    → Behind (plain_command a ≡ Some c) (λ b. numbered a b ≡ Some c) rest → ByAny c (a ∷ word ∷ rest)
+mark_second c a word rest mark (inl end) = inl (a, (end.0, inr (inl (rw (mark, end.1) refl))))
+mark_second c a word rest mark (inr (b, (is, more))) = inr (inr (a, (b, (is, inr (inr (inl (rw (mark, more) refl)))))))
+
+-- the mark comes first
+mark_first : (c : Command) (a word : Text) (words rest : List Text) → word ≡ codes "--" → words ≡ a ∷ rest
+    → Behind (plain_command a ≡ Some c) (λ b. numbered a b ≡ Some c) rest → ByAny c (word ∷ words)
+mark_first c a word words rest mark name (inl end) = inl (a, (end.0, inr (inr (rw (mark, name, end.1) refl))))
+mark_first c a word words rest mark name (inr (b, (is, more))) = inr (inr (a, (b, (is, inr (inl (rw (mark, name, more) refl))))))
+
+behind_name : (c : Command) (a : Text) (words : List Text) → answer (given a start) words ≡ Some c → ByAny c (a ∷ words)
 unfolding clap_on_literals
-behind_name c no_number a [] is = inl (a, (is, inl refl))
-behind_name c no_number a (word ∷ rest) is =
-    next_word c (given a start).held.rows (given a start).held.pending 2 word rest (ByName c (a ∷ word ∷ rest) ⊎ ByFlag c (a ∷ word ∷ rest))
-    (λ mark e. let n = number_behind c (given a start).held (plain_command a ≡ Some c) (λ same. same) (no_number false a) rest e in
-    inl (a, (n.0, inr (inl (rw (mark, n.1) refl)))))
-    (λ flag _ e. let n = behind_name_flag c no_number a rest e in inr (a, (n.0, flag_behind a word rest flag n.1)))
-    (λ _ e. absurd (never_name_number c no_number a word rest e)) is
+behind_name c a [] is = inl (a, (is, inl refl))
+behind_name c a (word ∷ rest) is =
+    next_word c (given a start).held.rows (given a start).held.pending 2 word rest (ByAny c (a ∷ word ∷ rest))
+    (λ mark e. mark_second c a word rest mark
+    (number_behind c (given a start).held (plain_command a ≡ Some c) (λ b. numbered a b ≡ Some c) (λ same. same) (λ b same. same) rest e))
+    (λ flag _ e. let n = behind_name_flag c a rest e in inr (inl (a, (n.0, flag_behind a word rest flag n.1))))
+    (λ _ e. let n = behind_name_number c a word rest e in inr (inr (a, (word, (n.0, number_last a word rest n.1))))) is
 
 -- the words that clap takes, and the table has
-words_of : (c : Command) → HasNoNumber c → (words : List Text) → answer start words ≡ Some c → ByName c words ⊎ ByFlag c words
+words_of : (c : Command) (words : List Text) → answer start words ≡ Some c → ByAny c words
 unfolding clap_on_literals
-words_of c no_number [] is = absurd (no_answer c is)
-words_of c no_number (word ∷ rest) is =
-    next_word c [] None 1 word rest (ByName c (word ∷ rest) ⊎ ByFlag c (word ∷ rest))
-    (λ mark e. let n = name_behind c start.held (λ a. plain_command a ≡ Some c) (no_answer c) (λ a same. same) (no_number false) rest e in
-    inl (n.0, (n.1.0, mark_before n.0 word rest mark n.1.1)))
-    (λ flag _ e. let n = behind_flag c no_number rest e in inr (n.0, (n.1.0, flag_before n.0 word rest flag n.1.1)))
-    (λ _ e. behind_name c no_number word rest e) is
+words_of c [] is = absurd (no_answer c is)
+words_of c (word ∷ rest) is =
+    next_word c [] None 1 word rest (ByAny c (word ∷ rest))
+    (λ mark e. let n = name_behind c start.held (λ a. plain_command a ≡ Some c) (λ a b. numbered a b ≡ Some c) (no_answer c) (λ a same. same) (λ a b same. same) rest e in
+    mark_first c n.0 word rest n.1.0 mark n.1.1.0 n.1.1.1)
+    (λ flag _ e. let n = behind_flag c rest e in inr (inl (n.0, (n.1.0, flag_before n.0 word rest flag n.1.1))))
+    (λ _ e. behind_name c word rest e) is
 
 -- ---- the table
-
-has_no_number : (c : Command) → HasNoNumber c
-has_no_number c true a b = no_answer c
-has_no_number c false a b = no_answer c
 
 same_command : (b c : Command) → Some b ≡ Some c → b ≡ c
 same_command b c e = cc
@@ -379,6 +409,8 @@ IsPlainName Encode a = a ≡ codes "encode"
 IsPlainName Render a = a ≡ codes "render"
 IsPlainName RenderOutput a = ⊥
 IsPlainName Session a = a ≡ codes "session"
+IsPlainName (Make n) a = ⊥
+IsPlainName (Trial n) a = ⊥
 
 -- the text is the name that is the command with the flag
 abbrev IsFlagName : Command → Text → Type 0
@@ -386,6 +418,17 @@ IsFlagName Encode a = ⊥
 IsFlagName Render a = ⊥
 IsFlagName RenderOutput a = a ≡ codes "render"
 IsFlagName Session a = ⊥
+IsFlagName (Make n) a = ⊥
+IsFlagName (Trial n) a = ⊥
+
+-- the text is the name that is the command with the number
+abbrev IsNumberName : Command → ℕ → Text → Type 0
+IsNumberName Encode n a = ⊥
+IsNumberName Render n a = ⊥
+IsNumberName RenderOutput n a = ⊥
+IsNumberName Session n a = ⊥
+IsNumberName (Make m) n a = (a ≡ codes "make") × (n ≡ m)
+IsNumberName (Trial m) n a = (a ≡ codes "trial") × (n ≡ m)
 
 plain_in_table : (c : Command) (a : Text) → plain_command a ≡ Some c → IsPlainName c a
 unfolding plain_command
@@ -396,7 +439,8 @@ plain_in_table c a is = by_encode (bytes_eq a (codes "encode")) refl is
     by_session false same e = absurd (no_answer c e)
 
     by_render : (b : Bool) → bytes_eq a (codes "render") ≡ b
-        → (if b then Some Render else if bytes_eq a (codes "session") then Some Session else None) ≡ Some c → IsPlainName c a
+        → (if b then Some Render else if bytes_eq a (codes "session") then Some Session else None) ≡ Some c
+        → IsPlainName c a
     by_render true same e = subst (λ k. IsPlainName k a) (same_command Render c e) ((bytes_eq-Decides a (codes "render")).0 same)
     by_render false same e = by_session (bytes_eq a (codes "session")) refl e
 
@@ -414,16 +458,43 @@ flag_in_table c a is = go (bytes_eq a (codes "render")) refl is
     go true same e = subst (λ k. IsFlagName k a) (same_command RenderOutput c e) ((bytes_eq-Decides a (codes "render")).0 same)
     go false same e = absurd (no_answer c e)
 
+named_in_table : (c : Command) (n : ℕ) (a : Text) → numbered_command a n ≡ Some c → IsNumberName c n a
+unfolding numbered_command
+named_in_table c n a is = by_make (bytes_eq a (codes "make")) refl is
+  where
+    by_trial : (b : Bool) → bytes_eq a (codes "trial") ≡ b → (if b then Some (Trial n) else None) ≡ Some c → IsNumberName c n a
+    by_trial true same e = subst (λ k. IsNumberName k n a) (same_command (Trial n) c e) ((bytes_eq-Decides a (codes "trial")).0 same, refl)
+    by_trial false same e = absurd (no_answer c e)
+
+    by_make : (b : Bool) → bytes_eq a (codes "make") ≡ b
+        → (if b then Some (Make n) else if bytes_eq a (codes "trial") then Some (Trial n) else None) ≡ Some c → IsNumberName c n a
+    by_make true same e = subst (λ k. IsNumberName k n a) (same_command (Make n) c e) ((bytes_eq-Decides a (codes "make")).0 same, refl)
+    by_make false same e = by_trial (bytes_eq a (codes "trial")) refl e
+
+-- the name and the text of the number are the command
+abbrev IsNumbered : Command → Text → Text → Type 0
+IsNumbered c a b = (n : ℕ) × ((number_of b ≡ Some n) × IsNumberName c n a)
+
+number_in_table : (c : Command) (a b : Text) → numbered a b ≡ Some c → IsNumbered c a b
+number_in_table c a b is = go (number_of b) refl is
+  where
+    go : (m : Option ℕ) → number_of b ≡ m → option_and_then (numbered_command a) m ≡ Some c → IsNumbered c a b
+    go None told e = absurd (no_answer c e)
+    go (Some n) told e = (n, (told, named_in_table c n a e))
+
 -- the words that make a command, by the table
 abbrev ByTable : Command → List Text → Type 0
-ByTable c words = ((a : Text) × (IsPlainName c a × IsNameAlone a words)) ⊎ ((a : Text) × (IsFlagName c a × IsNameAndFlag a words))
+ByTable c words = ((a : Text) × (IsPlainName c a × IsNameAlone a words))
+    ⊎ (((a : Text) × (IsFlagName c a × IsNameAndFlag a words))
+    ⊎ ((a : Text) × ((b : Text) × (IsNumbered c a b × IsNameThenText a b words))))
 
 accepted_by : (c : Command) (words : List Text) → accepted words ≡ Some c → ByTable c words
-accepted_by c words is = go (words_of c (has_no_number c) words (sym (accepted-answer words) ∙ is))
+accepted_by c words is = go (words_of c words (sym (accepted-answer words) ∙ is))
   where
-    go : ByName c words ⊎ ByFlag c words → ByTable c words
+    go : ByAny c words → ByTable c words
     go (inl (a, (is, form))) = inl (a, (plain_in_table c a is, form))
-    go (inr (a, (is, form))) = inr (a, (flag_in_table c a is, form))
+    go (inr (inl (a, (is, form)))) = inr (inl (a, (flag_in_table c a is, form)))
+    go (inr (inr (a, (b, (is, form))))) = inr (inr (a, (b, (number_in_table c a b is, form))))
 
 -- ---- the laws
 
@@ -438,21 +509,22 @@ name_alone name c taken words (inr (inl before)) = rw before taken.1.0
 name_alone name c taken words (inr (inr behind)) = rw behind taken.1.1
 
 by_name : (name : Text) (c : Command) → ((a : Text) → IsPlainName c a → a ≡ name) → ((a : Text) → IsFlagName c a → ⊥)
-    → IsTaken name c → OnlyNameIsCommand name c
-by_name name c only no_flag taken words = ((λ is. go (accepted_by c words is)), name_alone name c taken words)
+    → ((n : ℕ) (a : Text) → IsNumberName c n a → ⊥) → IsTaken name c → OnlyNameIsCommand name c
+by_name name c only no_flag no_number taken words = ((λ is. go (accepted_by c words is)), name_alone name c taken words)
   where
     go : ByTable c words → IsNameAlone name words
     go (inl (a, (is, form))) = subst (λ n. IsNameAlone n words) (only a is) form
-    go (inr (a, (is, form))) = absurd (no_flag a is)
+    go (inr (inl (a, (is, form)))) = absurd (no_flag a is)
+    go (inr (inr (a, (b, ((n, (told, is)), form))))) = absurd (no_number n a is)
 
 -- the words that are a command of a name alone
 pub only_names_are_commands : OnlyNamesAreCommands
 unfolding clap_on_literals accepted plain_command
 only_names_are_commands = (
-  by_name (codes "encode") Encode (λ a is. is) (λ a is. is) (refl, (refl, refl)),
+  by_name (codes "encode") Encode (λ a is. is) (λ a is. is) (λ n a is. is) (refl, (refl, refl)),
   (
-    by_name (codes "render") Render (λ a is. is) (λ a is. is) (refl, (refl, refl)),
-    by_name (codes "session") Session (λ a is. is) (λ a is. is) (refl, (refl, refl)),
+    by_name (codes "render") Render (λ a is. is) (λ a is. is) (λ n a is. is) (refl, (refl, refl)),
+    by_name (codes "session") Session (λ a is. is) (λ a is. is) (λ n a is. is) (refl, (refl, refl)),
   ),
 )
 
@@ -470,4 +542,86 @@ only_render_and_flag_are_render_output words = ((λ is. go (accepted_by RenderOu
   where
     go : ByTable RenderOutput words → IsNameAndFlag (codes "render") words
     go (inl (a, (is, form))) = absurd is
-    go (inr (a, (is, form))) = subst (λ n. IsNameAndFlag n words) is form
+    go (inr (inl (a, (is, form)))) = subst (λ n. IsNameAndFlag n words) is form
+    go (inr (inr (a, (b, ((n, (told, is)), form))))) = absurd is
+
+-- ---- the law of names with numbers
+
+-- the word is neither the mark nor a flag
+abbrev IsValue : Text → Type 0
+IsValue word = (bytes_eq word (codes "--") ≡ false) × ((long_of word ≡ None) × (short_of word ≡ None))
+
+value_step : (rows : List Row) (pending : Option (Text × List Text)) (p : ℕ) (word : Text) (rest : List Text) → IsValue word
+    → given_fault (standing rows pending p) ≡ []
+    → answer (standing rows pending p) (word ∷ rest) ≡ answer (given word (standing rows pending p)) rest
+unfolding walked bundle_met flags_fault
+value_step rows pending p word rest (no_mark, (no_long, no_short)) none =
+    let fault : turn_fault shape [] (standing rows pending p) word ≡ given_fault (standing rows pending p) = rw (no_mark, no_long, no_short) refl in
+    step_taken (standing rows pending p) (given word (standing rows pending p)) word rest (fault ∙ none) (rw (no_mark, no_long, no_short) refl)
+
+mark_step : (rows : List Row) (pending : Option (Text × List Text)) (p : ℕ) (rest : List Text)
+    → answer (standing rows pending p) (codes "--" ∷ rest) ≡ answer (marked (standing rows pending p)) rest
+unfolding walked bundle_met flags_fault
+mark_step rows pending p rest = step_taken (standing rows pending p) (marked (standing rows pending p)) (codes "--") rest refl refl
+
+step_behind : (h : Held) (p : ℕ) (word : Text) (rest : List Text) → given_fault (marked (at h p)) ≡ []
+    → answer (marked (at h p)) (word ∷ rest) ≡ answer (given word (marked (at h p))) rest
+step_behind h p word rest none =
+    step_taken (marked (at h p)) (given word (marked (at h p))) word rest ((read_behind h p word).0 ∙ none) (read_behind h p word).1
+
+-- a name and a text that clap takes as values are what the table says
+values_taken : (a b : Text) → IsValue a → IsValue b → (words : List Text) → IsNameThenText a b words → accepted words ≡ numbered a b
+unfolding clap_on_literals
+values_taken a b name text words (inl is) = rw is
+    (accepted-answer (a ∷ b ∷ [])
+    ∙ (value_step [] None 1 a (b ∷ []) name refl
+    ∙ value_step (given a start).held.rows (given a start).held.pending 2 b [] text refl))
+values_taken a b name text words (inr (inl is)) = rw is
+    (accepted-answer (codes "--" ∷ a ∷ b ∷ [])
+    ∙ (mark_step [] None 1 (a ∷ b ∷ [])
+    ∙ (step_behind start.held 1 a (b ∷ []) refl
+    ∙ step_behind (given a (marked start)).held 2 b [] refl)))
+values_taken a b name text words (inr (inr (inl is))) = rw is
+    (accepted-answer (a ∷ codes "--" ∷ b ∷ [])
+    ∙ (value_step [] None 1 a (codes "--" ∷ b ∷ []) name refl
+    ∙ (mark_step (given a start).held.rows (given a start).held.pending 2 (b ∷ [])
+    ∙ step_behind (given a start).held 2 b [] refl)))
+values_taken a b name text words (inr (inr (inr is))) = rw is
+    (accepted-answer (a ∷ b ∷ codes "--" ∷ [])
+    ∙ (value_step [] None 1 a (b ∷ codes "--" ∷ []) name refl
+    ∙ (value_step (given a start).held.rows (given a start).held.pending 2 b (codes "--" ∷ []) text refl
+    ∙ mark_step (name_number a b).held.rows (name_number a b).held.pending 3 [])))
+
+-- the text of a number has no hyphen (45) in front
+number_is_value : (b : Text) (n : ℕ) → number_of b ≡ Some n → IsValue b
+unfolding number_of
+number_is_value [] n is = cc
+number_is_value (x ∷ xs) n is =
+    let digit = begins_with_digit x xs n is in
+    let other : (x == 45) ≡ false = ne_eqb x 45 (λ e. omega (arith, digit.0)) in
+    (rw other refl, (rw other refl, rw other refl))
+
+by_number : (name : Text) (command : ℕ → Command) → IsValue name
+    → ((n : ℕ) (a : Text) → IsPlainName (command n) a → ⊥) → ((n : ℕ) (a : Text) → IsFlagName (command n) a → ⊥)
+    → ((n m : ℕ) (a : Text) → IsNumberName (command n) m a → (a ≡ name) × (m ≡ n))
+    → ((n : ℕ) → numbered_command name n ≡ Some (command n)) → OnlyNameAndNumberAreCommand name command
+by_number name command plain no_plain no_flag only taken n words = ((λ is. go (accepted_by (command n) words is)), back)
+  where
+    go : ByTable (command n) words → IsNameAndNumber name n words
+    go (inl (a, (is, form))) = absurd (no_plain n a is)
+    go (inr (inl (a, (is, form)))) = absurd (no_flag n a is)
+    go (inr (inr (a, (b, ((m, (told, is)), form))))) =
+        let same = only n m a is in (b, (told ∙ ap (λ k. Some k) same.1, subst (λ t. IsNameThenText t b words) same.0 form))
+
+    back : IsNameAndNumber name n words → accepted words ≡ Some (command n)
+    back (b, (told, form)) =
+        values_taken name b plain (number_is_value b n told) words form
+        ∙ (ap (λ m. option_and_then (numbered_command name) m) told ∙ taken n)
+
+-- the words that are a command of a name with a number
+pub only_names_and_numbers_are_commands : OnlyNamesAndNumbersAreCommands
+unfolding clap_on_literals numbered_command
+only_names_and_numbers_are_commands = (
+  by_number (codes "make") Make (refl, (refl, refl)) (λ n a is. is) (λ n a is. is) (λ n m a is. is) (λ n. refl),
+  by_number (codes "trial") Trial (refl, (refl, refl)) (λ n a is. is) (λ n a is. is) (λ n m a is. is) (λ n. refl),
+)

@@ -6,6 +6,9 @@ mod laws;
 mod line;
 mod table;
 
-pub use laws::{only_render_and_its_flag_are_render_output, only_their_names_are_commands};
+pub use laws::{
+    only_names_with_numbers_are_numbered_commands, only_render_and_its_flag_are_render_output,
+    only_their_names_are_commands,
+};
 pub use line::command_of;
 pub use table::{Command, USAGE};

@@ -1,8 +1,9 @@
 -- Each line of `session` has equal digests.
-use Rattle.std.proofs.Common.{◌≡◌, ℕ, zero, suc, Bool, true, false, cond, List, [], ◌∷◌, ◌++◌, length, refl, sym, ap, ◌∙◌, subst}
+use Rattle.std.proofs.Common.{◌≡◌, ℕ, zero, suc, Bool, true, false, cond, List, [], ◌∷◌, ◌++◌, length, refl, sym, subst}
 use Rattle.std.specs.List.{AllByRecursion}
 use Rattle.std.proofs.lemmas.List.Sums.{fold-append}
-use Rattle.gfx_script.proofs.OwnKinds.{own_steps_fit}
+use Rattle.gfx_chooser.specs.Kinded.{kinded_steps}
+use Rattle.gfx_chooser.proofs.Asking.{kinded_fit}
 use Rattle.gfx_report.specs.StateBytes.{digest_of}
 use Rattle.gfx_schedule.specs.Schedule.{IsShown, KeepsWorld, rounds_for}
 use Rattle.gfx_schedule.specs.World.{World, Acknowledged, begin, happens, world, round, drained, is_ended}
@@ -12,7 +13,7 @@ use Rattle.gfx_script.specs.Scripted.{Script}
 use Rattle.gfx_script.specs.declared.turn.Turn.{Turn}
 use Rattle.gfx_script.specs.declared.turn.Turn.TheVariants.{Server, Client, Answer}
 use Rattle.gfx_script_text.proofs.Accepted.{accepted}
-use Rattle.gfx_session.specs.Kept.{digest_in, own_steps}
+use Rattle.gfx_session.specs.Kept.{digest_in}
 use Rattle.gfx_state.specs.Same.{Same}
 use Rattle.gfx_state.specs.State.{State}
 use Rattle.gfxpipe.specs.Laws.{EveryLineHasEqualDigests, HasEqualDigests}
@@ -54,9 +55,10 @@ equal_each script kinded (ack ∷ acks) (shown, all) =
 
 pub every_line : EveryLineHasEqualDigests
 unfolding whole_session
-every_line text script is =
+every_line text script choosers is =
     let good = accepted text script is in
-    let whole = drained_is script (own_steps script) (rounds_for script) script.turns in
-    let keeps : KeepsWorld script (own_steps script) (whole_session script) =
-    subst (KeepsWorld script (own_steps script)) (sym whole.is) (every_schedule script (own_steps script) whole.turns good (own_steps_fit script.steps)) in
-    record { keeps = keeps; equal = equal_each script (own_steps script) (whole_session script).acks keeps.shown }
+    let kinded = kinded_steps script choosers in
+    let whole = drained_is script kinded (rounds_for script) script.turns in
+    let keeps : KeepsWorld script kinded (whole_session choosers script) =
+    subst (KeepsWorld script kinded) (sym whole.is) (every_schedule script kinded whole.turns good (kinded_fit script choosers)) in
+    record { keeps = keeps; equal = equal_each script kinded (whole_session choosers script).acks keeps.shown }

@@ -1,7 +1,8 @@
 -- What the parts of `render` come to, and a command of which nothing was begun.
 use Rattle.std.proofs.Common.{◌≡◌, ℕ, List, [], Option, Some, None, Result, Ok, Err, refl, sym, ap, ◌∙◌, subst, arith}
 use Rattle.gfx_base.specs.Stream.{Change, change, Gains, FailsAfter}
-use Rattle.gfx_base.proofs.Streams.{Gained_none, Gains_none, Keeps_same}
+use Rattle.gfx_base.proofs.Streams.{Gains_none, Keeps_same}
+use Rattle.gfx_chooser.specs.Choosing.{Chooser}
 use Rattle.gfx_client.specs.declared.client.Client.{Client}
 use Rattle.gfx_client.specs.declared.fault.ClientFault.{ClientFault}
 use Rattle.gfx_client.specs.declared.fault.ClientFault.TheVariants as fault
@@ -21,18 +22,21 @@ use Rattle.gfx_words.specs.declared.table.Command.{Command}
 use Rattle.gfx_words.specs.declared.table.Command.TheVariants.{Render, RenderOutput, Encode}
 use Rattle.gfx_words.specs.declared.table.Command.TheVariants as command
 use Rattle.gfxpipe.specs.declared.ending.Ending.{Ending}
-use Rattle.gfxpipe.specs.declared.ending.Ending.TheVariants.{Usage}
 use Rattle.gfxpipe.specs.declared.outcome.Outcome.{Outcome}
 use Rattle.gfxpipe.specs.declared.recording.Player.{Player}
 use Rattle.gfxpipe.specs.declared.render.Dump.{Dump}
 use Rattle.gfxpipe.specs.declared.trouble.Trouble.{Trouble}
 use Rattle.gfxpipe.specs.declared.trouble.Trouble.TheVariants as trouble
-use Rattle.gfxpipe.specs.Did.{IsNotRefused, IsFine, IsReadWhole, WritesOn, Did, Answers, Renders, trouble_of}
-use Rattle.gfxpipe.specs.Due.{shown, played}
+use Rattle.gfxpipe.specs.Did.{IsNotRefused, IsFine, IsReadWhole, IsUnread, WritesOn, Did, DidAll, DidUnread, Answers, Renders, trouble_of}
+use Rattle.gfxpipe.specs.Due.{shown, played, found_in, found_for}
 use Rattle.gfxpipe.specs.Dump.{dump_of, Prints}
 use Rattle.gfxpipe.specs.Outcome.{ended_of, session_of}
+use Rattle.gfxpipe.specs.Leaves.{Leaves}
 use Rattle.gfxpipe.specs.Recording.{ending_by}
-use Rattle.gfxpipe.specs.Run.{Limits, limit_of, Executes}
+use Rattle.gfxpipe.specs.Run.{Limits, Executes}
+use Rattle.gfxpipe.proofs.Encoding.{nothing_written}
+use Rattle.gfxpipe.proofs.Encoding.{unasked as no_stream}
+use Rattle.gfxpipe.proofs.Sessions.{unasked as no_session}
 use Rattle.gfxpipe.proofs.Recordings.{Plays, Refuses, told, tells}
 
 -- nothing was begun -----------------------------------------------------------------------------------
@@ -41,48 +45,59 @@ use Rattle.gfxpipe.proofs.Recordings.{Plays, Refuses, told, tells}
 fine_none : (command : Command) → IsFine command []
 fine_none Render = ap (λ (z : Run). z.refusal) (eats-nil begun)
 fine_none RenderOutput = ap (λ (z : Run). z.refusal) (eats-nil begun)
-fine_none Encode = tt
-fine_none command.Session = tt
+fine_none other = tt
 
 reads_none : (command : Command) (limit n : ℕ) (left : Option (List ℕ)) → Reads (IsFine command) limit (change n n left left)
 reads_none command limit n left = record { taken = []; few = omega arith; told = Tells_rest left; early = fine_none command }
 
 -- nothing was written
-pub writes_none : (command : Command) (m : ℕ) (held : Option (List ℕ)) (text : List ℕ) → WritesOn command (change m m held held) text
-writes_none Render m held text = Gains_none m held
-writes_none RenderOutput m held text = Gains_none m held
-writes_none Encode m held text = (refl, record { sent = []; rest = text; cut = refl; gained = Gained_none held })
-writes_none command.Session m held text = Gains_none m held
+writes_none : (command : Command) (m : ℕ) (held : Option (List ℕ)) (text : List ℕ) → WritesOn command (change m m held held) text
+writes_none Encode m held text = nothing_written text m held
+writes_none other m held text = Gains_none m held
 
 -- no memory is left before anything is read
-pub not_begun : (command : Command) (limit n m : ℕ) (left held : Option (List ℕ)) → Did (Err trouble.Memory) command limit (change n n left left) (change m m held held)
-not_begun command limit n m left held = (reads_none command limit n left, (refl, writes_none command m held _))
+not_begun : (command : Command) (choosers : List Chooser) (limit n m : ℕ) (left held : Option (List ℕ)) → Did (Err trouble.Memory) command choosers limit (change n n left left) (change m m held held)
+not_begun command choosers limit n m left held = (reads_none command limit n left, (refl, writes_none command m held _))
 
--- where no memory is left there is no session
-none_answered : (command : Command) (t : Trouble) (bytes : List ℕ) → Answers command (Err t) None bytes
-none_answered Render t bytes = refl
-none_answered RenderOutput t bytes = refl
-none_answered Encode t bytes = refl
-none_answered command.Session t bytes = refl
+-- then there is no session
+none_answered : (command : Command) (choosers : List Chooser) (bytes : List ℕ) → Answers command (Err trouble.Memory) choosers None bytes
+none_answered command.Session choosers bytes = refl
+none_answered (command.Trial number) choosers bytes = refl
+none_answered other choosers bytes = refl
 
-pub memory_first : (command : Option Command) (bounds : Limits) (n m : ℕ) (left held : Option (List ℕ)) → Executes (Err trouble.Memory) None command bounds (change n n left left) (change m m held held)
-memory_first None bounds n m left held = (record { count = refl; left = Keeps_same left; gains = Gains_none m held }, refl)
-memory_first (Some command) bounds n m left held = (not_begun command (limit_of bounds command) n m left held, none_answered command trouble.Memory _)
+-- and nothing is asked
+none_asked : (command : Command) (choosers : List Chooser) (limit m : ℕ) (held : Option (List ℕ)) (bytes : List ℕ) → Leaves command (Err trouble.Memory) choosers choosers limit bytes (change m m held held)
+none_asked Encode choosers limit m held bytes = no_stream trouble.Memory (found_in limit bytes) choosers m held
+none_asked command.Session choosers limit m held bytes = no_session trouble.Memory (found_in limit bytes) choosers
+none_asked (command.Trial number) choosers limit m held bytes = no_session trouble.Memory (found_for number) choosers
+none_asked other choosers limit m held bytes = refl
 
--- the words are no command
-pub usage : (bounds : Limits) (n m : ℕ) (left held : Option (List ℕ)) → Executes (Ok Usage) None None bounds (change n n left left) (change m m held held)
-usage bounds n m left held = (record { count = refl; left = Keeps_same left; gains = Gains_none m held }, refl)
+unread : (n : ℕ) (left : Option (List ℕ)) → IsUnread (change n n left left)
+unread n left = record { count = refl; left = Keeps_same left }
 
--- the words are another spelling of the same command
-pub by_words : (ended : Result Ending Trouble) (answered : Option Session) (a b : Option Command) (bounds : Limits) (i o : Change) → a ≡ b → Executes ended answered a bounds i o
-    → Executes ended answered b bounds i o
-by_words ended answered a b bounds i o same done = subst (λ (z : Option Command). Executes ended answered z bounds i o) same done
+none_did : (command : Command) (choosers : List Chooser) (limit n m : ℕ) (left held : Option (List ℕ)) → DidAll (Err trouble.Memory) None command choosers choosers limit (change n n left left) (change m m held held)
+none_did command choosers limit n m left held = (not_begun command choosers limit n m left held, none_answered command choosers _, none_asked command choosers limit m held _)
 
--- and the outcome has no session
-pub alone : (outcome : Result Outcome Trouble) (ended : Result Ending Trouble) (a b : Option Command) (bounds : Limits) (i o : Change) → a ≡ b → ended_of outcome ≡ ended → session_of outcome ≡ None
-    → Executes ended None a bounds i o → Executes (ended_of outcome) (session_of outcome) b bounds i o
-alone outcome ended a b bounds i o same is none done =
-    by_words (ended_of outcome) (session_of outcome) a b bounds i o same (subst (λ (z : Result Ending Trouble). Executes z (session_of outcome) a bounds i o) (sym is) (subst (λ (z : Option Session). Executes ended z a bounds i o) (sym none) done))
+none_made : (command : Command) (choosers : List Chooser) (n m : ℕ) (left held : Option (List ℕ)) → DidUnread (Err trouble.Memory) None command choosers choosers (change n n left left) (change m m held held)
+none_made command choosers n m left held =
+    record { unread = unread n left; ends = Gains_none m held; answers = none_answered command choosers []; leaves = none_asked command choosers 0 m held [] }
+
+pub memory_first : (command : Option Command) (choosers : List Chooser) (bounds : Limits) (n m : ℕ) (left held : Option (List ℕ))
+    → Executes (Err trouble.Memory) None command choosers choosers bounds (change n n left left) (change m m held held)
+memory_first None choosers bounds n m left held = ((unread n left, Gains_none m held), refl, refl)
+memory_first (Some (command.Make number)) choosers bounds n m left held = none_made (command.Make number) choosers n m left held
+memory_first (Some (command.Trial number)) choosers bounds n m left held = none_made (command.Trial number) choosers n m left held
+memory_first (Some Render) choosers bounds n m left held = none_did Render choosers bounds.stream n m left held
+memory_first (Some RenderOutput) choosers bounds n m left held = none_did RenderOutput choosers bounds.stream n m left held
+memory_first (Some Encode) choosers bounds n m left held = none_did Encode choosers bounds.script n m left held
+memory_first (Some command.Session) choosers bounds n m left held = none_did command.Session choosers bounds.script n m left held
+
+-- the words are another spelling of the same command, and the outcome has no session
+pub alone : (outcome : Result Outcome Trouble) (ended : Result Ending Trouble) (a b : Option Command) (choosers left : List Chooser) (bounds : Limits) (i o : Change) → a ≡ b → ended_of outcome ≡ ended
+    → session_of outcome ≡ None → Executes ended None a choosers left bounds i o → Executes (ended_of outcome) (session_of outcome) b choosers left bounds i o
+alone outcome ended a b choosers left bounds i o same is none done =
+    subst (λ (z : Option Command). Executes (ended_of outcome) (session_of outcome) z choosers left bounds i o) same
+    (subst (λ (z : Result Ending Trouble). Executes z (session_of outcome) a choosers left bounds i o) (sym is) (subst (λ (z : Option Session). Executes ended z a choosers left bounds i o) (sym none) done))
 
 -- a recording ----------------------------------------------------------------------------------------------
 

@@ -3,6 +3,7 @@ pub mod Commands
 pub mod ReadingScripts
 pub mod Encoding
 pub mod Sessions
+pub mod Trying
 pub mod Agreeing
 pub mod Planning
 pub mod Shown

@@ -1,21 +1,21 @@
 -- What reading a script whole comes to, and a command that reads one.
-use Rattle.std.proofs.Common.{◌≡◌, ℕ, ◌≤◌, ◌<◌, cond, Bool, true, false, List, length, Option, Result, Ok, Err, sym, ap, ◌∙◌, subst}
+use Rattle.std.proofs.Common.{◌≡◌, ℕ, ◌≤◌, ◌<◌, cond, Bool, true, false, List, [], length, Option, Result, Ok, Err, sym, ap, ◌∙◌, subst}
 use Rattle.std.proofs.lemmas.Bool.{le-leb, lt-leb}
-use Rattle.gfx_base.specs.Stream.{Change, change, Gains, FailsAfter}
+use Rattle.gfx_base.specs.Stream.{Change, change, Gains, FailsAfter, Rose}
 use Rattle.gfx_base.proofs.Streams.{Gains_none}
 use Rattle.gfx_input.specs.declared.reading.Read.TheVariants as read
-use Rattle.gfx_input.specs.Reading.{input_of, ReadsInput}
+use Rattle.gfx_input.specs.Reading.{rest_of, input_of, ReadsInput}
 use Rattle.gfx_script.specs.Script.{IsAccepted}
 use Rattle.gfx_script.specs.Scripted.{Script}
-use Rattle.gfx_script.specs.declared.error.ScriptKind.{ScriptKind}
 use Rattle.gfx_script_text.specs.Text.{Wrong, script_of}
 use Rattle.gfx_script_text.proofs.Accepted.{accepted}
 use Rattle.gfxpipe.specs.declared.ending.Ending.{Ending}
 use Rattle.gfxpipe.specs.declared.ending.Ending.TheVariants.{Done, TooLong, Faulty}
+use Rattle.gfxpipe.specs.declared.trouble.Trouble.{Trouble}
 use Rattle.gfxpipe.specs.declared.trouble.Trouble.TheVariants as trouble
-use Rattle.gfxpipe.specs.Did.{IsAny, NoFault, IsReadWhole, Ends, Scripts}
-use Rattle.gfxpipe.specs.Due.{accepted_or, found_in, scripted}
-use Rattle.gfxpipe.specs.Scripts.{ReadsScript}
+use Rattle.gfxpipe.specs.Did.{IsAny, NoFault, IsReadWhole, WritesNothing, Ends}
+use Rattle.gfxpipe.specs.Due.{Due, accepted_or, found_in, scripted}
+use Rattle.gfxpipe.specs.Scripts.{ending_of, ReadsText, ReadsScript}
 
 -- what an input is found to be --------------------------------------------------------------------------
 
@@ -60,16 +60,19 @@ Never text bytes = ⊥
 pub too_long : (limit : ℕ) (i : Change) (text : List ℕ) → ReadsInput Holds Never IsAny (Ok read.TooLong) limit i text → ReadsScript (Ok (Err TooLong)) limit i
 too_long limit i text (reads, count, (over, is)) = (reads, count, tt, found_long limit (input_of reads) over)
 
--- it is a script
-pub is_script : (limit : ℕ) (i : Change) (text : List ℕ) (script : Script) → ReadsInput Holds Never IsAny (Ok read.Whole) limit i text → script_of text ≡ Ok script → ReadsScript (Ok (Ok script)) limit i
-is_script limit i text script (reads, count, (within, all, is)) e =
-    (reads, count, all, found_short limit (input_of reads) within ∙ ap accepted_or (ap script_of (sym is) ∙ e))
+-- a run that ends by its text has read all of it
+read_to_end : (ending : Ending) (i : Change) → rest_of i.new ≡ [] → IsReadWhole ending i
+read_to_end Done i all = all
+read_to_end (Faulty step kind) i all = all
+read_to_end other i all = tt
 
--- its script is wrong
-pub is_wrong : (limit : ℕ) (i : Change) (text : List ℕ) (step : ℕ) (kind : ScriptKind) → ReadsInput Holds Never IsAny (Ok read.Whole) limit i text → script_of text ≡ Err record { step = step; kind = kind }
-    → ReadsScript (Ok (Err (Faulty step kind))) limit i
-is_wrong limit i text step kind (reads, count, (within, all, is)) e =
-    (reads, count, all, found_short limit (input_of reads) within ∙ ap accepted_or (ap script_of (sym is) ∙ e))
+-- this is found of it
+pub reads_text : (result : Result (Result Script Ending) Trouble) (limit : ℕ) (i : Change) (text : List ℕ) → ReadsInput Holds Never IsAny (Ok read.Whole) limit i text → ReadsText result text → ReadsScript result limit i
+reads_text (Ok found) limit i text (reads, count, (within, all, is)) finds =
+    (reads, count, read_to_end (ending_of found) i all, found_short limit (input_of reads) within ∙ ap accepted_or (ap script_of (sym is)) ∙ finds)
+reads_text (Err trouble.Memory) limit i text (reads, count, read) finds = (reads, count)
+reads_text (Err trouble.Read) limit i text reads never = absurd never
+reads_text (Err trouble.Write) limit i text reads never = absurd never
 
 -- a script that was read is good
 pub is_good : (limit : ℕ) (i : Change) (script : Script) → ReadsScript (Ok (Ok script)) limit i → IsAccepted script
@@ -77,34 +80,29 @@ is_good limit i script (reads, count, all, is) = accepted (input_of reads) scrip
 
 -- a command that reads one ----------------------------------------------------------------------------------
 
+-- it could not be read
+pub ends_unread : (writes_on : Change → List ℕ → Type 0) (d : Due) (i : Change) (m : ℕ) (held : Option (List ℕ)) → i.before ≤ i.now → Rose i.before i.now
+    → Ends (Err trouble.Read) WritesNothing writes_on d i (change m m held held)
+ends_unread writes_on d i m held falls rose = (falls, rose, Gains_none m held)
+
 -- what was read is none
 pub ends_none : (ending : Ending) (writes_on : Change → List ℕ → Type 0) (text : Script → List ℕ) (limit m : ℕ) (i : Change) (held : Option (List ℕ)) (bytes : List ℕ) → NoFault i → IsReadWhole ending i
-    → found_in limit bytes ≡ Err ending → Ends (Ok ending) writes_on (scripted text (found_in limit bytes)) i (change m m held held)
+    → found_in limit bytes ≡ Err ending → Ends (Ok ending) WritesNothing writes_on (scripted text (found_in limit bytes)) i (change m m held held)
 ends_none ending writes_on text limit m i held bytes count all is =
     (ap (λ z. (scripted text z).ending) (sym is), count, all, subst (λ z. Gains (change m m held held) (scripted text z).text) (sym is) (Gains_none m held))
 
-pub no_script : (ending : Ending) (writes_on : Change → List ℕ → Type 0) (text : Script → List ℕ) (limit m : ℕ) (i : Change) (held : Option (List ℕ)) → ReadsScript (Ok (Err ending)) limit i
-    → Scripts (Ok ending) writes_on text limit i (change m m held held)
-no_script ending writes_on text limit m i held (reads, count, all, is) = (reads, ends_none ending writes_on text limit m i held (input_of reads) count all is)
-
 -- what is due of it was written
 pub ends_written : (writes_on : Change → List ℕ → Type 0) (text : Script → List ℕ) (limit : ℕ) (i o : Change) (script : Script) (bytes : List ℕ) → NoFault i → IsReadWhole Done i → found_in limit bytes ≡ Ok script
-    → Gains o (text script) → Ends (Ok Done) writes_on (scripted text (found_in limit bytes)) i o
+    → Gains o (text script) → Ends (Ok Done) WritesNothing writes_on (scripted text (found_in limit bytes)) i o
 ends_written writes_on text limit i o script bytes count all is gains =
     (ap (λ z. (scripted text z).ending) (sym is), count, all, subst (λ z. Gains o (scripted text z).text) (sym is) gains)
 
-pub written : (writes_on : Change → List ℕ → Type 0) (text : Script → List ℕ) (limit : ℕ) (i o : Change) (script : Script) → ReadsScript (Ok (Ok script)) limit i → Gains o (text script)
-    → Scripts (Ok Done) writes_on text limit i o
-written writes_on text limit i o script (reads, count, all, is) gains = (reads, ends_written writes_on text limit i o script (input_of reads) count all is gains)
-
 -- a write failed
-pub not_written : (writes_on : Change → List ℕ → Type 0) (text : Script → List ℕ) (limit : ℕ) (i o : Change) (script : Script) → ReadsScript (Ok (Ok script)) limit i → FailsAfter o (text script)
-    → Scripts (Err trouble.Write) writes_on text limit i o
-not_written writes_on text limit i o script (reads, count, all, is) fails =
-    (reads, (count, subst (λ z. FailsAfter o (scripted text z).text) (sym is) fails))
+pub ends_broken : (writes_on : Change → List ℕ → Type 0) (text : Script → List ℕ) (limit : ℕ) (i o : Change) (script : Script) (bytes : List ℕ) → NoFault i → found_in limit bytes ≡ Ok script
+    → FailsAfter o (text script) → Ends (Err trouble.Write) WritesNothing writes_on (scripted text (found_in limit bytes)) i o
+ends_broken writes_on text limit i o script bytes count is fails = (count, subst (λ z. FailsAfter o (scripted text z).text) (sym is) fails)
 
 -- no memory is left
-pub starved : (writes_on : Change → List ℕ → Type 0) (text : Script → List ℕ) (limit : ℕ) (i o : Change) (script : Script) → ReadsScript (Ok (Ok script)) limit i → writes_on o (text script)
-    → Scripts (Err trouble.Memory) writes_on text limit i o
-starved writes_on text limit i o script (reads, count, all, is) writes =
-    (reads, (count, subst (λ z. writes_on o (scripted text z).text) (sym is) writes))
+pub ends_starved : (writes_on : Change → List ℕ → Type 0) (text : Script → List ℕ) (limit : ℕ) (i o : Change) (script : Script) (bytes : List ℕ) → NoFault i → found_in limit bytes ≡ Ok script
+    → writes_on o (text script) → Ends (Err trouble.Memory) WritesNothing writes_on (scripted text (found_in limit bytes)) i o
+ends_starved writes_on text limit i o script bytes count is writes = (count, subst (λ z. writes_on o (scripted text z).text) (sym is) writes)

@@ -1,6 +1,8 @@
 -- What `encode` wrote, `render` shows.
 use Rattle.std.proofs.Common.{◌≡◌, ℕ, [], refl, sym, ap, ◌∙◌, subst}
 use Rattle.std.proofs.lemmas.List.{append-nil}
+use Rattle.gfx_chooser.specs.Kinded.{kinded_steps}
+use Rattle.gfx_chooser.proofs.Asking.{kinded_fit}
 use Rattle.gfx_planner.specs.Shows.{Shows}
 use Rattle.gfx_planner.specs.Stream.{stream_of}
 use Rattle.gfx_planner.proofs.Streams.{shown}
@@ -9,11 +11,9 @@ use Rattle.gfx_script_text.proofs.Accepted.{accepted}
 use Rattle.gfx_state.specs.Run.{Run, end}
 use Rattle.gfx_state.specs.Sending.{standing}
 use Rattle.gfx_state.specs.State.{State}
-use Rattle.gfx_session.specs.Kept.{own_steps}
 use Rattle.gfxpipe.specs.Due.{played, last_of, ending_of}
 use Rattle.gfxpipe.specs.Dump.{dump_of}
 use Rattle.gfxpipe.specs.Laws.{EncodeThenRender}
-use Rattle.gfx_script.proofs.OwnKinds.{own_steps_fit}
 use Rattle.gfxpipe.proofs.Recordings.{played_short, last_short}
 
 -- a run between two channel messages is a good end
@@ -22,10 +22,10 @@ unfolding end
 ends_well state applied = refl
 
 pub encode_then_render : EncodeThenRender
-encode_then_render limit text script dump is short =
+encode_then_render limit text script choosers dump is short =
     let good = accepted text script is in
-    let steps = own_steps script in
-    let s : Shows script steps = (shown script steps [] good (subst (λ z. Fits z script.steps) (sym (append-nil steps)) (own_steps_fit script.steps))).0 in
+    let steps = kinded_steps script choosers in
+    let s : Shows script steps = (shown script steps [] good (subst (λ z. Fits z script.steps) (sym (append-nil steps)) (kinded_fit script choosers))).0 in
     let bytes = stream_of script steps in
     let run : played limit bytes ≡ standing s.client s.applied = played_short limit bytes short ∙ ap end s.run ∙ ends_well s.client s.applied in
     let last = last_short limit bytes short in

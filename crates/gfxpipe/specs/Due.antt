@@ -3,10 +3,12 @@
 use Rattle.std.specs.Prelude.{ℕ, List, [], length, take, Bool, nat_le, if◌then◌else◌, Option, Some, None, Result, Ok, Err}
 use Rattle.gfx_base.specs.Memory.{next_count}
 use Rattle.gfx_base.specs.declared.refusal.Refusal.{Refusal}
+use Rattle.gfx_chooser.specs.Choosing.{Chooser}
+use Rattle.gfx_chooser.specs.Kinded.{kinded_steps}
+use Rattle.gfx_generator.specs.Script.{script_text}
 use Rattle.gfx_planner.specs.Stream.{stream_of}
 use Rattle.gfx_script.specs.Scripted.{Script}
 use Rattle.gfx_script_text.specs.Text.{Wrong, script_of}
-use Rattle.gfx_session.specs.Kept.{own_steps}
 use Rattle.gfx_state.specs.Run.{Run, run_of, end}
 use Rattle.gfx_surface_map.specs.Shown.{Shown}
 use Rattle.gfx_words.specs.declared.table.Command.{Command}
@@ -15,7 +17,7 @@ use Rattle.gfxpipe.specs.declared.ending.Ending.{Ending}
 use Rattle.gfxpipe.specs.declared.ending.Ending.TheVariants.{Done, TooLong, Refused, Faulty}
 use Rattle.gfxpipe.specs.declared.render.Dump.TheVariants.{Surfaces, Output}
 use Rattle.gfxpipe.specs.Dump.{dump_of}
-use Rattle.gfxpipe.specs.Sessions.{session_text}
+use Rattle.gfxpipe.specs.Sessions.{session_text, trial_text}
 
 pub record Due : Type 0 where
   pub text : List ℕ
@@ -59,13 +61,19 @@ abbrev pub scripted : (Script → List ℕ) → Result Script Ending → Due
 scripted text (Ok script) = record { text = text script; ending = Done }
 scripted text (Err ending) = record { text = []; ending = ending }
 
--- the stream of a script, each step as the kind that it names
-abbrev pub stream_text : Script → List ℕ
-stream_text script = stream_of script (own_steps script)
+-- the stream of a script, whose paints that name no kind go as these choosers choose
+abbrev pub stream_text : List Chooser → Script → List ℕ
+stream_text choosers script = stream_of script (kinded_steps script choosers)
 
--- what is due of a command's input, of which so many bytes at most are taken
-abbrev pub due : Command → ℕ → List ℕ → Due
-due command.Render limit bytes = shown (dump_of Surfaces) limit bytes
-due command.RenderOutput limit bytes = shown (dump_of Output) limit bytes
-due command.Encode limit bytes = scripted stream_text (found_in limit bytes)
-due command.Session limit bytes = scripted session_text (found_in limit bytes)
+-- what the script of a number is found to be
+abbrev pub found_for : ℕ → Result Script Ending
+found_for number = accepted_or (script_of (script_text number))
+
+-- what is due of a command's input, of which so many bytes at most are taken, where these choosers are asked
+abbrev pub due : Command → List Chooser → ℕ → List ℕ → Due
+due command.Render choosers limit bytes = shown (dump_of Surfaces) limit bytes
+due command.RenderOutput choosers limit bytes = shown (dump_of Output) limit bytes
+due command.Encode choosers limit bytes = scripted (stream_text choosers) (found_in limit bytes)
+due command.Session choosers limit bytes = scripted (session_text choosers) (found_in limit bytes)
+due (command.Make number) choosers limit bytes = record { text = script_text number; ending = Done }
+due (command.Trial number) choosers limit bytes = scripted (trial_text number choosers) (found_for number)

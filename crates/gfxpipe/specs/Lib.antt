@@ -1,6 +1,7 @@
 pub mod Dump
 pub mod Sessions
 pub mod Due
+pub mod Leaves
 pub mod Did
 pub mod Recording
 pub mod Fronts
@@ -10,4 +11,5 @@ pub mod Ending
 pub mod Outcome
 pub mod Flushed
 pub mod Run
+pub mod Trials
 pub mod Laws

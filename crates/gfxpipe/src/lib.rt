@@ -4,13 +4,14 @@
 //! `render` the bytes of a recording are given to a client piece by piece, and what the client then
 //! holds is printed. For `encode` a script is read whole, and its stream is written frame by frame.
 //! For `session` a script is read whole, both ends of its session are played, and a line is written for
-//! each acknowledged frame.
+//! each acknowledged frame. `make` writes a script that a number stands for, and `trial` plays its session.
 #![tactic(auto)]
 
 mod encode;
 mod ending;
 mod flushed;
 mod laws;
+mod make;
 mod outcome;
 mod program;
 mod recording;
@@ -19,6 +20,7 @@ mod script;
 mod session;
 mod status;
 mod stream;
+mod trial;
 mod trouble;
 
 pub use ending::Ending;

@@ -1,7 +1,7 @@
 //! A script that is read whole.
 ghost use Rattle.std.specs.Prelude.{◌<◌, ◌^◌};
 ghost use Rattle.gfx_base.specs.Stream.{change};
-ghost use Rattle.gfxpipe.specs.Scripts.{ReadsScript};
+ghost use Rattle.gfxpipe.specs.Scripts.{ReadsScript, ReadsText};
 
 use crate::ending::Ending;
 use crate::trouble::Trouble;
@@ -27,7 +27,14 @@ pub fn read_whole<I: Source>(
         Read::Stopped => unreachable!(),
         Read::Whole => {}
     }
-    match read_script(alloc, text.as_slice()) {
+    read_text(alloc, text.as_slice())
+}
+
+/// Reads the text of a script, or finds how a run ends whose text is none.
+pub fn read_text(alloc: Global, text: &[u8]) -> Result<Result<Script, Ending>, Trouble>
+    ensures { ReadsText result text.now }
+{
+    match read_script(alloc, text) {
         Ok(script) => Ok(Ok(script)),
         Err(ScriptError::Fault { step, kind }) => Ok(Err(Ending::Faulty { step, kind })),
         Err(ScriptError::Memory) => Err(Trouble::Memory),

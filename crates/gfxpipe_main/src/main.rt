@@ -2,6 +2,7 @@
 #![tactic(auto)]
 
 use gfx_base::{NoMemory, VecSink};
+use gfx_chooser::{ByArea, ByColours, Chooser};
 use gfx_streams::{StdSink, StdSource};
 use gfxpipe::{Status, run, say_flushed};
 use std::env;
@@ -10,6 +11,12 @@ use std::process::ExitCode;
 
 /// No line on the standard error is longer.
 const LINE_ROOM: usize = 128;
+
+/// Pictures of no more colours go by palettes, where a paint names no kind.
+const FEW_COLOURS: u16 = 16;
+
+/// Other pictures of at least so many pixels go in passes, where a paint names no kind.
+const LARGE_AREA: u32 = 16_384;
 
 /// No command has this word. It stands for words that aren't UTF-8.
 const NO_COMMAND: &str = "\u{fffd}";
@@ -51,7 +58,18 @@ fn run_on_streams(rt: &HostRuntime, words: &[&str]) -> Result<Status, NoMemory> 
     };
     let mut output = StdSink::new(buffered);
     let mut line = VecSink::new(alloc, LINE_ROOM, &[])?;
-    let status = run(alloc, words, &mut input, &mut output, &mut line).into_status();
+    let mut choosers: Vec<Box<dyn Chooser>> = Vec::new(alloc);
+    choosers.push(Box::new(alloc, ByColours { most: FEW_COLOURS })?)?;
+    choosers.push(Box::new(alloc, ByArea { least: LARGE_AREA })?)?;
+    let status = run(
+        alloc,
+        words,
+        &mut choosers,
+        &mut input,
+        &mut output,
+        &mut line,
+    )
+    .into_status();
     let mut err = StdSink::new(rt.stderr());
     Ok(say_flushed(status, output.flush(), line.held(), &mut err))
 }

@@ -1,20 +1,11 @@
 use Rattle.std.proofs.Common.{arith}
-use Rattle.gfx_input.proofs.Pieces.{ends_whole, ends_past, ends_stopped}
+use Rattle.gfx_base.specs.Stream.{change}
+use Rattle.gfx_input.proofs.Pieces.{turns_given}
 use Rattle.gfx_input.proofs.reading.read_piece.Goals as goal
 
-pub returns-then-count-eq0-clause-turns : goal.returns-then-count-eq0-clause-turns
-returns-then-count-eq0-clause-turns g c = λ bytes there sized.
-    ends_whole g.T.Taker.stands g.T.Taker.stops c.args.limit _ bytes c.args.taker.now c.in-Ok.ensures.count (rw c.if-count-eq0.true at c.in-Ok.ensures.given) (let within = c.requires.before in omega arith) there
-
-pub returns-in-Stopped-clause-turns : goal.returns-in-Stopped-clause-turns
-returns-in-Stopped-clause-turns g c = λ bytes there sized.
-    ends_stopped g.T.Taker.stands g.T.Taker.stops c.args.limit _ bytes c.read.new.buf c.in-Ok.count c.min-within.result c.give.new.self
-    (record { counted = c.in-Ok.ensures.count; gave = c.in-Ok.ensures.given; fits = omega (arith, c.in-Ok.ensures.within); piece = omega arith; most = omega arith; before = omega arith; is_within = rw sized c.min-within.ensures })
-    (rw (c.split_at.ensures.front, c.in-Stopped.is) at (c.in_ok-give.ensures bytes there))
-
-pub returns-in-More-clause-turns : goal.returns-in-More-clause-turns
-returns-in-More-clause-turns g c = λ bytes there sized.
-    ends_past g.T.Taker.stands g.T.Taker.stops c.args.limit _ bytes c.read.new.buf c.in-Ok.count c.min-within.result c.give.new.self
-    (record { counted = c.in-Ok.ensures.count; gave = c.in-Ok.ensures.given; fits = omega (arith, c.in-Ok.ensures.within); piece = omega arith; most = omega arith; before = omega arith; is_within = rw sized c.min-within.ensures })
-    c.if-within-count.true
-    (rw (c.split_at.ensures.front, c.in-More.is) at (c.in_ok-give.ensures bytes there))
+pub returns-clause-turns : goal.returns-clause-turns
+returns-clause-turns g c = λ bytes there sized.
+    let gives = rw c.in-Some.is at c.in_ok-portion.ensures.reads in
+    let read = change (g.I.Source.faults c.args.input.now) (g.I.Source.faults c.read_portion.new.input) (g.I.Source.left c.args.input.now) (g.I.Source.left c.read_portion.new.input) in
+    rw c.turn.ensures (turns_given g.T.Taker.stands g.T.Taker.stops c.in-Some.portion c.in_ok-answer.answer c.args.limit c.args.taken read bytes c.read_portion.new.buffer c.give.new.self sized gives (omega (arith, c.in_ok-portion.ensures.size)) (omega (arith, c.in_ok-portion.ensures.size)) c.requires.before
+    (rw (c.split_at.ensures.front, c.within.ensures) at (c.in_ok-answer.ensures bytes there)))

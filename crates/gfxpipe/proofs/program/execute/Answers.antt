@@ -1,38 +1,24 @@
-use Rattle.std.proofs.Common.{Some, None, Ok, map, sym, ap, ◌∙◌, refl}
+use Rattle.std.proofs.Common.{Some, map, sym, ap, ◌∙◌, refl}
 use Rattle.gfx_words.specs.CommandLine.{accepted}
 use Rattle.gfx_words.specs.declared.table.Command.TheVariants.{Render, RenderOutput, Encode}
-use Rattle.gfx_words.specs.declared.table.Command.TheVariants as command
 use Rattle.gfxpipe.specs.Run.{limits}
-use Rattle.gfxpipe.specs.declared.ending.Ending.TheVariants.{Usage}
-use Rattle.gfxpipe.proofs.Commands.{memory_first, usage, by_words, alone}
+use Rattle.gfxpipe.proofs.Commands.{memory_first, alone}
 use Rattle.gfxpipe.proofs.program.execute.Goals as goal
 
 pub returns-in-Ok-Some-Render : goal.returns-in-Ok-Some-Render
 returns-in-Ok-Some-Render g c =
     let words = ap (λ z. Some z) (sym c.in-Ok-Some-Render.field-0-0-is) ∙ sym c.in-Ok-Some-Render.field-0-is ∙ c.in-Ok-Some-Render.ensures in
-    alone c.alone.result c.render.result (Some Render) _ (limits c.args.stream c.args.script) _ _ words c.alone.ensures.ended c.alone.ensures.session (c.render.ensures, refl)
+    alone c.alone.result c.render.result (Some Render) _ _ _ (limits c.args.stream c.args.script) _ _ words c.alone.ensures.ended c.alone.ensures.session (c.render.ensures, refl, refl)
 
 pub returns-in-Ok-Some-RenderOutput : goal.returns-in-Ok-Some-RenderOutput
 returns-in-Ok-Some-RenderOutput g c =
     let words = ap (λ z. Some z) (sym c.in-Ok-Some-RenderOutput.field-0-0-is) ∙ sym c.in-Ok-Some-RenderOutput.field-0-is ∙ c.in-Ok-Some-RenderOutput.ensures in
-    alone c.alone-in-Ok-Some-RenderOutput.result c.render-in-Ok-Some-RenderOutput.result (Some RenderOutput) _ (limits c.args.stream c.args.script) _ _ words
-    c.alone-in-Ok-Some-RenderOutput.ensures.ended c.alone-in-Ok-Some-RenderOutput.ensures.session (c.render-in-Ok-Some-RenderOutput.ensures, refl)
+    alone c.alone-in-Ok-Some-RenderOutput.result c.render-in-Ok-Some-RenderOutput.result (Some RenderOutput) _ _ _ (limits c.args.stream c.args.script) _ _ words c.alone-in-Ok-Some-RenderOutput.ensures.ended c.alone-in-Ok-Some-RenderOutput.ensures.session (c.render-in-Ok-Some-RenderOutput.ensures, refl, refl)
 
 pub returns-in-Ok-Some-Encode : goal.returns-in-Ok-Some-Encode
 returns-in-Ok-Some-Encode g c =
     let words = ap (λ z. Some z) (sym c.in-Ok-Some-Encode.field-0-0-is) ∙ sym c.in-Ok-Some-Encode.field-0-is ∙ c.in-Ok-Some-Encode.ensures in
-    alone c.alone-in-Ok-Some-Encode.result c.encode.result (Some Encode) _ (limits c.args.stream c.args.script) _ _ words
-    c.alone-in-Ok-Some-Encode.ensures.ended c.alone-in-Ok-Some-Encode.ensures.session (c.encode.ensures, refl)
-
-pub returns-in-Ok-Some-Session : goal.returns-in-Ok-Some-Session
-returns-in-Ok-Some-Session g c =
-    let words = ap (λ z. Some z) (sym c.in-Ok-Some-Session.field-0-0-is) ∙ sym c.in-Ok-Some-Session.field-0-is ∙ c.in-Ok-Some-Session.ensures in
-    by_words _ _ (Some command.Session) _ (limits c.args.stream c.args.script) _ _ words c.session.ensures
-
-pub returns-in-Ok-None : goal.returns-in-Ok-None
-returns-in-Ok-None g c =
-    alone c.alone-in-Ok-None.result (Ok Usage) None _ (limits c.args.stream c.args.script) _ _ (sym c.in-Ok-None.field-0-is ∙ c.in-Ok-None.ensures)
-    c.alone-in-Ok-None.ensures.ended c.alone-in-Ok-None.ensures.session (usage (limits c.args.stream c.args.script) _ _ _ _)
+    alone c.alone-in-Ok-Some-Encode.result c.encode.result (Some Encode) _ _ _ (limits c.args.stream c.args.script) _ _ words c.alone-in-Ok-Some-Encode.ensures.ended c.alone-in-Ok-Some-Encode.ensures.session c.encode.ensures
 
 pub returns-in-Err : goal.returns-in-Err
-returns-in-Err g c = memory_first (accepted (map (λ word. word.now) c.args.words.now)) (limits c.args.stream c.args.script) _ _ _ _
+returns-in-Err g c = memory_first (accepted (map (λ word. word.now) c.args.words.now)) _ (limits c.args.stream c.args.script) _ _ _ _

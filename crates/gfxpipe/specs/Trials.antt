@@ -1,0 +1,28 @@
+-- What a trial comes to: this project's own rule.
+use Rattle.std.specs.Prelude.{ℕ, List, [], length, Option, Some, None, Result}
+use Rattle.std.specs.List.{last_or}
+use Rattle.gfx_base.specs.Stream.{Change}
+use Rattle.gfx_chooser.specs.Choosing.{Chooser}
+use Rattle.gfx_report.specs.Texts.{trial_line}
+use Rattle.gfx_session.specs.declared.acked.Acked.{Acked}
+use Rattle.gfx_session.specs.declared.session.Session.{Session}
+use Rattle.gfx_words.specs.declared.table.Command.TheVariants as command
+use Rattle.gfxpipe.specs.declared.ending.Ending.{Ending}
+use Rattle.gfxpipe.specs.declared.trouble.Trouble.{Trouble}
+use Rattle.gfxpipe.specs.Did.{Answers, EndsUnread}
+use Rattle.gfxpipe.specs.Due.{due}
+use Rattle.gfxpipe.specs.Leaves.{Leaves}
+
+-- how it ended, what session it answered, and what it left of the choosers
+pub record Tries (ended : Result Ending Trouble) (answered : Option Session) (number : ℕ) (choosers left : List Chooser) (o : Change) : Type 0 where
+  pub ends : EndsUnread ended (due (command.Trial number) choosers 0 []) o
+  pub answers : Answers (command.Trial number) ended choosers answered []
+  pub leaves : Leaves (command.Trial number) ended choosers left 0 [] o
+
+-- the line of the last of these acknowledged frames, as a session keeps them
+abbrev pub kept_trial : ℕ → ℕ → Option Acked → List ℕ
+kept_trial number count None = []
+kept_trial number count (Some ack) = trial_line number count ack.step ack.client ack.server
+
+abbrev pub acks_trial : ℕ → List Acked → List ℕ
+acks_trial number acks = kept_trial number (length acks) (last_or None acks)

@@ -58,7 +58,7 @@ fn step_on(client: &mut Client, replies: &mut Bytes) -> Result<(), Fail> {
     for _ in 0..10 {
         match client.step()? {
             Stepped::Need => break,
-            Stepped::Applied => {}
+            Stepped::Applied { .. } => {}
             Stepped::Ended { reply, .. } => replies.append(reply.as_slice())?,
         }
     }
@@ -69,7 +69,7 @@ fn step_on(client: &mut Client, replies: &mut Bytes) -> Result<(), Fail> {
 fn needs(stepped: Stepped) -> bool {
     match stepped {
         Stepped::Need => true,
-        Stepped::Applied | Stepped::Ended { .. } => false,
+        Stepped::Applied { .. } | Stepped::Ended { .. } => false,
     }
 }
 

@@ -1,5 +1,6 @@
 //! Streams and scripts that several tests use, and how they are run.
 use gfx_base::{NoMemory, SliceSource, VecSink};
+use gfx_chooser::{Chooser, Once};
 use gfxpipe::{Status, run};
 use std::alloc::Global;
 
@@ -38,7 +39,15 @@ pub struct Ran<'a> {
     pub err: VecSink<'a>,
 }
 
-/// Runs a command on these bytes. The reads and the writes to `out` of these numbers fail.
+/// The room of an output, where nothing else is said.
+const ROOM: usize = 8192;
+
+/// No choosers.
+pub fn nobody(alloc: Global) -> Vec<Once> {
+    Vec::new(alloc)
+}
+
+/// Runs a command on these bytes, with no choosers. The reads and the writes to `out` of these numbers fail.
 pub fn run_on<'a>(
     alloc: Global,
     words: &[&str],
@@ -46,10 +55,24 @@ pub fn run_on<'a>(
     reads: &'a [u64],
     writes: &'a [u64],
 ) -> Result<Ran<'a>, NoMemory> {
+    run_by(alloc, words, &mut nobody(alloc), ROOM, bytes, reads, writes)
+}
+
+/// Runs a command on these bytes, with these choosers and so much room for its output. The reads and the writes to
+/// `out` of these numbers fail.
+pub fn run_by<'a, C: Chooser>(
+    alloc: Global,
+    words: &[&str],
+    choosers: &mut Vec<C>,
+    room: usize,
+    bytes: &'a [u8],
+    reads: &'a [u64],
+    writes: &'a [u64],
+) -> Result<Ran<'a>, NoMemory> {
     let mut input = SliceSource::new(bytes, reads);
-    let mut out = VecSink::new(alloc, 8192, writes)?;
+    let mut out = VecSink::new(alloc, room, writes)?;
     let mut err = VecSink::new(alloc, 96, &[])?;
-    let status = run(alloc, words, &mut input, &mut out, &mut err).into_status();
+    let status = run(alloc, words, choosers, &mut input, &mut out, &mut err).into_status();
     Ok(Ran {
         status,
         input,

@@ -6,6 +6,8 @@
 #[cfg(test)]
 mod both;
 #[cfg(test)]
+mod choosers;
+#[cfg(test)]
 mod clear;
 #[cfg(test)]
 mod encode;
@@ -21,3 +23,5 @@ mod render;
 mod scripts;
 #[cfg(test)]
 mod session;
+#[cfg(test)]
+mod trial;

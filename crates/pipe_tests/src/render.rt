@@ -1,5 +1,5 @@
 //! The command `render`: worked examples, a stream that is cut, and reads and writes that fail.
-use crate::examples::{BLACK, FILL, RED, run_on};
+use crate::examples::{BLACK, FILL, RED, nobody, run_on};
 use gfx_base::{SliceSource, VecSink};
 use gfxpipe::{Status, run};
 use std::test::Fail;
@@ -126,7 +126,15 @@ fn a_line_that_cannot_be_written(rt: HostRuntime) -> Result<(), Fail> {
     let mut input = SliceSource::new(&[0x11, 0], &[]);
     let mut out = VecSink::new(rt.alloc(), 64, &[])?;
     let mut err = VecSink::new(rt.alloc(), 64, &[1])?;
-    let status = run(rt.alloc(), &["render"], &mut input, &mut out, &mut err).into_status();
+    let status = run(
+        rt.alloc(),
+        &["render"],
+        &mut nobody(rt.alloc()),
+        &mut input,
+        &mut out,
+        &mut err,
+    )
+    .into_status();
     assert_eq!(rt; (status, err.held().len()), (Status::WriteFault, 0));
     Ok(())
 }

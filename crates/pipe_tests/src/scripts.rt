@@ -1,5 +1,5 @@
 //! Faults of scripts, and small caches that overflow.
-use crate::examples::run_on;
+use crate::examples::{nobody, run_on};
 use gfx_base::{SliceSource, VecSink};
 use gfxpipe::{Status, run};
 use std::alloc::Global;
@@ -140,7 +140,15 @@ fn a_full_small_cache_drops_its_first_bitmap(rt: HostRuntime) -> Result<(), Fail
         let mut input = SliceSource::new(script.as_bytes(), &[]);
         let mut out = VecSink::new(alloc, 200_000, &[])?;
         let mut err = VecSink::new(alloc, 64, &[])?;
-        let status = run(alloc, &["encode"], &mut input, &mut out, &mut err).into_status();
+        let status = run(
+            alloc,
+            &["encode"],
+            &mut nobody(alloc),
+            &mut input,
+            &mut out,
+            &mut err,
+        )
+        .into_status();
         assert_eq!(rt; status, Status::Done);
         assert!(rt; out.held().ends_with(&KEPT_IN_SLOT_1));
     }

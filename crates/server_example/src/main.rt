@@ -1,6 +1,8 @@
 //! How a server embeds its end of a session: scripts are planned, the bytes of a client are heard, and
 //! what goes to the client is printed.
 //!
+//! How a picture goes whose paint names no kind, a chooser of this program's own says.
+//!
 //! The client here offers version 10, takes what it is sent, and acknowledges each frame late, so that
 //! steps wait for the window, are joined into one frame, and those that others cover are left out.
 #![tactic(auto)]
@@ -8,15 +10,20 @@
 ghost use Rattle.std.specs.Prelude.{IfSome};
 ghost use Rattle.gfx_session.specs.Kept.{IsServerEnd};
 
+mod chooser;
 mod scripts;
 
 use anyhow::anyhow;
+use chooser::Lines;
 use gfx_base::Bytes;
 use gfx_schedule::Turned;
 use gfx_script_text::read_script;
 use gfx_session::{ServerEnd, ServerFault};
 use scripts::{EXAMPLES, Example};
 use std::alloc::Global;
+
+/// A picture that is no higher is taken for a line of text.
+const LINE_HEIGHT: u16 = 2;
 
 /// What happens to the server's end.
 #[derive(Clone, Copy, Debug)]
@@ -77,7 +84,11 @@ fn main(rt: HostRuntime) -> anyhow::Result<()> {
 /// Plays these events on the server's end of a script, and prints what each comes to.
 fn play(rt: &impl Print, alloc: Global, example: &Example, events: &[Event]) -> anyhow::Result<()> {
     match start(alloc, example) {
-        Some(mut server) => play_all(rt, alloc, &mut server, example.small, events),
+        Some(mut server) => {
+            let mut choosers = Vec::new(alloc);
+            choosers.push(Lines { most: LINE_HEIGHT })?;
+            play_all(rt, alloc, &mut server, &mut choosers, example.small, events)
+        }
         None => Err(anyhow!("no server's end")),
     }
 }
@@ -97,6 +108,7 @@ fn play_all(
     rt: &impl Print,
     alloc: Global,
     server: &mut ServerEnd,
+    choosers: &mut Vec<Lines>,
     small: bool,
     events: &[Event],
 ) -> anyhow::Result<()>
@@ -105,7 +117,7 @@ fn play_all(
 {
     'events: for event in events {
         let mut out = Bytes::new(alloc);
-        let told = play_one(server, small, *event, &mut out);
+        let told = play_one(server, choosers, small, *event, &mut out);
         println!(rt; "{event:?}: {told:?}")?;
         print_bytes(rt, out.as_slice())?;
     }
@@ -126,14 +138,20 @@ enum Told {
 }
 
 /// Plays an event; what goes to the client is put out.
-fn play_one(server: &mut ServerEnd, small: bool, event: Event, out: &mut Bytes) -> Told
+fn play_one(
+    server: &mut ServerEnd,
+    choosers: &mut Vec<Lines>,
+    small: bool,
+    event: Event,
+    out: &mut Bytes,
+) -> Told
     requires { IsServerEnd server.old }
     ensures { IsServerEnd server.new }
 {
     match event {
         Event::Offers => hear(server, &offers(small), out),
         Event::Acknowledges { frame, drawn } => hear(server, &acknowledgement(frame, drawn), out),
-        Event::Serves => match server.serve(out) {
+        Event::Serves => match server.serve(choosers, out) {
             Ok(turned) => Told::Turned(turned),
             Err(_) => Told::NoMemory,
         },

@@ -7,7 +7,7 @@ pub struct Example {
     pub script: &'static str,
 }
 
-pub const EXAMPLES: [Example; 5] = [
+pub const EXAMPLES: [Example; 6] = [
     // A surface, the same in red, and the same in green.
     Example {
         rule: "a covered fill is left out",
@@ -83,6 +83,25 @@ step = [
     { do = "paint", id = 1, picture = "turned", at = [0, 0], kind = "bands" },
     { do = "frame" },
     { do = "paint", id = 1, picture = "step", at = [0, 0], kind = "bands", glyph = 7 },
+    { do = "frame" },
+]"#,
+    },
+    // Two pictures whose kinds are left open: a low one goes as a column, the other, of three rows, by runs.
+    Example {
+        rule: "a chooser says how pictures go",
+        small: false,
+        script: r#"window = 1
+picture = [
+    { name = "low", width = 1, height = 2, pattern = "hex", pixels = "ffffffff000000ff" },
+    { name = "high", width = 1, height = 3, pattern = "solid", colour = "0000ffff" },
+]
+step = [
+    { do = "surface", id = 1, width = 1, height = 3 },
+    { do = "paint", id = 1, picture = "low", at = [0, 0] },
+    { do = "frame" },
+    { do = "paint", id = 1, picture = "high", at = [0, 0] },
+    { do = "frame" },
+    { do = "paint", id = 1, picture = "low", at = [0, 1], kind = "raw" },
     { do = "frame" },
 ]"#,
     },

@@ -6,12 +6,13 @@ use Rattle.std.specs.List.{list_all}
 use Rattle.std.specs.Str.{bytes_eq}
 use Rattle.std.specs.Str.Parse.{digits_value}
 use Rattle.gfx_words.specs.declared.table.Command.{Command}
-use Rattle.gfx_words.specs.declared.table.Command.TheVariants.{Encode, Make, Render, RenderOutput, Session, Trial}
+use Rattle.gfx_words.specs.declared.table.Command.TheVariants.{Audit, Encode, Make, Render, RenderOutput, Session, Trial}
 
 -- the command that a name alone is
 unfoldable pub plain_command : List ℕ → Option Command
 plain_command name = if bytes_eq name (codes "encode") then Some Encode
     else if bytes_eq name (codes "render") then Some Render
+    else if bytes_eq name (codes "audit") then Some Audit
     else if bytes_eq name (codes "session") then Some Session else None
 
 -- the command that a name with the flag `--output` is

@@ -20,6 +20,8 @@ pub enum Command {
     Render,
     /// Reads a stream of channel messages and writes the pixels of its output.
     RenderOutput,
+    /// Reads a stream of channel messages and writes a line for each, and at its end what a client then holds.
+    Audit,
     /// Reads a script, plays its session and writes a line for each acknowledged frame.
     Session,
     /// Writes the script of a number.
@@ -52,6 +54,7 @@ fn plain_command(name: &str) -> Option<Command>
     match name {
         "encode" => Some(Command::Encode),
         "render" => Some(Command::Render),
+        "audit" => Some(Command::Audit),
         "session" => Some(Command::Session),
         _ => None,
     }

@@ -27,7 +27,7 @@ use Rattle.gfxpipe.specs.declared.recording.Player.{Player}
 use Rattle.gfxpipe.specs.declared.render.Dump.{Dump}
 use Rattle.gfxpipe.specs.declared.trouble.Trouble.{Trouble}
 use Rattle.gfxpipe.specs.declared.trouble.Trouble.TheVariants as trouble
-use Rattle.gfxpipe.specs.Did.{IsNotRefused, IsFine, IsReadWhole, IsUnread, WritesOn, Did, DidAll, DidUnread, Answers, Renders, trouble_of}
+use Rattle.gfxpipe.specs.Did.{IsNotRefused, IsFine, IsReadWhole, IsUnread, WritesOn, Did, DidAll, DidUnread, Answers, Renders, Audits, trouble_of}
 use Rattle.gfxpipe.specs.Due.{shown, played, found_in, found_for}
 use Rattle.gfxpipe.specs.Dump.{dump_of, Prints}
 use Rattle.gfxpipe.specs.Outcome.{ended_of, session_of}
@@ -45,6 +45,7 @@ use Rattle.gfxpipe.proofs.Recordings.{Plays, Refuses, told, tells}
 fine_none : (command : Command) → IsFine command []
 fine_none Render = ap (λ (z : Run). z.refusal) (eats-nil begun)
 fine_none RenderOutput = ap (λ (z : Run). z.refusal) (eats-nil begun)
+fine_none command.Audit = ap (λ (z : Run). z.refusal) (eats-nil begun)
 fine_none other = tt
 
 reads_none : (command : Command) (limit n : ℕ) (left : Option (List ℕ)) → Reads (IsFine command) limit (change n n left left)
@@ -53,6 +54,7 @@ reads_none command limit n left = record { taken = []; few = omega arith; told =
 -- nothing was written
 writes_none : (command : Command) (m : ℕ) (held : Option (List ℕ)) (text : List ℕ) → WritesOn command (change m m held held) text
 writes_none Encode m held text = nothing_written text m held
+writes_none command.Audit m held text = nothing_written text m held
 writes_none other m held text = Gains_none m held
 
 -- no memory is left before anything is read
@@ -89,6 +91,7 @@ memory_first (Some (command.Make number)) choosers bounds n m left held = none_m
 memory_first (Some (command.Trial number)) choosers bounds n m left held = none_made (command.Trial number) choosers n m left held
 memory_first (Some Render) choosers bounds n m left held = none_did Render choosers bounds.stream n m left held
 memory_first (Some RenderOutput) choosers bounds n m left held = none_did RenderOutput choosers bounds.stream n m left held
+memory_first (Some command.Audit) choosers bounds n m left held = none_did command.Audit choosers bounds.stream n m left held
 memory_first (Some Encode) choosers bounds n m left held = none_did Encode choosers bounds.script n m left held
 memory_first (Some command.Session) choosers bounds n m left held = none_did command.Session choosers bounds.script n m left held
 
@@ -111,8 +114,12 @@ pub not_played : (f : InputFault) (d : Dump) (limit m : ℕ) (i : Change) (held 
 not_played input.Failed d limit m i held player (reads, falls, rose) = (reads, (falls, rose, Gains_none m held))
 not_played input.Memory d limit m i held player (reads, count) = (reads, (count, Gains_none m held))
 
+-- no auditor can be made
+pub no_auditor : (limit n m : ℕ) (left held : Option (List ℕ)) → Audits (Err trouble.Memory) limit (change n n left left) (change m m held held)
+no_auditor limit n m left held = (reads_none command.Audit limit n left, (refl, nothing_written _ m held))
+
 -- a recording that ends well was read to its end
-read_whole : (r : Read) (limit : ℕ) (bytes : List ℕ) (i : Change) (player : Player) → EndsBy Plays Refuses r limit bytes (rest_of i.new) player → IsReadWhole (told r player) i
+pub read_whole : (r : Read) (limit : ℕ) (bytes : List ℕ) (i : Change) (player : Player) → EndsBy Plays Refuses r limit bytes (rest_of i.new) player → IsReadWhole (told r player) i
 read_whole read.Whole limit bytes i player e = by (end_of (closed_by player.client) (cursor_of player.client))
   where
     by : (answer : Result (Unit {0}) ClientFault) → IsReadWhole (ending_by read.Whole answer) i

@@ -1,5 +1,7 @@
 pub mod Recordings
 pub mod Commands
+pub mod Auditing
+pub mod Audited
 pub mod ReadingScripts
 pub mod Encoding
 pub mod Sessions

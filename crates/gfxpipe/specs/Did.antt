@@ -17,7 +17,7 @@ use Rattle.gfxpipe.specs.declared.ending.Ending.TheVariants.{Done, Faulty}
 use Rattle.gfxpipe.specs.declared.trouble.Trouble.{Trouble}
 use Rattle.gfxpipe.specs.declared.trouble.Trouble.TheVariants as trouble
 use Rattle.gfxpipe.specs.declared.render.Dump.{Dump}
-use Rattle.gfxpipe.specs.Due.{Due, due, shown}
+use Rattle.gfxpipe.specs.Due.{Due, due, shown, audited}
 use Rattle.gfxpipe.specs.Dump.{dump_of}
 use Rattle.gfxpipe.specs.Leaves.{Leaves}
 use Rattle.gfxpipe.specs.Sessions.{IsWhole}
@@ -39,6 +39,7 @@ IsAny bytes = Unit {0}
 abbrev pub IsFine : Command → List ℕ → Type 0
 IsFine command.Render bytes = IsNotRefused bytes
 IsFine command.RenderOutput bytes = IsNotRefused bytes
+IsFine command.Audit bytes = IsNotRefused bytes
 IsFine other bytes = IsAny bytes
 
 -- no read failed
@@ -59,10 +60,17 @@ WritesNothing o text = Gains o []
 abbrev pub WritesPart : Change → List ℕ → Type 0
 WritesPart o text = (o.now ≡ o.before) × GainsPart o text
 
+-- what was written where a read failed: the lines of an audit are written message by message, all else is
+-- written once its input is read whole
+abbrev pub WritesUnread : Command → Change → List ℕ → Type 0
+WritesUnread command.Audit o text = WritesPart o text
+WritesUnread other o text = WritesNothing o text
+
 -- what was written where memory ran out: recordings are shown once they are played, the lines of a session
 -- are written once it is ended, the stream of a script is written frame by frame
 abbrev pub WritesOn : Command → Change → List ℕ → Type 0
 WritesOn command.Encode o text = WritesPart o text
+WritesOn command.Audit o text = WritesPart o text
 WritesOn other o text = WritesNothing o text
 
 -- how a command ended, of whose input this is due, and which has written so much where a read fails, and where
@@ -76,7 +84,7 @@ Ends (Err trouble.Memory) writes_unread writes_on d i o = NoFault i × writes_on
 -- there is an input, the one that is told where it is told, of which this is the right end
 abbrev pub Did : Result Ending Trouble → Command → List Chooser → ℕ → Change → Change → Type 0
 Did ended command choosers limit i o =
-    (reads : Reads (IsFine command) limit i) × Ends ended WritesNothing (WritesOn command) (due command choosers limit (input_of reads)) i o
+    (reads : Reads (IsFine command) limit i) × Ends ended (WritesUnread command) (WritesOn command) (due command choosers limit (input_of reads)) i o
 
 -- the same of a command that reads a recording, whatever is due of one
 abbrev pub Plays : Result Ending Trouble → (Change → List ℕ → Type 0) → (ℕ → List ℕ → Due) → ℕ → Change → Change → Type 0
@@ -85,6 +93,10 @@ Plays ended writes due limit i o = (reads : Reads IsNotRefused limit i) × Ends 
 -- of `render`, whatever it prints
 abbrev pub Renders : Result Ending Trouble → Dump → ℕ → Change → Change → Type 0
 Renders ended dump limit i o = Plays ended WritesNothing (shown (dump_of dump)) limit i o
+
+-- of `audit`
+abbrev pub Audits : Result Ending Trouble → ℕ → Change → Change → Type 0
+Audits ended limit i o = Plays ended WritesPart audited limit i o
 
 -- the session that is answered: that of the script of the input where `session` is done, that of the script of a
 -- number where `trial` is, else none

@@ -1,6 +1,6 @@
 -- What is due of the input of a command: the text that is written, and how the run ends. This project's
 -- own rule.
-use Rattle.std.specs.Prelude.{ℕ, List, [], length, take, Bool, nat_le, if◌then◌else◌, Option, Some, None, Result, Ok, Err}
+use Rattle.std.specs.Prelude.{ℕ, List, [], length, take, Bool, nat_le, if◌then◌else◌, ◌++◌, Option, Some, None, Result, Ok, Err}
 use Rattle.gfx_base.specs.Memory.{next_count}
 use Rattle.gfx_base.specs.declared.refusal.Refusal.{Refusal}
 use Rattle.gfx_chooser.specs.Choosing.{Chooser}
@@ -9,6 +9,7 @@ use Rattle.gfx_generator.specs.Script.{script_text}
 use Rattle.gfx_planner.specs.Stream.{stream_of}
 use Rattle.gfx_script.specs.Scripted.{Script}
 use Rattle.gfx_script_text.specs.Text.{Wrong, script_of}
+use Rattle.gfx_state.specs.History.{history_of}
 use Rattle.gfx_state.specs.Run.{Run, run_of, end}
 use Rattle.gfx_surface_map.specs.Shown.{Shown}
 use Rattle.gfx_words.specs.declared.table.Command.{Command}
@@ -16,6 +17,7 @@ use Rattle.gfx_words.specs.declared.table.Command.TheVariants as command
 use Rattle.gfxpipe.specs.declared.ending.Ending.{Ending}
 use Rattle.gfxpipe.specs.declared.ending.Ending.TheVariants.{Done, TooLong, Refused, Faulty}
 use Rattle.gfxpipe.specs.declared.render.Dump.TheVariants.{Surfaces, Output}
+use Rattle.gfxpipe.specs.Audit.{lines, held_lines}
 use Rattle.gfxpipe.specs.Dump.{dump_of}
 use Rattle.gfxpipe.specs.Sessions.{session_text, trial_text}
 
@@ -47,6 +49,17 @@ shown text limit bytes = record {
   ending = ending_of (played limit bytes).refusal (played limit bytes).applied (last_of limit bytes);
 }
 
+-- the text of the audit of a recording: a line for each message that is applied, and what is held then
+unfoldable pub audit_text : ℕ → List ℕ → List ℕ
+audit_text limit bytes = lines 0 (history_of (take limit bytes)) ++ held_lines (played limit bytes).state
+
+-- what is told of a recording
+abbrev pub audited : ℕ → List ℕ → Due
+audited limit bytes = record {
+  text = audit_text limit bytes;
+  ending = ending_of (played limit bytes).refusal (played limit bytes).applied (last_of limit bytes);
+}
+
 -- a script that is accepted, or how a run ends whose script isn't
 abbrev pub accepted_or : Result Script Wrong → Result Script Ending
 accepted_or (Ok script) = Ok script
@@ -73,6 +86,7 @@ found_for number = accepted_or (script_of (script_text number))
 abbrev pub due : Command → List Chooser → ℕ → List ℕ → Due
 due command.Render choosers limit bytes = shown (dump_of Surfaces) limit bytes
 due command.RenderOutput choosers limit bytes = shown (dump_of Output) limit bytes
+due command.Audit choosers limit bytes = audited limit bytes
 due command.Encode choosers limit bytes = scripted (stream_text choosers) (found_in limit bytes)
 due command.Session choosers limit bytes = scripted (session_text choosers) (found_in limit bytes)
 due (command.Make number) choosers limit bytes = record { text = script_text number; ending = Done }

@@ -1,9 +1,11 @@
 pub mod Dump
 pub mod Sessions
+pub mod Audit
 pub mod Due
 pub mod Leaves
 pub mod Did
 pub mod Recording
+pub mod Auditing
 pub mod Fronts
 pub mod Scripts
 pub mod Stream

@@ -2,11 +2,13 @@
 //!
 //! It stands on the command line and on both ends of the channel, which it joins to the outside. For
 //! `render` the bytes of a recording are given to a client piece by piece, and what the client then
-//! holds is printed. For `encode` a script is read whole, and its stream is written frame by frame.
+//! holds is printed. For `audit` a line is written for each message of a recording, and at its end what the client
+//! then holds is told. For `encode` a script is read whole, and its stream is written frame by frame.
 //! For `session` a script is read whole, both ends of its session are played, and a line is written for
 //! each acknowledged frame. `make` writes a script that a number stands for, and `trial` plays its session.
 #![tactic(auto)]
 
+mod audit;
 mod encode;
 mod ending;
 mod flushed;

@@ -6,6 +6,7 @@ ghost use Rattle.gfxpipe.specs.Outcome.{ended_of, session_of};
 ghost use Rattle.gfx_chooser.specs.Seen.{seen};
 ghost use Rattle.gfxpipe.specs.Run.{Executes, Runs, limits};
 
+use crate::audit::audit;
 use crate::encode::encode;
 use crate::ending::{Ending, close};
 use crate::make::make;
@@ -95,6 +96,7 @@ fn execute<C: Chooser, I: Source, O: Sink>(
     match command_of(alloc, words) {
         Ok(Some(Command::Render)) => alone(render(alloc, Dump::Surfaces, stream, input, out)),
         Ok(Some(Command::RenderOutput)) => alone(render(alloc, Dump::Output, stream, input, out)),
+        Ok(Some(Command::Audit)) => alone(audit(alloc, stream, input, out)),
         Ok(Some(Command::Encode)) => alone(encode(alloc, script, choosers, input, out)),
         Ok(Some(Command::Session)) => session(alloc, script, choosers, input, out),
         Ok(Some(Command::Make(number))) => alone(make(alloc, number, out)),

@@ -1,6 +1,6 @@
 use Rattle.std.proofs.Common.{Some, map, sym, ap, ◌∙◌, refl}
 use Rattle.gfx_words.specs.CommandLine.{accepted}
-use Rattle.gfx_words.specs.declared.table.Command.TheVariants.{Render, RenderOutput, Encode}
+use Rattle.gfx_words.specs.declared.table.Command.TheVariants.{Render, RenderOutput, Audit, Encode}
 use Rattle.gfxpipe.specs.Run.{limits}
 use Rattle.gfxpipe.proofs.Commands.{memory_first, alone}
 use Rattle.gfxpipe.proofs.program.execute.Goals as goal
@@ -14,6 +14,11 @@ pub returns-in-Ok-Some-RenderOutput : goal.returns-in-Ok-Some-RenderOutput
 returns-in-Ok-Some-RenderOutput g c =
     let words = ap (λ z. Some z) (sym c.in-Ok-Some-RenderOutput.field-0-0-is) ∙ sym c.in-Ok-Some-RenderOutput.field-0-is ∙ c.in-Ok-Some-RenderOutput.ensures in
     alone c.alone-in-Ok-Some-RenderOutput.result c.render-in-Ok-Some-RenderOutput.result (Some RenderOutput) _ _ _ (limits c.args.stream c.args.script) _ _ words c.alone-in-Ok-Some-RenderOutput.ensures.ended c.alone-in-Ok-Some-RenderOutput.ensures.session (c.render-in-Ok-Some-RenderOutput.ensures, refl, refl)
+
+pub returns-in-Ok-Some-Audit : goal.returns-in-Ok-Some-Audit
+returns-in-Ok-Some-Audit g c =
+    let words = ap (λ z. Some z) (sym c.in-Ok-Some-Audit.field-0-0-is) ∙ sym c.in-Ok-Some-Audit.field-0-is ∙ c.in-Ok-Some-Audit.ensures in
+    alone c.alone-in-Ok-Some-Audit.result c.audit.result (Some Audit) _ _ _ (limits c.args.stream c.args.script) _ _ words c.alone-in-Ok-Some-Audit.ensures.ended c.alone-in-Ok-Some-Audit.ensures.session (c.audit.ensures, refl, refl)
 
 pub returns-in-Ok-Some-Encode : goal.returns-in-Ok-Some-Encode
 returns-in-Ok-Some-Encode g c =

@@ -1,0 +1,22 @@
+-- The text of an audit: a line for each message that is applied, and at the end what a client then holds. This
+-- project's own rule.
+use Rattle.std.specs.Prelude.{ℕ, List, [], ◌∷◌, ◌++◌, fold}
+use Rattle.std.specs.FinMap.{len}
+use Rattle.gfx_base.specs.Memory.{next_count}
+use Rattle.gfx_report.specs.Audit.{audit_line, audit_end_text}
+use Rattle.gfx_state.specs.History.{Effect}
+use Rattle.gfx_state.specs.State.{State}
+
+-- the number of the last of these messages, where so many were applied before them
+abbrev pub number_after : ℕ → List Effect → ℕ
+number_after applied all = fold (λ number message. next_count number) applied all
+
+-- the lines of these messages, where so many were applied before them
+unfoldable pub lines : ℕ → List Effect → List ℕ
+lines applied [] = []
+lines applied (message ∷ more) =
+    audit_line (next_count applied) message.pdu message.size ++ lines (next_count applied) more
+
+-- the lines of what a client in this state holds
+abbrev pub held_lines : State → List ℕ
+held_lines state = audit_end_text state.cache.slots state.clear.rings state.clear.glyphs (len state.records)

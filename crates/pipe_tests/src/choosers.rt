@@ -1,5 +1,5 @@
 //! Choosers of paints that name no kind.
-use crate::examples::run_by;
+use crate::examples::{run_by, run_on};
 use gfx_chooser::{ByArea, ByColours, Chooser, Once};
 use gfx_script::Kind;
 use gfxpipe::Status;
@@ -106,5 +106,21 @@ fn a_frame_that_is_not_planned_asks_nobody(rt: HostRuntime) -> Result<(), Fail> 
     let ran = run_by(alloc, &["encode"], &mut choosers, ROOM, script, &[], &[1])?;
     assert_eq!(rt; ran.status, Status::WriteFault);
     assert_eq!(rt; choosers.len(), 1);
+    Ok(())
+}
+
+/// A paint in passes leaves a tile, a raw one none.
+#[test]
+fn an_audit_tells_what_was_chosen(rt: HostRuntime) -> Result<(), Fail> {
+    let alloc = rt.alloc();
+    for (kind, line) in [(Kind::Raw, "tiles 0\n"), (Kind::Progressive, "tiles 1\n")] {
+        let mut choosers = Vec::new(alloc);
+        choosers.push(Once { kind, left: true })?;
+        let script = SECOND_SCRIPT.as_bytes();
+        let sent = run_by(alloc, &["encode"], &mut choosers, ROOM, script, &[], &[])?;
+        let told = run_on(alloc, &["audit"], sent.out.held(), &[], &[])?;
+        assert_eq!(rt; told.status, Status::Done);
+        assert!(rt; told.out.held().ends_with(line.as_bytes()));
+    }
     Ok(())
 }

@@ -4,10 +4,10 @@
 #
 #     tests/by-hand.sh PROGRAM [REFERENCE [SEEDS]]
 #
-# REFERENCE has the same `render`, `encode` and `session`. It prints a stream of its own for `--random-stream SEED
-# WORDS`, a script for `--random SEED WORDS`, and one with a fault for `--random-fault SEED WORDS`, where
-# WORDS are the steps that may occur. 100 SEEDS are taken where none are named. Each case is a line, `ok` or `FAILED`; the exit number is 1
-# where one failed.
+# REFERENCE has the same `render`, `audit`, `encode` and `session`, and brings the same choosers. It prints a stream
+# of its own for `--random-stream SEED WORDS`, a script for `--random SEED WORDS`, and one with a fault for
+# `--random-fault SEED WORDS`, where WORDS are the steps that may occur. 100 SEEDS are taken where none are named.
+# Each case is a line, `ok` or `FAILED`; the exit number is 1 where one failed.
 set -u
 if [ $# -lt 1 ] || [ $# -gt 3 ]; then
     sed -n '5s/^# *//p' "$0" >&2
@@ -117,15 +117,22 @@ report "a read that fails prints nothing" "0" "$(stat -c %s "$work/out")"
 report "a full standard error" "4" "$?"
 "$program" render < "$examples/outside.bin" > /dev/full 2> "$work/err"
 report "a full output of a refused stream" "4 output: write failed" "$(ended $?)"
+"$program" audit < "$examples/text.bin" > /dev/full 2> "$work/err"
+report "a full output of an audit" "4 output: write failed" "$(ended $?)"
 
 # A surface of 8,192 by 8,192, for which there is no room.
 printf '\x11\0\0\0\xe0\x04\x09\0\0\0\x0f\0\0\0\x01\0\0\x20\0\x20\x20' |
     (ulimit -v 100000 && "$program" render > "$work/out" 2> "$work/err")
 report "no memory" "5 memory: none left" "$(ended $?)$(cat "$work/out")"
 
+# The same behind the start of a frame, which has its line.
+printf '\x12\0\0\0\xe0\x04\x0b\0\0\0\x10\0\0\0\0\0\0\0\x01\0\0\0\x11\0\0\0\xe0\x04\x09\0\0\0\x0f\0\0\0\x01\0\0\x20\0\x20\x20' |
+    (ulimit -v 100000 && "$program" audit > "$work/out" 2> "$work/err")
+report "no memory in an audit" "5 memory: none left, 1 StartFrame 16" "$(ended $?), $(cat "$work/out")"
+
 # Words.
 usage="2 usage: gfxpipe encode | render [--output] | audit | session | make N | trial N"
-for words in "render --wide" "" "renders" "render 1 2" "--help" $'\xff' $'render \xff'; do
+for words in "render --wide" "" "renders" "render 1 2" "audit --output" "audit 1" "--help" $'\xff' $'render \xff'; do
     # shellcheck disable=SC2086
     "$program" $words < "$examples/fill.bin" > "$work/out" 2> "$work/err"
     report "the words '$words'" "$usage" "$(ended $?)$(cat "$work/out")"
@@ -164,6 +171,9 @@ report "the last pass" "same" "$(cmp -s "$work/out" "$examples/passes-3.txt" && 
 "$program" session < "$examples/joined.toml" > "$work/out" 2> "$work/err"
 report "the session joined" "0 " "$(ended $?)"
 report "the session joined, its lines" "same" "$(cmp -s "$work/out" "$examples/joined.txt" && echo same)"
+"$program" audit < "$examples/text.bin" > "$work/out" 2> "$work/err"
+report "the audit of text" "0 " "$(ended $?)"
+report "the audit of text, its lines" "same" "$(cmp -s "$work/out" "$examples/text-audit.txt" && echo same)"
 
 # The limit of the input: 1 GiB. Nothing of these streams is stored.
 limit=$((1 << 30))
@@ -183,6 +193,15 @@ limit_case "1 GiB and one byte" "1 input: TooLong" "$limit" byte
 stream_of "$limit" refused | "$program" render > "$work/out" 2> "$work/err"
 report "1 GiB whose last message is refused, and one byte" "1 22 FrameMismatch" \
     "$(ended "${PIPESTATUS[1]}" | sed 's/message [0-9]*: //')"
+digest=$(sha256sum < /dev/null | cut -d ' ' -f 1)
+nothing_held="slots 0
+bars 0 0 $digest
+shorts 0 0 $digest
+glyphs 0 $digest
+tiles 0"
+stream_of "$limit" byte | "$program" audit > "$work/out" 2> "$work/err"
+report "1 GiB and one byte, audited" "1 input: TooLong" "$(ended "${PIPESTATUS[1]}")"
+report "1 GiB and one byte, audited, the last lines" "$nothing_held" "$(tail -n 5 "$work/out")"
 
 # Beside the reference program.
 if [ -n "$reference" ]; then
@@ -207,9 +226,9 @@ if [ -n "$reference" ]; then
         answer "$way" "$seed" "$@"
         cmp -s "$work/out" "$work/wanted" && cmp -s "$work/err" "$work/wanted.err" || different="$different $seed"
     }
-    built="surface delete reset map fill copy paint kinds=raw,residual,bands,palette,plain,progressive improve difference glyph argb keep show forget clients"
+    built="surface delete reset map fill copy paint kinds=raw,residual,bands,palette,plain,progressive,auto improve difference glyph argb keep show forget clients"
     for way in whole cut pieces; do
-        for words in "render" "render --output"; do
+        for words in "render" "render --output" "audit"; do
             different=
             for seed in $(seq "$seeds"); do
                 # shellcheck disable=SC2086

@@ -1,6 +1,7 @@
 pub mod Bounds
 pub mod Edges
 pub mod Levels
+pub mod NoDetail
 pub mod Pairs
 pub mod Planes
 pub mod Same

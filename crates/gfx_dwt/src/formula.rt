@@ -150,7 +150,7 @@ fn difference(left: i32, right: i32) -> i32
 }
 
 #[inline]
-fn between<L: Lifting>(left: i32, right: i32) -> i32
+pub fn between<L: Lifting>(left: i32, right: i32) -> i32
     requires left { Within (2 ^ 28) left }
     requires right { Within (2 ^ 28) right }
     ensures value { result ≡ halved L.transform (left +ℤ right) }

@@ -10,9 +10,12 @@ mod joining;
 mod kernels;
 mod layout;
 mod lines;
+mod noughts;
+mod smooth;
 mod splitting;
 mod synthesis;
 
 pub use analysis::{forward, forward_with};
 pub use layout::{Band, Scale, Transform};
+pub use noughts::{is_solid, noughts_before};
 pub use synthesis::{inverse, inverse_with};

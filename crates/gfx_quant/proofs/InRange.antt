@@ -1,5 +1,5 @@
 -- Which values have a coefficient, and loops that test it.
-use Rattle.std.proofs.Common.{◌≡◌, ℕ, suc, zero, ◌+◌, ◌-◌, ◌*◌, ◌/◌, ◌^◌, ◌<◌, ◌≤◌, Bool, true, false, ℤ, pos, negsuc, neg_ℤ, ◌*ℤ◌, ◌≤ℤ◌, ◌<ℤ◌, List, arith, refl, inl, inr, below_more, lit<}
+use Rattle.std.proofs.Common.{◌≡◌, ℕ, suc, zero, ◌+◌, ◌-◌, ◌*◌, ◌/◌, ◌^◌, ◌<◌, ◌≤◌, Bool, true, false, ℤ, pos, negsuc, neg_ℤ, ◌*ℤ◌, ◌≤ℤ◌, ◌<ℤ◌, List, arith, refl, sym, ◌∙◌, inl, inr, below_more, lit<, ⊎_elim}
 use Rattle.std.specs.Prelude.{◌&&◌, ◌⊎◌, MatchBool}
 use Rattle.std.proofs.lemmas.Int.{ints}
 use Rattle.std.proofs.Math.Nat.{mul-le-mul_right, div-mul-le_self, one-le-pow}
@@ -50,3 +50,59 @@ more_have position values from i true true h all p = λ k a b. below_more (λ k.
 more_have position values from i true false h all p = (i, (h, omega arith, p))
 more_have position values from i false true h some p = (some.0, (some.1.0, omega (arith, some.1.1), some.1.2))
 more_have position values from i false false h some p = (some.0, (some.1.0, omega (arith, some.1.1), some.1.2))
+
+either : (n m : ℕ) → (n < m) ⊎ (m ≤ n)
+either n m = grind arith
+
+-- nought has a coefficient at each bit position
+pub nought_has : (position : ℕ) (v : ℤ) → v ≡ pos 0 → has_coefficient position v ≡ true
+nought_has position v e = rw e (below_is (0 * 2 ^ (position - 1)) (omega arith))
+
+-- the values before a place are nought
+pub fewer_have : (position : ℕ) (values : List ℤ) (from middle to : ℕ) (fits : Bool) → from ≤ middle → middle ≤ to → ((k : ℕ) → from ≤ k → k < middle → at values k ≡ pos 0) → MatchBool fits (AllHave position values middle to) (SomeLacks position values middle to) → MatchBool fits (AllHave position values from to) (SomeLacks position values from to)
+fewer_have position values from middle to true a b none all = λ k p q. ⊎_elim (λ h. nought_has position (at values k) (none k p h)) (λ h. all k h q) (either k middle)
+fewer_have position values from middle to false a b none some = (some.0, (omega (arith, some.1.0), some.1.1, some.1.2))
+
+-- nought, or a value from one place to before another
+abbrev pub IsFound : List ℤ → ℕ → ℕ → ℤ → Type 0
+IsFound values from to z = (z ≡ pos 0) ⊎ ((k : ℕ) × ((from ≤ k) × (k < to) × (at values k ≡ z)))
+
+-- the lowest and the highest of the values from one place to before another, and of nought
+pub record Spans (values : List ℤ) (from to : ℕ) (lowest highest : ℤ) : Type 0 where
+  pub lows : (k : ℕ) → from ≤ k → k < to → lowest ≤ℤ at values k
+  pub highs : (k : ℕ) → from ≤ k → k < to → at values k ≤ℤ highest
+  pub low_found : IsFound values from to lowest
+  pub high_found : IsFound values from to highest
+
+pub no_span : (values : List ℤ) (from : ℕ) → Spans values from from (pos 0) (pos 0)
+no_span values from = record {
+  lows = λ k p q. absurd (omega arith);
+  highs = λ k p q. absurd (omega arith);
+  low_found = inl refl;
+  high_found = inl refl;
+}
+
+found_more : (values : List ℤ) (from i : ℕ) (z next v : ℤ) → from ≤ i → v ≡ at values i → IsFound values from i z → (next ≡ z) ⊎ (next ≡ v) → IsFound values from (i + 1) next
+found_more values from i z next v h e (inl o) (inl p) = inl (p ∙ o)
+found_more values from i z next v h e (inr o) (inl p) = inr (o.0, (o.1.0, omega (arith, o.1.1), o.1.2 ∙ sym p))
+found_more values from i z next v h e o (inr p) = inr (i, (h, omega arith, sym (p ∙ e)))
+
+pub spans_more : (values : List ℤ) (from i : ℕ) (lowest highest low high v : ℤ) → from ≤ i → v ≡ at values i → low ≤ℤ lowest → low ≤ℤ v → (low ≡ lowest) ⊎ (low ≡ v) → highest ≤ℤ high → v ≤ℤ high → (high ≡ highest) ⊎ (high ≡ v) → Spans values from i lowest highest → Spans values from (i + 1) low high
+spans_more values from i lowest highest low high v h e a b c d f g s = record {
+  lows = λ k p q. below_more (λ k. from ≤ k → low ≤ℤ at values k) i (λ k l p. let one = s.lows k p l in omega (arith, ints)) (λ p. omega (arith, ints)) k q p;
+  highs = λ k p q. below_more (λ k. from ≤ k → at values k ≤ℤ high) i (λ k l p. let one = s.highs k p l in omega (arith, ints)) (λ p. omega (arith, ints)) k q p;
+  low_found = found_more values from i lowest low v h e s.low_found c;
+  high_found = found_more values from i highest high v h e s.high_found g;
+}
+
+lacks : (position : ℕ) (values : List ℤ) (from to : ℕ) (z : ℤ) → IsFound values from to z → has_coefficient position z ≡ false → SomeLacks position values from to
+lacks position values from to z (inl e) h = cc (nought_has position z e, h)
+lacks position values from to z (inr o) h = (o.0, (o.1.0, o.1.1, rw o.1.2 h))
+
+pub spans_decide : (position : ℕ) (values : List ℤ) (from to : ℕ) (lowest highest least most : ℤ) (low high : Bool) → least ≡ neg_ℤ (pos (32768 / 2 ^ (position - 1))) → most ≡ pos (32767 / 2 ^ (position - 1)) → Spans values from to lowest highest → MatchBool low ((least ≤ℤ lowest) × (lowest ≤ℤ most)) ((lowest <ℤ least) ⊎ (most <ℤ lowest)) → MatchBool high ((least ≤ℤ highest) × (highest ≤ℤ most)) ((highest <ℤ least) ⊎ (most <ℤ highest)) → MatchBool (low && high) (AllHave position values from to) (SomeLacks position values from to)
+spans_decide position values from to lowest highest least most true true e f s p q = λ k a b.
+    let one = s.lows k a b in
+    let two = s.highs k a b in
+    bounds_decide position (at values k) least most true e f (omega (arith, ints, p.0, one), omega (arith, ints, q.1, two))
+spans_decide position values from to lowest highest least most true false e f s p q = lacks position values from to highest s.high_found (bounds_decide position highest least most false e f q)
+spans_decide position values from to lowest highest least most false high e f s p q = lacks position values from to lowest s.low_found (bounds_decide position lowest least most false e f p)

@@ -141,3 +141,18 @@ low_is y cb cr b g low p q r d e f = f ∙ rw (d, e) (low_read y cb cr p q r)
 -- a row's samples in 16 bits have its pixels
 pub row_is : (y cb cr y' cb' cr' : ℤ) (out : List Pixel) (n : ℕ) → y' ≡ y → cb' ≡ cb → cr' ≡ cr → slice_get out n ≡ Some (colour_of y' cb' cr') → slice_get out n ≡ Some (colour_of y cb cr)
 row_is y cb cr y' cb' cr' out n d e f h = rw (← d, ← e, ← f) h
+
+-- where nothing is added, all channels are the same
+pub grey_is : (y total level : ℤ) (byte : ℕ) → total ≡ y +ℤ pos 4096 → level ≡ int_shr total 5 → byte ≡ clamped level → pixel_by byte byte byte ≡ colour_of y (pos 0) (pos 0)
+grey_is y total level byte e f g =
+    let more : total ≡ y +ℤ pos 4096 +ℤ (pos 0 +ℤ pos 0) = omega (arith, ints, e) in
+    let blue : byte ≡ channel y (pos 115992 *ℤ pos 0) = channel_is y _ (pos 0) (pos 0) (pos 0) total level byte refl refl more f g in
+    let green : byte ≡ channel y (negsuc 22526 *ℤ pos 0 +ℤ negsuc 46818 *ℤ pos 0) = channel_is y _ (pos 0) (pos 0) (pos 0) total level byte refl refl more f g in
+    let red : byte ≡ channel y (pos 91916 *ℤ pos 0) = channel_is y _ (pos 0) (pos 0) (pos 0) total level byte refl refl more f g in
+    λ i. pixel_by (blue i) (green i) (red i)
+
+-- one more pixel of a tile
+pub tile_painted : (f : ℕ → Pixel) (xs : List Pixel) (i : ℕ) (x : Pixel) → i < length xs → x ≡ f i → ((k : ℕ) → k < i → slice_get xs k ≡ Some (f k)) → (k : ℕ) → k < i + 1 → slice_get (set xs i x) k ≡ Some (f k)
+tile_painted f xs i x inside here before = below_more (λ k. slice_get (set xs i x) k ≡ Some (f k)) i
+    (λ k h. let apart : k ≢ i = omega arith in slice_get-set_other xs i k x apart ∙ before k h)
+    (slice_get-set_same xs i x inside ∙ ap (λ (p : Pixel). Some p) here)

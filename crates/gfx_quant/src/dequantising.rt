@@ -1,13 +1,13 @@
 ghost use Rattle.std.specs.Prelude.{◌≡◌, ℕ, ◌≤◌, ◌<◌, ◌-◌, ◌+◌, ◌/◌, ◌^◌, pos, neg_ℤ, ◌*ℤ◌, ◌≤ℤ◌, ◌<ℤ◌, ◌⊎◌, length, IsTrue, MatchBool};
 ghost use Rattle.gfx_dwt.specs.Place.{number};
-ghost use Rattle.gfx_dwt.specs.Ranges.{AllCoefficients, IsCoefficient};
+ghost use Rattle.gfx_dwt.specs.Ranges.{AllCoefficients, IsCoefficient, at};
 ghost use Rattle.gfx_quant.specs.Coefficient.{coefficient_of};
 ghost use Rattle.gfx_quant.specs.Planes.{AllHave, ArePositions, BandLeavesRange, Dequantises, DequantisesBand, LeavesRange, MapsBands, MapsBetween, PlaneHas, SomeLacks};
 ghost use Rattle.gfx_quant.specs.Quant.{value_of};
 
 use crate::bands::{band_size, band_start, nth_band};
 use crate::coefficients::weight;
-use gfx_dwt::Transform;
+use gfx_dwt::{Transform, noughts_before};
 
 /// The least value that has a coefficient at this bit position.
 #[inline]
@@ -36,7 +36,27 @@ fn is_between(v: i32, least: i32, most: i32) -> bool
     least <= v && v <= most
 }
 
-/// Whether all values from one place to before another have a coefficient.
+/// The lower of two values.
+#[inline]
+fn lower(one: i32, other: i32) -> i32
+    ensures one { result ≤ℤ one }
+    ensures other { result ≤ℤ other }
+    ensures either { (result ≡ one) ⊎ (result ≡ other) }
+{
+    if other < one { other } else { one }
+}
+
+/// The higher of two values.
+#[inline]
+fn higher(one: i32, other: i32) -> i32
+    ensures one { one ≤ℤ result }
+    ensures other { other ≤ℤ result }
+    ensures either { (result ≡ one) ⊎ (result ≡ other) }
+{
+    if one < other { other } else { one }
+}
+
+/// Whether all values from one place to before another have a coefficient: the lowest and the highest have.
 // No early return: so it is done on many values at a time.
 #[inline]
 fn all_have(values: &[i32], from: usize, to: usize, position: u8) -> bool
@@ -48,11 +68,13 @@ fn all_have(values: &[i32], from: usize, to: usize, position: u8) -> bool
 {
     let least = least(position);
     let most = most(position);
-    let mut fits = true;
+    let mut lowest = 0;
+    let mut highest = 0;
     for place in from..to {
-        fits &= is_between(values[place], least, most);
+        lowest = lower(lowest, values[place]);
+        highest = higher(highest, values[place]);
     }
-    fits
+    is_between(lowest, least, most) & is_between(highest, least, most)
 }
 
 #[inline]
@@ -94,39 +116,75 @@ pub fn dequantise_band(values: &mut [i32], position: u8) -> bool
     fits
 }
 
-/// Whether all values of a plane have a coefficient.
-fn plane_has(plane: &[i32; 4096], transform: Transform, positions: &[u8; 10]) -> bool
-    requires { ArePositions positions.now }
+/// Whether all values of a band have a coefficient; before a place they are nought, which has one.
+#[inline]
+fn band_has(values: &[i32], from: usize, to: usize, position: u8, noughts: usize) -> bool
+    requires order { from ≤ to }
+    requires end { to ≤ length values.now }
+    requires low { 1 ≤ position }
+    requires high { position ≤ 30 }
+    requires noughts { (k : ℕ) → from ≤ k → k < to → k < noughts → at values.now k ≡ pos 0 }
+    ensures { MatchBool result (AllHave position values.now from to) (SomeLacks position values.now from to) }
+{
+    all_have(values, noughts.max(from).min(to), to, position)
+}
+
+/// Puts the coefficients in place of the values of a band; before a place they are nought, and stay.
+#[inline]
+fn scale_band(values: &mut [i32], from: usize, to: usize, position: u8, noughts: usize)
+    requires order { from ≤ to }
+    requires end { to ≤ length values.old }
+    requires low { 1 ≤ position }
+    requires high { position ≤ 30 }
+    requires noughts { (k : ℕ) → from ≤ k → k < to → k < noughts → at values.old k ≡ pos 0 }
+    requires fits { AllHave position values.old from to }
+    ensures { MapsBetween (λ v. coefficient_of v position) from to values.old values.old values.new }
+{
+    scale(values, noughts.max(from).min(to), to, position);
+}
+
+/// Whether all values of a plane have a coefficient; before a place they are nought.
+fn plane_has(
+    plane: &[i32; 4096],
+    transform: Transform,
+    positions: &[u8; 10],
+    noughts: usize,
+) -> bool
+    requires positions { ArePositions positions.now }
+    requires noughts { (k : ℕ) → k < noughts → at plane.now k ≡ pos 0 }
     ensures { MatchBool result (PlaneHas 10 transform positions.now plane.now) (LeavesRange transform positions.now plane.now) }
 {
     let mut fits = true;
     for index in 0..10 {
         let band = nth_band(index);
         let start = band_start(transform, band);
-        fits &= all_have(
+        fits &= band_has(
             plane,
             start,
             start + band_size(transform, band),
             positions[index],
+            noughts,
         );
     }
     fits
 }
 
-/// Puts the coefficients in place of the values of a plane.
-fn scale_plane(plane: &mut [i32; 4096], transform: Transform, positions: &[u8; 10])
+/// Puts the coefficients in place of the values of a plane; before a place they are nought.
+fn scale_plane(plane: &mut [i32; 4096], transform: Transform, positions: &[u8; 10], noughts: usize)
     requires positions { ArePositions positions.now }
+    requires noughts { (k : ℕ) → k < noughts → at plane.old k ≡ pos 0 }
     requires fits { PlaneHas 10 transform positions.now plane.old }
     ensures { MapsBands transform (λ band v. coefficient_of v (value_of positions.now band)) plane.old plane.new }
 {
     for index in 0..10 {
         let band = nth_band(index);
         let start = band_start(transform, band);
-        scale(
+        scale_band(
             plane,
             start,
             start + band_size(transform, band),
             positions[index],
+            noughts,
         );
     }
 }
@@ -139,9 +197,10 @@ pub fn dequantise_plane(plane: &mut [i32; 4096], transform: Transform, positions
     ensures coefficients { IsTrue result → AllCoefficients plane.new }
     ensures exact { MatchBool result (Dequantises transform positions.now plane.old plane.new) (LeavesRange transform positions.now plane.old × (plane.new ≡ plane.old)) }
 {
-    let fits = plane_has(plane, transform, positions);
+    let noughts = noughts_before(plane);
+    let fits = plane_has(plane, transform, positions, noughts);
     if fits {
-        scale_plane(plane, transform, positions);
+        scale_plane(plane, transform, positions, noughts);
     }
     fits
 }

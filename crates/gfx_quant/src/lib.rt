@@ -10,6 +10,7 @@ mod coefficients;
 mod colour;
 mod colours;
 mod dequantising;
+mod greys;
 mod quant;
 mod quantising;
 mod rows;

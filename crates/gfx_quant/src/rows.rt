@@ -5,7 +5,9 @@ ghost use Rattle.gfx_quant.specs.Colour.{channel, clamped, colour_of};
 ghost use Rattle.gfx_quant.specs.Planes.{AreColours};
 
 use crate::colour::{CB_IN_BLUE, CB_IN_GREEN, CR_IN_GREEN, CR_IN_RED, to_colour};
+use crate::greys::{put_greys, put_solid};
 use gfx_base::Pixel;
+use gfx_dwt::{is_solid, noughts_before};
 
 /// Up to this magnitude of its samples all of a pixel is found in 16 bits.
 const QUICK: i16 = 8191;
@@ -306,6 +308,14 @@ fn put_row(
     }
 }
 
+/// Whether all samples of a tile are nought.
+#[inline]
+fn are_nought(plane: &[i32; 4096]) -> bool
+    ensures { IsTrue result → (k : ℕ) → k < 4096 → at plane.now k ≡ pos 0 }
+{
+    noughts_before(plane) == 4096
+}
+
 /// The pixels of a tile's samples, each as `to_colour` gives it.
 pub fn to_colours(y: &[i32; 4096], cb: &[i32; 4096], cr: &[i32; 4096], out: &mut [Pixel; 4096])
     requires y { AllWithin (2 ^ 23) y.now }
@@ -313,6 +323,14 @@ pub fn to_colours(y: &[i32; 4096], cb: &[i32; 4096], cr: &[i32; 4096], out: &mut
     requires cr { AllWithin (2 ^ 23) cr.now }
     ensures { AreColours y.now cb.now cr.now out.new }
 {
+    if is_solid(y) & is_solid(cb) & is_solid(cr) {
+        put_solid(to_colour(y[0], cb[0], cr[0]), out);
+        return;
+    }
+    if are_nought(cb) & are_nought(cr) {
+        put_greys(y, out);
+        return;
+    }
     let mut row = Row {
         y: [0; 64],
         cb: [0; 64],

@@ -1,0 +1,6 @@
+use Rattle.std.proofs.Common.{◌≡◌, ℕ, ◌<◌, IsTrue, pos}
+use Rattle.gfx_dwt.specs.Ranges.{at}
+use Rattle.gfx_dwt.proofs.noughts.are_nought.Given as goal
+
+abbrev pub invariant-loop-place : goal.invariant-loop-place
+invariant-loop-place l = IsTrue l.nought → (k : ℕ) → k < l.place → at l.block k ≡ pos 0

@@ -1,0 +1,62 @@
+ghost use Rattle.std.specs.Prelude.{◌≡◌, ◌<◌, ◌^◌, ℕ, pos, ◌+ℤ◌, Some, slice_get};
+ghost use Rattle.std.specs.Int.{int_shr};
+ghost use Rattle.gfx_dwt.specs.Ranges.{AllWithin, Within, at};
+ghost use Rattle.gfx_quant.specs.Colour.{clamped, colour_of};
+
+use gfx_base::Pixel;
+
+#[inline]
+fn lifted(y: i32) -> i32
+    requires { Within (2 ^ 23) y }
+    ensures { result ≡ y +ℤ pos 4096 }
+{
+    y + 4096
+}
+
+#[inline]
+fn level(total: i32) -> i32
+    ensures { result ≡ int_shr total 5 }
+{
+    total >> 5
+}
+
+#[inline]
+fn clamp_byte(level: i32) -> u8
+    ensures { result ≡ clamped level }
+{
+    level.clamp(0, 255) as u8
+}
+
+/// The pixel of a sample beside which Cb and Cr are nought.
+#[inline]
+fn grey(y: i32) -> Pixel
+    requires { Within (2 ^ 23) y }
+    ensures { result ≡ colour_of y (pos 0) (pos 0) }
+{
+    let grey = clamp_byte(level(lifted(y)));
+    Pixel {
+        b: grey,
+        g: grey,
+        r: grey,
+        a: 255,
+    }
+}
+
+/// The pixels of a tile whose Cb and Cr are nought.
+pub(crate) fn put_greys(y: &[i32; 4096], out: &mut [Pixel; 4096])
+    requires { AllWithin (2 ^ 23) y.now }
+    ensures { (k : ℕ) → k < 4096 → slice_get out.new k ≡ Some (colour_of (at y.now k) (pos 0) (pos 0)) }
+{
+    for place in 0..4096 {
+        out[place] = grey(y[place]);
+    }
+}
+
+/// A tile of one pixel.
+pub(crate) fn put_solid(pixel: Pixel, out: &mut [Pixel; 4096])
+    ensures { (k : ℕ) → k < 4096 → slice_get out.new k ≡ Some pixel }
+{
+    for place in 0..4096 {
+        out[place] = pixel;
+    }
+}

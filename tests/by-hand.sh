@@ -1,6 +1,6 @@
 #!/usr/bin/env bash
-# Runs the built program where the machine refuses it a stream, at the limit of its input and, where a
-# reference program is given, beside that one on many streams. It takes some minutes, and needs python3 and xz.
+# Runs the built program where the machine refuses it a stream, on the examples, at the limit of its input and, where
+# a reference program is given, beside that one on many streams. It takes some minutes, and needs python3 and xz.
 #
 #     tests/by-hand.sh PROGRAM [REFERENCE [SEEDS]]
 #

@@ -1,13 +1,14 @@
 #!/usr/bin/env bash
 # Compares the pictures that PROGRAM and FreeRDP draw of the same streams, to the pixel and alpha.
 #
-#     [OFF=1] tests/freerdp/compare.sh PROGRAM [SEEDS..]
+#     tests/freerdp/compare.sh PROGRAM [SEEDS..]
 #
-# The streams are those of examples/, one in which the rings of ClearCodec's bands go round, and two for
-# each seed: what PROGRAM makes of a script by chance (script.py), and what another server might send
-# (foreign.py). Without SEEDS they are 1 to 300. There is a line for each difference, and at the end one
-# with the counts; the exit number is 1 where there was a difference. OFF is how far two
-# bytes of a pixel may be apart, 0 where it isn't set.
+# The streams are those of examples/, one in which the rings of ClearCodec's bands go round, one with more
+# tiles than a message takes, and three for each seed: what PROGRAM makes of a script by chance, what it
+# makes of one with pictures in passes (script.py), and what another server might send (foreign.py). Without
+# SEEDS they are 1 to 300. In pictures in passes bytes of colour may be 1 apart, since FreeRDP rounds
+# otherwise. There is a line for each difference, and at the end some with the counts; the exit number is 1
+# where there was a difference.
 set -u
 if [ $# -lt 1 ]; then
     sed -n '4s/^# *//p' "$0" >&2
@@ -28,8 +29,8 @@ different() {
     differences=$((differences + 1))
 }
 
-# Both pictures of the stream in $work/stream, whose name is the first word. Where one end refuses a
-# message, the other has to refuse it too.
+# Both pictures of the stream in $work/stream, whose name is the first word; the second is how far bytes of
+# colour may be apart. Where one end refuses a message, the other has to refuse it too.
 compare() {
     streams=$((streams + 1))
     "$program" render < "$work/stream" > "$work/ours" 2> "$work/ours.end"
@@ -39,41 +40,54 @@ compare() {
     head -n 1 "$work/theirs.end" >> "$work/counts"
     if [ $ours -ne $theirs ]; then
         different "$1: exit $ours $(cat "$work/ours.end"), FreeRDP exit $theirs $(tail -n +2 "$work/theirs.end")"
-    elif ! cmp -s "$work/ours" "$work/theirs"; then
+    elif [ "$2" -gt 0 ] || ! cmp -s "$work/ours" "$work/theirs"; then
         local found
-        found=$(./differences.py "$work/ours" "$work/theirs" "${OFF:-0}") || found="the dumps can't be compared"
+        found=$(./differences.py "$work/ours" "$work/theirs" "$2" "$work/off") ||
+            found="the dumps can't be compared"
         [ -z "$found" ] || different "$1: $found"
     fi
 }
 
-# The stream of the script in the file of the second word.
+# The stream of the script in $work/script.
 compare_script() {
-    if "$program" encode < "$2" > "$work/stream" 2> "$work/end"; then
-        compare "$1"
+    if "$program" encode < "$work/script" > "$work/stream" 2> "$work/end"; then
+        compare "$1" "$2"
     else
         different "$1: encode: $(cat "$work/end")"
     fi
 }
 
+# The sums of a file whose lines have words and counts by turns.
+sums() {
+    awk '{ for (i = 1; i < NF; i += 2) { if (!($i in sum)) order[++words] = $i; sum[$i] += $(i + 1) } }
+         END { for (w = 1; w <= words; w++) printf "%s %d%s", order[w], sum[order[w]], w < words ? ", " : "\n" }' \
+        "$1"
+}
+
 for example in ../../examples/*.bin; do
     cp "$example" "$work/stream"
-    compare "$(basename "$example")"
+    compare "$(basename "$example")" 0
 done
+xz -dc ../../examples/gnome.bin.xz > "$work/stream"
+compare "gnome.bin" 1
 for example in ../../examples/*.toml; do
-    [ -e "${example%.toml}.bin" ] || compare_script "$(basename "$example")" "$example"
+    cp "$example" "$work/script"
+    [ -e "${example%.toml}.bin" ] || compare_script "$(basename "$example")" 0
 done
 ./script.py rings > "$work/script"
-compare_script "rings" "$work/script"
+compare_script "rings" 0
+./script.py many > "$work/script"
+compare_script "many" 1
 for seed in "$@"; do
     ./script.py "$seed" > "$work/script"
-    compare_script "script $seed" "$work/script"
+    compare_script "script $seed" 0
+    ./script.py passes "$seed" > "$work/script"
+    compare_script "passes $seed" 1
     ./foreign.py "$seed" > "$work/stream"
-    compare "foreign $seed"
+    compare "foreign $seed" 0
 done
 
-# The counts of all streams: a line has kind and count by turns.
-awk '{ for (i = 1; i < NF; i += 2) { if (!($i in sum)) order[++kinds] = $i; sum[$i] += $(i + 1) } }
-     END { for (k = 1; k <= kinds; k++) printf "%s %d%s", order[k], sum[order[k]], k < kinds ? ", " : "\n" }' \
-    "$work/counts"
+sums "$work/counts"
+[ ! -e "$work/off" ] || echo "in passes: $(sums "$work/off")"
 echo "$streams streams, $differences differences"
 [ "$differences" -eq 0 ]

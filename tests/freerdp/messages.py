@@ -1,5 +1,6 @@
-"""Bytes of the server's messages (docs/FORMATS.md) and of ClearCodec streams (docs/CLEAR.md and the pages
-that it names), for streams that this project's own server wouldn't send. A colour is three bytes B, G, R."""
+"""Bytes of the server's messages (docs/FORMATS.md), of ClearCodec streams (docs/CLEAR.md and the pages that
+it names) and of RemoteFX Progressive (docs/PROGRESSIVE.md), for streams that this project's own server
+wouldn't send. A colour is three bytes B, G, R."""
 import struct
 
 XRGB, ARGB = 0x20, 0x21
@@ -94,3 +95,72 @@ def rlex(palette, *segments):
     for stop, depth, length in segments:
         text += bytes([depth << bits | stop]) + length
     return text
+
+
+# ---- RemoteFX Progressive: docs/PROGRESSIVE.md
+
+REDUCED = 1      # flag of a region
+ALL_BITS = 0xFF  # a quality
+BASE = b"\x66" * 5
+
+
+def passes(number, *blocks):
+    data = b"".join(blocks)
+    return message(2, struct.pack("<HHIBI", number, 9, 1, XRGB, len(data)) + data)
+
+
+def block(kind, body=b""):
+    return struct.pack("<HI", kind, 6 + len(body)) + body
+
+
+def sync(magic=0xCACCACCA):
+    return block(0xCCC0, struct.pack("<IH", magic, 0x0100))
+
+
+FRAME_BEGIN = block(0xCCC1, struct.pack("<IH", 0, 1))
+FRAME_END = block(0xCCC2)
+
+
+def region(rectangles, *tiles, flags=0, bases=(BASE,), levels=(), count=None):
+    """The rectangles are x, y, width, height. A level is the five bytes of its Y; Cb and Cr leave nothing
+    out."""
+    data = b"".join(tiles)
+    head = struct.pack("<BHBBBHI", 64, len(rectangles), len(bases), len(levels), flags,
+                       len(tiles) if count is None else count, len(data))
+    return block(0xCCC4, head + b"".join(struct.pack("<4H", *rectangle) for rectangle in rectangles)
+                 + b"".join(bases) + b"".join(b"\0" + level + bytes(10) for level in levels) + data)
+
+
+def simple(y, cell=(0, 0), base=0):
+    """A tile whose Y has these RLGR data; Cb and Cr are zeros."""
+    return block(0xCCC5, struct.pack("<3B2HB4H", base, 0, 0, *cell, 0, len(y), 1, 1, 0) + y + b"\0\0")
+
+
+def first(y, quality):
+    return block(0xCCC6, struct.pack("<3B2H2B4H", 0, 0, 0, 0, 0, 0, quality, len(y), 1, 1, 0) + y + b"\0\0")
+
+
+def upgrade(quality, srl, raw):
+    """A tile whose Y has these data; Cb and Cr gain nothing."""
+    head = struct.pack("<3B2HB6H", 0, 0, 0, 0, 0, quality, len(srl), len(raw), 0, 0, 0, 0)
+    return block(0xCCC7, head + srl + raw)
+
+
+def rlgr(*places):
+    """RLGR1 (docs/RLGR.md) of a component that is zero but for these places and their values. They stand so
+    far apart that runs lie between them."""
+    bits, kp, krp, at = "", 8, 8, 0
+    for place, value in places:
+        while place - at >= 1 << kp // 8:
+            bits += "0"
+            at += 1 << kp // 8
+            kp = min(80, kp + 4)
+        number, k, kr = abs(value) - 1, kp // 8, krp // 8
+        ones = number >> kr
+        bits += f"1{place - at:0{k}b}{int(value < 0)}" + "1" * ones + "0"
+        bits += f"{number % (1 << kr):0{kr}b}" if kr else ""
+        krp = min(80, krp + ones) if ones > 1 else krp if ones else max(0, krp - 2)
+        kp -= 6
+        at = place + 1
+    bits += "0" * (-len(bits) % 8)
+    return bytes(int(bits[i:i + 8], 2) for i in range(0, len(bits), 8))

@@ -5,7 +5,7 @@
  * The dump has the form of `gfxpipe render`. Where a message is refused, the dump has the surfaces as
  * they then are, a line on the standard error says which message it was, and the exit number is 1.
  *
- * --count  a line on the standard error with how many streams of each kind were drawn
+ * --count  a line on the standard error with how many streams of each kind were drawn, and how many tiles
  * --log    FreeRDP's own warnings and errors on the standard error */
 #include "screen.h"
 
@@ -40,6 +40,8 @@ int main(int words, char **word)
     if (counts) {
         for (enum kind kind = 0; kind < KINDS; kind++)
             fprintf(stderr, "%s %lu ", kind_names[kind], screen_work(screen, kind)->streams);
+        for (enum tile tile = 0; tile < TILES; tile++)
+            fprintf(stderr, "%s %lu ", tile_names[tile], screen_tiles(screen, tile));
         fputc('\n', stderr);
     }
     if (fault)

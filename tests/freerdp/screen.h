@@ -32,6 +32,10 @@ struct work {
     double seconds;
 };
 
+/* What a tile of RemoteFX Progressive is: DIFFERENCE is a first one that goes on the tile before. */
+enum tile { FIRST, DIFFERENCE, UPGRADE, TILES };
+extern const char *const tile_names[TILES];
+
 struct screen;
 
 struct screen *screen_new(void);
@@ -50,6 +54,9 @@ const char *screen_fault(const struct screen *screen);
 
 const struct work *screen_work(const struct screen *screen, enum kind kind);
 void screen_clear_work(struct screen *screen);
+
+/* How many tiles were decoded. */
+unsigned long screen_tiles(const struct screen *screen, enum tile tile);
 
 /* Prints all surfaces as `render` does: docs/FORMATS.md, "What is printed". */
 void screen_print(const struct screen *screen, FILE *out);

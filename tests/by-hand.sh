@@ -174,6 +174,12 @@ report "the session joined, its lines" "same" "$(cmp -s "$work/out" "$examples/j
 "$program" audit < "$examples/text.bin" > "$work/out" 2> "$work/err"
 report "the audit of text" "0 " "$(ended $?)"
 report "the audit of text, its lines" "same" "$(cmp -s "$work/out" "$examples/text-audit.txt" && echo same)"
+"$program" trial 1 > "$work/out" 2> "$work/err"
+report "the trial of 1" "0 " "$(ended $?)"
+report "the trial of 1, its line" "same" "$(cmp -s "$work/out" "$examples/trial-1.txt" && echo same)"
+"$program" make 1 | "$program" session 2> "$work/err" | tail -n 1 > "$work/out"
+report "the script of 1, its session ends as the trial" "same" \
+    "$([ "$(cut -d ' ' -f 3- "$work/out")" = "$(cut -d ' ' -f 5- "$examples/trial-1.txt")" ] && echo same)"
 
 # The limit of the input: 1 GiB. Nothing of these streams is stored.
 limit=$((1 << 30))

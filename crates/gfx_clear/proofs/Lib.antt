@@ -12,3 +12,4 @@ pub mod Sent
 pub mod Law
 pub mod Step
 pub mod Alone
+pub mod Numbers

@@ -6,3 +6,4 @@ pub mod Outputs
 pub mod Again
 pub mod Painted
 pub mod ReadAgain
+pub mod Numbers

@@ -7,3 +7,4 @@ pub mod Putting
 pub mod Collecting
 pub mod Writings
 pub mod Segmented
+pub mod Numbers

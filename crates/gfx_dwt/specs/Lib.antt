@@ -1,5 +1,6 @@
 pub mod Place
 pub mod Ranges
+pub mod Noughts
 pub mod Lifting
 pub mod Joining
 pub mod Splitting

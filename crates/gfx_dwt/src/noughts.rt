@@ -1,4 +1,5 @@
-ghost use Rattle.std.specs.Prelude.{pos, ◌≡◌, ℕ, ◌+◌, ◌<◌, ◌≤◌, length, IsTrue};
+ghost use Rattle.std.specs.Prelude.{pos, ◌≡◌, ◌≢◌, ℕ, ◌<◌, ◌≤◌, length, IsTrue, MatchBool};
+ghost use Rattle.gfx_dwt.specs.Noughts.{AllAre, BlankBlocks, IsSolid, SomeIsNot, Varies};
 ghost use Rattle.gfx_dwt.specs.Ranges.{at};
 
 /// How many numbers are looked at together.
@@ -6,7 +7,7 @@ const BLOCK: usize = 64;
 
 #[inline]
 fn is_nought(value: i32) -> bool
-    ensures { IsTrue result → value ≡ pos 0 }
+    ensures { MatchBool result (value ≡ pos 0) (value ≢ pos 0) }
 {
     value == 0
 }
@@ -15,7 +16,7 @@ fn is_nought(value: i32) -> bool
 // No early return: so it is done on many numbers at a time.
 #[inline]
 fn are_nought(block: &[i32]) -> bool
-    ensures { IsTrue result → (k : ℕ) → k < length block.now → at block.now k ≡ pos 0 }
+    ensures { MatchBool result (AllAre (pos 0) block.now) (SomeIsNot (pos 0) block.now) }
 {
     let mut nought = true;
     for place in 0..block.len() {
@@ -24,9 +25,9 @@ fn are_nought(block: &[i32]) -> bool
     nought
 }
 
-/// A place of a plane before which all is nought; it is the end where the plane is nought.
+/// How many numbers at the front of a plane are nought, in whole blocks; it is all where the plane is nought.
 pub fn noughts_before(plane: &[i32; 4096]) -> usize
-    ensures { (k : ℕ) → k < result → at plane.now k ≡ pos 0 }
+    ensures { BlankBlocks plane.now result }
 {
     for block in 0..64 {
         let start = BLOCK * block;
@@ -39,7 +40,7 @@ pub fn noughts_before(plane: &[i32; 4096]) -> usize
 
 #[inline]
 fn is_same(value: i32, other: i32) -> bool
-    ensures { IsTrue result → value ≡ other }
+    ensures { MatchBool result (value ≡ other) (value ≢ other) }
 {
     value == other
 }
@@ -47,7 +48,7 @@ fn is_same(value: i32, other: i32) -> bool
 /// Whether all numbers are this one.
 #[inline]
 fn are_all(values: &[i32], one: i32) -> bool
-    ensures { IsTrue result → (k : ℕ) → k < length values.now → at values.now k ≡ one }
+    ensures { MatchBool result (AllAre one values.now) (SomeIsNot one values.now) }
 {
     let mut same = true;
     for place in 0..values.len() {
@@ -82,7 +83,7 @@ pub fn fill(out: &mut [i32], value: i32)
 
 /// Whether all numbers of a plane are the same.
 pub fn is_solid(plane: &[i32; 4096]) -> bool
-    ensures { IsTrue result → (k : ℕ) → k < 4096 → at plane.now k ≡ at plane.now 0 }
+    ensures { MatchBool result (IsSolid plane.now) (Varies plane.now) }
 {
     for block in 0..64 {
         let start = BLOCK * block;

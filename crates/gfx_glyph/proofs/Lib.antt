@@ -1,3 +1,4 @@
 pub mod Same
 pub mod Entering
 pub mod Finding
+pub mod Numbers

@@ -5,3 +5,4 @@ pub mod RegionLaws
 pub mod BlockLaws
 pub mod WritingLaws
 pub mod StandardFacts
+pub mod Numbers

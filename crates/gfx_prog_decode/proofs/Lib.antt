@@ -10,3 +10,4 @@ mod Bases
 mod Tiles
 mod Steps
 pub mod Sides
+pub mod Numbers

@@ -1,9 +1,8 @@
 -- Steps over a list, one after another, and the answers of calls.
-use Rattle.std.proofs.Common.{◌≡◌, ◌∙◌, ap, sym, refl, subst, ℕ, ◌<◌, ◌≤◌, ◌+◌, List, drop, length, get_or, Result, Ok, Err, Option, Some, None, Bool, T, is_some}
-use Rattle.std.specs.Prelude.{IfSome, IsSome, OnErr, false, not, true}
+use Rattle.std.proofs.Common.{◌≡◌, ◌∙◌, ap, sym, refl, subst, ℕ, ◌<◌, ◌≤◌, ◌+◌, List, drop, length, get_or, Result, Ok, Err, Option, Some, None}
+use Rattle.std.specs.Prelude.{IfSome, OnErr}
 use Rattle.std.specs.FinMap.{get, insert, len}
-use Rattle.std.specs.Borrow.{Bor}
-use Rattle.std.specs.Option.{ok_or, option_copied}
+use Rattle.std.specs.Option.{ok_or}
 use Rattle.std.proofs.lemmas.List.{drop_more, drop_all}
 use Rattle.gfx_base.specs.Outcome.{Applies, Gives}
 use Rattle.gfx_base.specs.Results.{and_then, check}
@@ -25,7 +24,7 @@ use Rattle.gfx_prog_decode.specs.declared.key.Key.{Key}
 use Rattle.gfx_prog_decode.specs.declared.key.Place.{Place}
 use Rattle.gfx_prog_decode.specs.declared.saved.Saved.{Saved}
 use Rattle.gfx_prog_decode.specs.Coding.{Coding, are_bases, coding_of}
-use Rattle.gfx_prog_decode.specs.Inside.{Begins, Passes, Starts}
+use Rattle.gfx_prog_decode.specs.Inside.{Begins, Passes, Starts, improved_in}
 use Rattle.gfx_prog_decode.specs.Passes.{improved, may_start, start_of, started}
 use Rattle.gfx_prog_decode.specs.Progressive.{after_block, after_first, after_message, after_region, after_tile, after_upgrade, found, is_difference, key_of, with_tile}
 use Rattle.gfx_prog_decode.specs.Records.{Records}
@@ -162,34 +161,31 @@ module _ (place : Place) (region : RegionRead) (head : TileHead) (quality : ℕ)
   upgrade_uncoded refusal is = and_then_refused upgrade_coding refusal _ is
 
   module _ (coding : Coding) (coded : upgrade_coding ≡ Ok coding) where
-    -- there is no record
-    pub upgrade_unfounded : found old the_key ≡ None → after_upgrade place region head quality pass old ≡ Err NoFirstPass
-    unfolding after_upgrade
-    upgrade_unfounded none = and_then_at upgrade_coding coding _ coded ∙ and_then_refused (ok_or (found old the_key) NoFirstPass) NoFirstPass _ (ap (λ o. ok_or o NoFirstPass) none)
+    -- it is what its pass makes of the record
+    pub upgrade_is : after_upgrade place region head quality pass old
+        ≡ and_then (improved_in coding pass (found old the_key)) (λ tile. Ok (with_tile old the_key region.rects tile))
+    unfolding after_upgrade and_then
+    upgrade_is = and_then_at upgrade_coding coding _ coded ∙ by (found old the_key)
+      where
+        by : (o : Option TileState) → and_then (ok_or o NoFirstPass) (λ before. and_then (improved coding pass before) (λ tile. Ok (with_tile old the_key region.rects tile)))
+            ≡ and_then (improved_in coding pass o) (λ tile. Ok (with_tile old the_key region.rects tile))
+        by None = refl
+        by (Some tile) = refl
 
-    -- it is what its pass gives
-    pub upgrade_is : (before : TileState) → found old the_key ≡ Some before → after_upgrade place region head quality pass old
-        ≡ and_then (improved coding pass before) (λ tile. Ok (with_tile old the_key region.rects tile))
-    unfolding after_upgrade
-    upgrade_is before there = and_then_at upgrade_coding coding _ coded ∙ and_then_at (ok_or (found old the_key) NoFirstPass) before _ (ap (λ o. ok_or o NoFirstPass) there)
-
-    -- its pass is refused
-    pub upgrade_refused : (before : Option TileState) (after : Records) (refusal : Refusal) → found old the_key ≡ before → IsSome before
-        → IfSome before (λ tile. Passes (Err refusal) (improved coding pass tile) the_key old.records after)
-        → after_upgrade place region head quality pass old ≡ Err refusal
-    upgrade_refused None after refusal is some passes = absurd (subst (λ b. T b) (sym some) tt)
-    upgrade_refused (Some tile) after refusal is some (next, says, left) =
-        upgrade_is tile is ∙ refused_by (improved coding pass tile) (with_tile old the_key region.rects) refusal says
+    -- its pass is refused, or memory is wanting
+    pub upgrade_failed : (fault : Cause Refusal) (after : Records) (new : Scene)
+        → Starts (Err fault) (improved_in coding pass (found old the_key)) the_key old.records after
+        → Gives {X = Unit {0}} (λ _. new) (Err fault) (after_upgrade place region head quality pass old)
+    upgrade_failed Memory after new is = tt
+    upgrade_failed (Refused refusal) after new is = upgrade_is ∙ refused_by (improved_in coding pass (found old the_key)) (with_tile old the_key region.rects) refusal is
 
     -- it is kept and drawn
-    pub upgrade_done : (before : Option TileState) (after : Records) (new : Picture) → found old the_key ≡ before → IsSome before
-        → IfSome before (λ tile. Passes (Ok tt) (improved coding pass tile) the_key old.records after)
+    pub upgrade_done : (after : Records) (new : Picture) → Starts (Ok tt) (improved_in coding pass (found old the_key)) the_key old.records after
         → IfSome (get after the_key) (λ t. new ≡ shown_in old.picture the_key region.rects t)
         → after_upgrade place region head quality pass old ≡ Ok (scene after new)
-    upgrade_done None after new is some passes shown = absurd (subst (λ b. T b) (sym some) tt)
-    upgrade_done (Some tile) after new is some (next, says, left) shown =
-        upgrade_is tile is
-        ∙ left_by (improved coding pass tile) (with_tile old the_key region.rects) next (scene after new) says
+    upgrade_done after new (next, is, left) shown =
+        upgrade_is
+        ∙ left_by (improved_in coding pass (found old the_key)) (with_tile old the_key region.rects) next (scene after new) is
         (λ i. scene (left i) (drawn_left the_key old.records after next old.picture new region.rects left shown i))
 
 -- ---- what a tile leaves can be undone
@@ -209,31 +205,6 @@ pub shown_undone : (key : Key) (records after : Records) (tile : TileState) (old
 shown_undone key records after tile old new areas log more left drawn keeps =
     subst (StaysUndoable log (scene records old) more) (λ i. scene (sym left i) (sym drawn i))
     (keeps (scene (insert records key tile) (shown_in old key areas tile)) (only_shown key records tile old areas))
-
--- whether a record was found
-pub not_found : (o : Option (Bor TileState)) (b : Bool) (found : Option TileState) → is_some o ≡ not b → b ≡ true → option_copied o ≡ found → found ≡ None
-not_found None b found is none copied = sym copied
-not_found (Some tile) b found is none copied = absurd (subst (λ z. T z) (is ∙ ap not none) tt)
-
-pub was_found : (o : Option (Bor TileState)) (b : Bool) (found : Option TileState) → is_some o ≡ not b → b ≡ false → option_copied o ≡ found → IsSome found
-was_found None b found is some copied = absurd (subst (λ z. T z) (sym (is ∙ ap not some)) tt)
-was_found (Some tile) b found is some copied = ap is_some (sym copied)
-
--- the answer of a pass of a record that was found, and what it leaves can be undone
-pub found_undone : (key : Key) (records after : Records) (before : Option TileState) (result : Result (Unit {0}) Refusal) (due : TileState → Result TileState Refusal) (picture : Picture)
-    (log more : List Saved) → IsPicture picture → IsSome before → IfSome before (λ tile. Passes result (due tile) key records after)
-    → Keeps key (scene records picture) log more → StaysUndoable log (scene records picture) more (scene after picture)
-found_undone key records after None result due picture log more shape some passes keeps = absurd (subst (λ b. T b) (sym some) tt)
-found_undone key records after (Some tile) result due picture log more shape some passes keeps =
-    pass_undone key records records after result (due tile) picture log more shape (λ t. refl) passes keeps
-
-pub found_shown : (key : Key) (records begun after : Records) (before : Option TileState) (due : TileState → Result TileState Refusal) (old new : Picture) (areas : List Area)
-    (log more : List Saved) → ((tile : TileState) → insert begun key tile ≡ insert records key tile) → IsSome before → IfSome before (λ tile. Passes (Ok tt) (due tile) key begun after)
-    → IfSome (get after key) (λ t. new ≡ shown_in old key areas t)
-    → Keeps key (scene records old) log more → StaysUndoable log (scene records old) more (scene after new)
-found_shown key records begun after None due old new areas log more same some passes shown keeps = absurd (subst (λ b. T b) (sym some) tt)
-found_shown key records begun after (Some tile) due old new areas log more same some (next, says, left) shown keeps =
-    shown_undone key records after next old new areas log more (left ∙ same next) (drawn_left key begun after next old new areas left shown) keeps
 
 -- a record that was begun
 pub begun_undone : (key : Key) (records begun after : Records) (result : Result (Unit {0}) Refusal) (due : TileState → Result TileState Refusal) (picture : Picture)

@@ -1,5 +1,5 @@
 -- Passes over all components.
-use Rattle.std.proofs.Common.{◌≡◌, ◌∙◌, ap, sym, refl, subst, Bool, true, false, ℕ, List, Option, Some, Result, Ok, Err, T, arith}
+use Rattle.std.proofs.Common.{◌≡◌, ◌∙◌, ap, sym, refl, subst, Bool, true, false, ℕ, List, Option, Some, Result, Ok, Err, T}
 use Rattle.std.specs.Prelude.{ℤ, OnOk}
 use Rattle.gfx_base.specs.Outcome.{Performs, Says}
 use Rattle.gfx_base.specs.Results.{and_then}
@@ -17,8 +17,7 @@ use Rattle.gfx_tile_state.specs.Making.{first_part, may_upgrade, upgraded_part}
 use Rattle.gfx_tile_state.specs.declared.shape.PassShape.{PassShape}
 use Rattle.gfx_tile_state.specs.declared.state.TileState.{TileState}
 use Rattle.gfx_tile_state.specs.Passes.{Part, TakesFirst, Upgrades}
-use Rattle.gfx_tile_state.specs.Record.{MayAdd, MayBeUpgraded, MayUpgrade, StartsIn, UpgradesIn, fits_transform}
-use Rattle.gfx_tile_state.specs.Shape.{AreBelow}
+use Rattle.gfx_tile_state.specs.Record.{MayAdd, MayBeUpgraded, MayUpgrade, StartsIn, UpgradesFrom, fits_transform}
 use Rattle.gfx_tile_state.proofs.Making.{first-is, upgrade-is, upgrades-is}
 use Rattle.gfx_prog_decode.specs.Inside.{coding_seen}
 use Rattle.gfx_prog_decode.specs.Coding.{Coding, positions_in}
@@ -129,78 +128,59 @@ module _ (shape : PassShape) (difference : Bool) (pass : FirstPass) where
 
 -- ---- upgrades
 
-module _ (shape : PassShape) (pass : UpgradePass) where
-  level : (positions : List ℕ) → AreBelow positions positions
-  level positions k below = omega arith
+-- whether one may follow
+told : (shape : PassShape) (result : Result (Unit {0}) Refusal) (old : TileState) → MayUpgrade result old shape
+    → may_upgrade old shape.transform (positions_in (coding_seen shape)) ≡ result
+unfolding may_upgrade
+told shape result old may = sym (upgrades-is result old shape may)
 
-  -- once the first component is upgraded, the others may be
-  pub may_after_y : (old one : TileState) → MayBeUpgraded old shape → UpgradesIn (Ok tt) Y pass.y_srl pass.y_raw shape old one → MayBeUpgraded one shape
-  may_after_y old one m (y, others, transform) =
-      let positions : one.y.positions ≡ shape.y = y.4 in
-      record {
-        same = ap (λ t. fits_transform t shape.transform) transform ∙ m.same;
-        y_falls = subst (AreBelow shape.y) (sym positions) (level shape.y);
-        cb_falls = subst (λ (p : Part). AreBelow shape.cb p.positions) (sym others.0) m.cb_falls;
-        cr_falls = subst (λ (p : Part). AreBelow shape.cr p.positions) (sym others.1) m.cr_falls;
-      }
+-- none may follow
+pub may_not : (shape : PassShape) (pass : UpgradePass) (refusal : Refusal) (old : TileState) → MayUpgrade (Err refusal) old shape
+    → improved (coding_seen shape) pass old ≡ Err refusal
+unfolding improved
+may_not shape pass refusal old not =
+    and_then_refused (may_upgrade old shape.transform (positions_in (coding_seen shape))) refusal _ (told shape (Err refusal) old not)
 
-  pub may_after_cb : (old one : TileState) → MayBeUpgraded old shape → UpgradesIn (Ok tt) Cb pass.cb_srl pass.cb_raw shape old one → MayBeUpgraded one shape
-  may_after_cb old one m (cb, others, transform) =
-      let positions : one.cb.positions ≡ shape.cb = cb.4 in
-      record {
-        same = ap (λ t. fits_transform t shape.transform) transform ∙ m.same;
-        y_falls = subst (λ (p : Part). AreBelow shape.y p.positions) (sym others.0) m.y_falls;
-        cb_falls = subst (AreBelow shape.cb) (sym positions) (level shape.cb);
-        cr_falls = subst (λ (p : Part). AreBelow shape.cr p.positions) (sym others.1) m.cr_falls;
-      }
-
-  -- what is due of a component, told of what it was
+module _ (shape : PassShape) (pass : UpgradePass) (before : TileState) (m : MayBeUpgraded before shape) where
+  -- what is due of a component
   abbrev raised_on : List ℕ → List ℕ → List ℕ → Part → Result Part Refusal
   raised_on positions srl raw old = upgraded_part (pass_of shape.transform old.positions positions old.sums (bits_of srl) (bits_of raw)) positions old
 
-  -- whether one may follow
-  told : (result : Result (Unit {0}) Refusal) (old : TileState) → MayUpgrade result old shape → may_upgrade old shape.transform (positions_in (coding_seen shape)) ≡ result
-  unfolding may_upgrade
-  told result old may = sym (upgrades-is result old shape may)
+  abbrev y_due : Result Part Refusal
+  y_due = raised_on shape.y pass.y_srl pass.y_raw before.y
 
-  -- none may follow
-  pub may_not : (refusal : Refusal) (old : TileState) → MayUpgrade (Err refusal) old shape → improved (coding_seen shape) pass old ≡ Err refusal
-  unfolding improved
-  may_not refusal old not = and_then_refused (may_upgrade old shape.transform (positions_in (coding_seen shape))) refusal _ (told (Err refusal) old not)
+  abbrev cb_due : Result Part Refusal
+  cb_due = raised_on shape.cb pass.cb_srl pass.cb_raw before.cb
 
-  may : (old : TileState) → MayBeUpgraded old shape → may_upgrade old shape.transform (positions_in (coding_seen shape)) ≡ Ok tt
-  may old m = told (Ok tt) old m
+  abbrev cr_due : Result Part Refusal
+  cr_due = raised_on shape.cr pass.cr_srl pass.cr_raw before.cr
+
+  -- one may follow
+  may : may_upgrade before shape.transform (positions_in (coding_seen shape)) ≡ Ok tt
+  may = told shape (Ok tt) before m
 
   -- the first is refused
-  pub y_spoiled : (old new : TileState) (refusal : Refusal) → MayBeUpgraded old shape
-      → UpgradesIn (Err refusal) Y pass.y_srl pass.y_raw shape old new → improved (coding_seen shape) pass old ≡ Err refusal
+  pub y_spoiled : (old new : TileState) (refusal : Refusal) → UpgradesFrom (Err refusal) Y pass.y_srl pass.y_raw shape before old new
+      → improved (coding_seen shape) pass before ≡ Err refusal
   unfolding improved
-  y_spoiled old new refusal m (y, others, same) =
-      and_then_at (may_upgrade old shape.transform (positions_in (coding_seen shape))) tt _ (may old m)
-      ∙ and_then_refused (raised_on shape.y pass.y_srl pass.y_raw old.y) refusal _ (upgrade_made (Err refusal) _ shape.y old.y new.y y)
+  y_spoiled old new refusal (y, others) =
+      and_then_at (may_upgrade before shape.transform (positions_in (coding_seen shape))) tt _ may
+      ∙ and_then_refused y_due refusal _ (upgrade_made (Err refusal) _ shape.y before.y before.y y)
 
-  y_raised : (old one : TileState) → UpgradesIn (Ok tt) Y pass.y_srl pass.y_raw shape old one → raised_on shape.y pass.y_srl pass.y_raw old.y ≡ Ok one.y
-  y_raised old one (y, others, same) = upgrade_made (Ok tt) _ shape.y old.y one.y y
-
-  cb_told : (result : Result (Unit {0}) Refusal) (old one two : TileState) → one.cb ≡ old.cb → UpgradesIn result Cb pass.cb_srl pass.cb_raw shape one two
-      → Says (λ _. two.cb) result (raised_on shape.cb pass.cb_srl pass.cb_raw old.cb)
-  cb_told result old one two same (cb, others, alike) =
-      subst (λ p. Says (λ _. two.cb) result (raised_on shape.cb pass.cb_srl pass.cb_raw p)) same (upgrade_made result _ shape.cb one.cb two.cb cb)
-
-  cr_told : (result : Result (Unit {0}) Refusal) (old two new : TileState) → two.cr ≡ old.cr → UpgradesIn result Cr pass.cr_srl pass.cr_raw shape two new
-      → Says (λ _. new.cr) result (raised_on shape.cr pass.cr_srl pass.cr_raw old.cr)
-  cr_told result old two new same (cr, others, alike) =
-      subst (λ p. Says (λ _. new.cr) result (raised_on shape.cr pass.cr_srl pass.cr_raw p)) same (upgrade_made result _ shape.cr two.cr new.cr cr)
+  y_raised : (old one : TileState) → UpgradesFrom (Ok tt) Y pass.y_srl pass.y_raw shape before old one → y_due ≡ Ok one.y
+  y_raised old one (y, others) = upgrade_made (Ok tt) _ shape.y before.y one.y y
 
   -- the second is refused
-  pub cb_spoiled : (old one new : TileState) (refusal : Refusal) → MayBeUpgraded old shape
-      → UpgradesIn (Ok tt) Y pass.y_srl pass.y_raw shape old one
-      → UpgradesIn (Err refusal) Cb pass.cb_srl pass.cb_raw shape one new → improved (coding_seen shape) pass old ≡ Err refusal
+  pub cb_spoiled : (old one new : TileState) (refusal : Refusal) → UpgradesFrom (Ok tt) Y pass.y_srl pass.y_raw shape before old one
+      → UpgradesFrom (Err refusal) Cb pass.cb_srl pass.cb_raw shape before one new → improved (coding_seen shape) pass before ≡ Err refusal
   unfolding improved
-  cb_spoiled old one new refusal m y cb =
-      and_then_at (may_upgrade old shape.transform (positions_in (coding_seen shape))) tt _ (may old m)
-      ∙ and_then_at (raised_on shape.y pass.y_srl pass.y_raw old.y) one.y _ (y_raised old one y)
-      ∙ and_then_refused (raised_on shape.cb pass.cb_srl pass.cb_raw old.cb) refusal _ (cb_told (Err refusal) old one new y.1.0 cb)
+  cb_spoiled old one new refusal y (cb, others) =
+      and_then_at (may_upgrade before shape.transform (positions_in (coding_seen shape))) tt _ may
+      ∙ and_then_at y_due one.y _ (y_raised old one y)
+      ∙ and_then_refused cb_due refusal _ (upgrade_made (Err refusal) _ shape.cb before.cb before.cb cb)
+
+  cb_raised : (one two : TileState) → UpgradesFrom (Ok tt) Cb pass.cb_srl pass.cb_raw shape before one two → cb_due ≡ Ok two.cb
+  cb_raised one two (cb, others) = upgrade_made (Ok tt) _ shape.cb before.cb two.cb cb
 
   -- all three as one
   all_raised : (new : TileState) (t : Option Transform) (y cb cr : Part) → new.transform ≡ t → new.y ≡ y → new.cb ≡ cb → new.cr ≡ cr
@@ -208,20 +188,21 @@ module _ (shape : PassShape) (pass : UpgradePass) where
   all_raised new t y cb cr transform is_y is_cb is_cr = λ i. record { transform = sym transform i; y = sym is_y i; cb = sym is_cb i; cr = sym is_cr i }
 
   -- all are done, or the last is refused
-  pub cr_done : (result : Result (Unit {0}) Refusal) (old one two new : TileState) → MayBeUpgraded old shape
-      → UpgradesIn (Ok tt) Y pass.y_srl pass.y_raw shape old one
-      → UpgradesIn (Ok tt) Cb pass.cb_srl pass.cb_raw shape one two
-      → UpgradesIn result Cr pass.cr_srl pass.cr_raw shape two new
-      → Says (λ _. new) result (improved (coding_seen shape) pass old)
+  pub cr_done : (result : Result (Unit {0}) Refusal) (old one two new : TileState)
+      → UpgradesFrom (Ok tt) Y pass.y_srl pass.y_raw shape before old one
+      → UpgradesFrom (Ok tt) Cb pass.cb_srl pass.cb_raw shape before one two
+      → UpgradesFrom result Cr pass.cr_srl pass.cr_raw shape before two new
+      → OnOk result (new.transform ≡ before.transform)
+      → Says (λ _. new) result (improved (coding_seen shape) pass before)
   unfolding improved
-  cr_done (Ok done) old one two new m y cb cr =
-      and_then_at (may_upgrade old shape.transform (positions_in (coding_seen shape))) tt _ (may old m)
-      ∙ and_then_at (raised_on shape.y pass.y_srl pass.y_raw old.y) one.y _ (y_raised old one y)
-      ∙ and_then_at (raised_on shape.cb pass.cb_srl pass.cb_raw old.cb) two.cb _ (cb_told (Ok tt) old one two y.1.0 cb)
-      ∙ and_then_at (raised_on shape.cr pass.cr_srl pass.cr_raw old.cr) new.cr _ (cr_told (Ok tt) old two new (cb.1.1 ∙ y.1.1) cr)
-      ∙ ap Ok (all_raised new old.transform one.y two.cb new.cr (cr.2 ∙ cb.2 ∙ y.2) (cr.1.0 ∙ cb.1.0) cr.1.1 refl)
-  cr_done (Err refusal) old one two new m y cb cr =
-      and_then_at (may_upgrade old shape.transform (positions_in (coding_seen shape))) tt _ (may old m)
-      ∙ and_then_at (raised_on shape.y pass.y_srl pass.y_raw old.y) one.y _ (y_raised old one y)
-      ∙ and_then_at (raised_on shape.cb pass.cb_srl pass.cb_raw old.cb) two.cb _ (cb_told (Ok tt) old one two y.1.0 cb)
-      ∙ and_then_refused (raised_on shape.cr pass.cr_srl pass.cr_raw old.cr) refusal _ (cr_told (Err refusal) old two new (cb.1.1 ∙ y.1.1) cr)
+  cr_done (Ok done) old one two new y cb (cr, others) transform =
+      and_then_at (may_upgrade before shape.transform (positions_in (coding_seen shape))) tt _ may
+      ∙ and_then_at y_due one.y _ (y_raised old one y)
+      ∙ and_then_at cb_due two.cb _ (cb_raised one two cb)
+      ∙ and_then_at cr_due new.cr _ (upgrade_made (Ok tt) _ shape.cr before.cr new.cr cr)
+      ∙ ap Ok (all_raised new before.transform one.y two.cb new.cr transform (others.0 ∙ cb.1.0) others.1 refl)
+  cr_done (Err refusal) old one two new y cb (cr, others) none =
+      and_then_at (may_upgrade before shape.transform (positions_in (coding_seen shape))) tt _ may
+      ∙ and_then_at y_due one.y _ (y_raised old one y)
+      ∙ and_then_at cb_due two.cb _ (cb_raised one two cb)
+      ∙ and_then_refused cr_due refusal _ (upgrade_made (Err refusal) _ shape.cr before.cr before.cr cr)

@@ -1,15 +1,19 @@
 -- How records are kept, and what the calls between them hand on.
-use Rattle.std.specs.Prelude.{◌≡◌, ℕ, ◌+◌, ◌-◌, min, max, Bool, ◌&&◌, IsTrue, if◌then◌else◌, List, Some, Result, Ok, Err}
+use Rattle.std.specs.Prelude.{◌≡◌, ℕ, ◌+◌, ◌-◌, min, max, Bool, ◌&&◌, IsTrue, if◌then◌else◌, List, Option, Some, Result, Ok, Err}
 use Rattle.std.specs.FinMap as finmap
 use Rattle.std.specs.FinMap.{from_entries}
+use Rattle.std.specs.Option.{ok_or}
 use Rattle.gfx_base.specs.declared.answer.Cause.{Cause}
 use Rattle.gfx_base.specs.declared.answer.Cause.TheVariants.{Memory, Refused}
 use Rattle.gfx_base.specs.declared.format.Format.TheVariants.{Argb}
 use Rattle.gfx_base.specs.declared.geometry.Rect.{Rect}
 use Rattle.gfx_base.specs.declared.refusal.Refusal.{Refusal}
+use Rattle.gfx_base.specs.declared.refusal.Refusal.TheVariants.{NoFirstPass}
 use Rattle.gfx_base.specs.Geometry.{holds}
 use Rattle.gfx_base.specs.Outcome.{Says}
+use Rattle.gfx_base.specs.Results.{◌>>=◌}
 use Rattle.gfx_prog_block.specs.declared.area.Area.{Area}
+use Rattle.gfx_prog_block.specs.declared.tile.UpgradePass.{UpgradePass}
 use Rattle.gfx_quant.specs.declared.setting.Level.{Level}
 use Rattle.gfx_quant.specs.Quant.{is_base}
 use Rattle.gfx_surface.specs.Picture.{Picture, pixel_at, redrawn, shade}
@@ -18,7 +22,7 @@ use Rattle.gfx_tile_state.specs.declared.state.TileState.{TileState}
 use Rattle.gfx_prog_decode.specs.declared.key.Key.{Key}
 use Rattle.gfx_prog_decode.specs.declared.records.Records.TheInside.{Inside}
 use Rattle.gfx_prog_decode.specs.Coding.{Coding, Numbers}
-use Rattle.gfx_prog_decode.specs.Passes.{start_of}
+use Rattle.gfx_prog_decode.specs.Passes.{improved, start_of}
 use Rattle.gfx_prog_decode.specs.Records.{Records}
 use Rattle.gfx_prog_decode.specs.Showing.{covered, has_pixel}
 
@@ -54,6 +58,12 @@ abbrev pub Starts : Result (Unit {0}) (Cause Refusal) → Result TileState Refus
 Starts (Ok done) due key old new = (next : TileState) × (due ≡ Ok next) × (new ≡ finmap.insert old key next)
 Starts (Err Memory) due key old new = Unit {0}
 Starts (Err (Refused refusal)) due key old new = due ≡ Err refusal
+
+-- what an upgrade makes of a key's record, if it has one
+abbrev pub improved_in : Coding → UpgradePass → Option TileState → Result TileState Refusal
+improved_in coding pass found = do
+  before ← ok_or found NoFirstPass
+  improved coding pass before
 
 -- a surface of one tile
 pub record IsCanvas (picture : Picture) : Type 0 where

@@ -1,29 +1,28 @@
 //! The data of a message, applied block after block. Where a step gives no answer, the caller undoes the message.
-ghost use Rattle.std.specs.Prelude.{◌≡◌, [], IfSome, IsSome, IsTrue};
+ghost use Rattle.std.specs.Prelude.{◌≡◌, [], IfSome, IsTrue};
 ghost use Rattle.std.specs.FinMap as finmap;
 ghost use Rattle.gfx_base.specs.Outcome.{Applies, Gives};
 ghost use Rattle.gfx_prog_decode.specs.Coding.{are_bases, begins_in};
-ghost use Rattle.gfx_prog_decode.specs.Inside.{IsCanvas, Passes, coding_seen};
-ghost use Rattle.gfx_prog_decode.specs.Passes.{improved};
+ghost use Rattle.gfx_prog_decode.specs.Inside.{IsCanvas};
 ghost use Rattle.gfx_prog_decode.specs.Progressive.{after_block, after_first, after_message, after_region, after_tile, after_upgrade};
 ghost use Rattle.gfx_prog_decode.specs.Scene.{in_turn, scene};
 ghost use Rattle.gfx_prog_decode.specs.Showing.{shown_in};
 ghost use Rattle.gfx_prog_decode.specs.Undo.{StaysUndoable};
 
 use crate::coding::{check_bases, shape_of};
+use crate::improving::improve;
 use crate::key::{Key, Place};
-use crate::log::{Log, keep, undo};
-use crate::passing::{check_start, improve_tile};
+use crate::log::{Log, undo};
+use crate::passing::check_start;
 use crate::records::Records;
 use crate::showing::{canvas, show};
 use crate::starting::start;
-use gfx_base::{Fault, Refusal};
+use gfx_base::Fault;
 use gfx_prog_block::{
     Area, Block, DIFFERENCE, FirstPass, NO_QUALITY, Region, Tile, TileHead, UpgradePass,
     read_blocks,
 };
 use gfx_surface::Surface;
-use gfx_tile_state::PassShape;
 use std::alloc::Global;
 
 /// Applies the data of a message. Any fault leaves records and surface as they were.
@@ -275,29 +274,9 @@ fn apply_upgrade(
 {
     let shape = shape_of(region, surface.size(), head, quality)?;
     let key = place.key(head);
-    if records.get(key).is_none() {
-        return Err(Fault::Refused(Refusal::NoFirstPass));
-    }
-    keep(alloc, log, records, surface, key)?;
-    improve_record(records, key, &shape, pass)?;
+    improve(alloc, log, records, surface, key, &shape, pass)?;
     show_record(records, canvas, surface, key, region.rects.as_slice());
     Ok(())
-}
-
-/// An upgrade of a key's record.
-fn improve_record(
-    records: &mut Records,
-    key: Key,
-    shape: &PassShape,
-    pass: &UpgradePass<'_>,
-) -> Result<(), Refusal>
-    requires { IsSome (finmap.get records.old key) }
-    ensures { IfSome (finmap.get records.old key) (λ tile. Passes result (improved (coding_seen shape.now) pass.now tile) key records.old records.new) }
-{
-    match records.get_mut(key) {
-        Some(tile) => improve_tile(tile, shape, pass),
-        None => Ok(()),
-    }
 }
 
 /// Draws the tile of a key's record.

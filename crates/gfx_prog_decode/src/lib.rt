@@ -1,12 +1,13 @@
 //! Messages of RemoteFX Progressive, applied ([MS-RDPEGFX] 2.2.4.2 and 3.2.8): the data of a message change the
 //! surface that it is for, and the records of tiles that `Records` keeps from message to message.
 //!
-//! It stands on the blocks of the data, on the records of tiles, and on surfaces. The client of the pipe holds
-//! one `Records`.
+//! It stands on the blocks of the data, on the records of tiles, and on surfaces. The client of the pipe and
+//! the server's planner each hold one `Records`, in the state that messages change.
 #![tactic(auto)]
 
 mod applying;
 mod coding;
+mod improving;
 mod key;
 mod log;
 mod passing;

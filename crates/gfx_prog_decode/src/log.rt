@@ -112,7 +112,7 @@ fn save(
     ensures { IfOk result (IsSavedOf key (scene records.now surface.now)) }
 {
     let tile = match records.get(key) {
-        Some(tile) => Some(spare.copy(tile)?),
+        Some(tile) => Some(spare.copy(alloc, tile)?),
         None => None,
     };
     let pixels = read(alloc, spare, surface, cell_in(surface.size(), key))?;

@@ -80,19 +80,20 @@ pub(crate) fn start_tile(
     start_part(tile, difference, Component::Cr, pass.cr.as_slice(), shape)
 }
 
-/// An upgrade of all components, where one may follow.
+/// An upgrade of all components of a record, where one may follow. What it makes is another record.
 pub(crate) fn improve_tile(
     tile: &mut TileState,
+    before: &TileState,
     shape: &PassShape,
     pass: &UpgradePass<'_>,
 ) -> Result<(), Refusal>
-    ensures { Says (λ _. tile.new) result (improved (coding_seen shape.now) pass.now tile.old) }
+    ensures { Says (λ _. tile.new) result (improved (coding_seen shape.now) pass.now before.now) }
 {
-    tile.may_upgrade(shape)?;
+    before.may_upgrade(shape)?;
     let (y_srl, y_raw) = (pass.y_srl.as_slice(), pass.y_raw.as_slice());
-    tile.upgrade(Component::Y, y_srl, y_raw, shape)?;
+    tile.upgrade_from(before, Component::Y, y_srl, y_raw, shape)?;
     let (cb_srl, cb_raw) = (pass.cb_srl.as_slice(), pass.cb_raw.as_slice());
-    tile.upgrade(Component::Cb, cb_srl, cb_raw, shape)?;
+    tile.upgrade_from(before, Component::Cb, cb_srl, cb_raw, shape)?;
     let (cr_srl, cr_raw) = (pass.cr_srl.as_slice(), pass.cr_raw.as_slice());
-    tile.upgrade(Component::Cr, cr_srl, cr_raw, shape)
+    tile.upgrade_from(before, Component::Cr, cr_srl, cr_raw, shape)
 }

@@ -27,13 +27,12 @@ impl Spare {
     }
 
     /// A record that is the same as another.
-    pub(crate) fn copy(&mut self, tile: &TileState) -> Result<TileState, NoMemory>
+    pub(crate) fn copy(&mut self, alloc: Global, tile: &TileState) -> Result<TileState, NoMemory>
         ensures { IfOk result (λ copy. copy ≡ tile.now) }
     {
-        match self.tiles.pop() {
-            Some(spare) => Ok(copied(spare, tile)),
-            None => tile.copy(),
-        }
+        let mut copy = self.tile(alloc)?;
+        copy.copy_from(tile);
+        Ok(copy)
     }
 
     /// A record, of any state.
@@ -80,15 +79,6 @@ impl Spare {
             let _ = self.pixels.push(pixels);
         }
     }
-}
-
-/// A record in another's memory.
-fn copied(spare: TileState, tile: &TileState) -> TileState
-    ensures { result ≡ tile.now }
-{
-    let mut copy = spare;
-    copy.copy_from(tile);
-    copy
 }
 
 /// Pixels, as many as are wanted.

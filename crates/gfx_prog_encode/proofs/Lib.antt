@@ -1,3 +1,4 @@
 pub mod Lists
 pub mod Codes
 pub mod Regions
+pub mod Numbers

@@ -40,22 +40,22 @@ carried rest more whole part sum e f g =
     let cut : Floor 65536 rest part = rw e (floor_65536 rest) in
     one_floor_65536 whole sum (int_shr whole 16) (record { low = omega (arith, ints); high = omega (arith, ints) }) (floor_65536 whole)
 
--- a channel, from the rest of what is added to it and the whole multiples
-pub channel_is : (y added rest more part total level : ℤ) (byte : ℕ) → part ≡ int_shr rest 16 → added ≡ rest +ℤ pos 65536 *ℤ more → total ≡ y +ℤ pos 4096 +ℤ (part +ℤ more) → level ≡ int_shr total 5 → byte ≡ clamped level → byte ≡ channel y added
-channel_is y added rest more part total level byte e f g h i =
-    quick_channel_is y added (part +ℤ more) level byte (carried rest more added part (part +ℤ more) e f refl) (h ∙ ap (λ (z : ℤ). int_shr z 5) g) i
+-- a channel, from the rest of what is added to it and the whole multiples, whose sum is carried to more bits
+pub channel_is : (y added rest more part total wide : ℤ) (byte : ℕ) → part ≡ int_shr rest 16 → added ≡ rest +ℤ pos 65536 *ℤ more → total ≡ y +ℤ pos 4096 +ℤ (part +ℤ more) → wide ≡ total → byte ≡ clamped (int_shr wide 5) → byte ≡ channel y added
+channel_is y added rest more part total wide byte e f g h i =
+    quick_channel_is y added (part +ℤ more) (int_shr wide 5) byte (carried rest more added part (part +ℤ more) e f refl) (ap (λ (z : ℤ). int_shr z 5) (h ∙ g)) i
 
-pub blue_is : (y cb rest part total level : ℤ) (byte : ℕ) → rest ≡ negsuc 15079 *ℤ cb → part ≡ int_shr rest 16 → total ≡ y +ℤ pos 4096 +ℤ (cb +ℤ cb +ℤ part) → level ≡ int_shr total 5 → byte ≡ clamped level → byte ≡ channel y (pos 115992 *ℤ cb)
-blue_is y cb rest part total level byte d e g h i =
-    channel_is y (pos 115992 *ℤ cb) rest (cb +ℤ cb) part total level byte e (omega (arith, ints)) (omega (arith, ints)) h i
+pub blue_is : (y cb rest part total wide : ℤ) (byte : ℕ) → rest ≡ negsuc 15079 *ℤ cb → part ≡ int_shr rest 16 → total ≡ y +ℤ pos 4096 +ℤ (cb +ℤ cb +ℤ part) → wide ≡ total → byte ≡ clamped (int_shr wide 5) → byte ≡ channel y (pos 115992 *ℤ cb)
+blue_is y cb rest part total wide byte d e g h i =
+    channel_is y (pos 115992 *ℤ cb) rest (cb +ℤ cb) part total wide byte e (omega (arith, ints)) (omega (arith, ints)) h i
 
-pub green_is : (y cb cr rest part total level : ℤ) (byte : ℕ) → rest ≡ negsuc 22526 *ℤ cb +ℤ pos 18717 *ℤ cr → part ≡ int_shr rest 16 → total ≡ y +ℤ pos 4096 +ℤ (part -ℤ cr) → level ≡ int_shr total 5 → byte ≡ clamped level → byte ≡ channel y (negsuc 22526 *ℤ cb +ℤ negsuc 46818 *ℤ cr)
-green_is y cb cr rest part total level byte d e g h i =
-    channel_is y _ rest (pos 0 -ℤ cr) part total level byte e (omega (arith, ints)) (omega (arith, ints)) h i
+pub green_is : (y cb cr rest part total wide : ℤ) (byte : ℕ) → rest ≡ negsuc 22526 *ℤ cb +ℤ pos 18717 *ℤ cr → part ≡ int_shr rest 16 → total ≡ y +ℤ pos 4096 +ℤ (part -ℤ cr) → wide ≡ total → byte ≡ clamped (int_shr wide 5) → byte ≡ channel y (negsuc 22526 *ℤ cb +ℤ negsuc 46818 *ℤ cr)
+green_is y cb cr rest part total wide byte d e g h i =
+    channel_is y _ rest (pos 0 -ℤ cr) part total wide byte e (omega (arith, ints)) (omega (arith, ints)) h i
 
-pub red_is : (y cr rest part total level : ℤ) (byte : ℕ) → rest ≡ pos 26380 *ℤ cr → part ≡ int_shr rest 16 → total ≡ y +ℤ pos 4096 +ℤ (cr +ℤ part) → level ≡ int_shr total 5 → byte ≡ clamped level → byte ≡ channel y (pos 91916 *ℤ cr)
-red_is y cr rest part total level byte d e g h i =
-    channel_is y _ rest cr part total level byte e (omega (arith, ints)) (omega (arith, ints)) h i
+pub red_is : (y cr rest part total wide : ℤ) (byte : ℕ) → rest ≡ pos 26380 *ℤ cr → part ≡ int_shr rest 16 → total ≡ y +ℤ pos 4096 +ℤ (cr +ℤ part) → wide ≡ total → byte ≡ clamped (int_shr wide 5) → byte ≡ channel y (pos 91916 *ℤ cr)
+red_is y cr rest part total wide byte d e g h i =
+    channel_is y _ rest cr part total wide byte e (omega (arith, ints)) (omega (arith, ints)) h i
 
 short_bits : (z : ℤ) → Within 8191 z → to_z w16 (of_z w16 z) ≡ z
 short_bits (pos n) h = to_z-of_z w16 (pos n) (record { sfits = omega (arith, ints) })
@@ -143,12 +143,12 @@ pub row_is : (y cb cr y' cb' cr' : ℤ) (out : List Pixel) (n : ℕ) → y' ≡ 
 row_is y cb cr y' cb' cr' out n d e f h = rw (← d, ← e, ← f) h
 
 -- where nothing is added, all channels are the same
-pub grey_is : (y total level : ℤ) (byte : ℕ) → total ≡ y +ℤ pos 4096 → level ≡ int_shr total 5 → byte ≡ clamped level → pixel_by byte byte byte ≡ colour_of y (pos 0) (pos 0)
-grey_is y total level byte e f g =
+pub grey_is : (y total wide : ℤ) (byte : ℕ) → total ≡ y +ℤ pos 4096 → wide ≡ total → byte ≡ clamped (int_shr wide 5) → pixel_by byte byte byte ≡ colour_of y (pos 0) (pos 0)
+grey_is y total wide byte e f g =
     let more : total ≡ y +ℤ pos 4096 +ℤ (pos 0 +ℤ pos 0) = omega (arith, ints, e) in
-    let blue : byte ≡ channel y (pos 115992 *ℤ pos 0) = channel_is y _ (pos 0) (pos 0) (pos 0) total level byte refl refl more f g in
-    let green : byte ≡ channel y (negsuc 22526 *ℤ pos 0 +ℤ negsuc 46818 *ℤ pos 0) = channel_is y _ (pos 0) (pos 0) (pos 0) total level byte refl refl more f g in
-    let red : byte ≡ channel y (pos 91916 *ℤ pos 0) = channel_is y _ (pos 0) (pos 0) (pos 0) total level byte refl refl more f g in
+    let blue : byte ≡ channel y (pos 115992 *ℤ pos 0) = channel_is y _ (pos 0) (pos 0) (pos 0) total wide byte refl refl more f g in
+    let green : byte ≡ channel y (negsuc 22526 *ℤ pos 0 +ℤ negsuc 46818 *ℤ pos 0) = channel_is y _ (pos 0) (pos 0) (pos 0) total wide byte refl refl more f g in
+    let red : byte ≡ channel y (pos 91916 *ℤ pos 0) = channel_is y _ (pos 0) (pos 0) (pos 0) total wide byte refl refl more f g in
     λ i. pixel_by (blue i) (green i) (red i)
 
 -- one more pixel of a tile

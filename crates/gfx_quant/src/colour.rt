@@ -75,6 +75,15 @@ fn clamp_byte(number: i64) -> u8
     number.clamp(0, 255) as u8
 }
 
+/// The channel of a sum, which is 32 times as large. All widths share it: the compiler narrows it to the width
+/// that the sum came in.
+#[inline]
+pub(crate) fn level(total: i64) -> u8
+    ensures { result ≡ clamped (int_shr total 5) }
+{
+    clamp_byte(total >> 5)
+}
+
 #[inline]
 #[tactic(auto, unfolding(crate::specs::Colour::channel))]
 fn channel_of(y: i32, added: i64) -> u8

@@ -1,8 +1,8 @@
 ghost use Rattle.std.specs.Prelude.{◌≡◌, ◌<◌, ◌^◌, ℕ, pos, ◌+ℤ◌, Some, slice_get};
-ghost use Rattle.std.specs.Int.{int_shr};
 ghost use Rattle.gfx_dwt.specs.Ranges.{AllWithin, Within, at};
-ghost use Rattle.gfx_quant.specs.Colour.{clamped, colour_of};
+ghost use Rattle.gfx_quant.specs.Colour.{colour_of};
 
+use crate::colour::level;
 use gfx_base::Pixel;
 
 #[inline]
@@ -13,27 +13,13 @@ fn lifted(y: i32) -> i32
     y + 4096
 }
 
-#[inline]
-fn level(total: i32) -> i32
-    ensures { result ≡ int_shr total 5 }
-{
-    total >> 5
-}
-
-#[inline]
-fn clamp_byte(level: i32) -> u8
-    ensures { result ≡ clamped level }
-{
-    level.clamp(0, 255) as u8
-}
-
 /// The pixel of a sample beside which Cb and Cr are nought.
 #[inline]
 fn grey(y: i32) -> Pixel
     requires { Within (2 ^ 23) y }
     ensures { result ≡ colour_of y (pos 0) (pos 0) }
 {
-    let grey = clamp_byte(level(lifted(y)));
+    let grey = level(i64::from(lifted(y)));
     Pixel {
         b: grey,
         g: grey,

@@ -1,10 +1,10 @@
 ghost use Rattle.std.specs.Prelude.{◌≡◌, ◌≤◌, ◌<◌, ◌+◌, ◌*◌, ◌^◌, ◌/◌, ◌%◌, ℕ, pos, negsuc, ◌+ℤ◌, ◌-ℤ◌, ◌*ℤ◌, IsTrue, Some, slice_get};
 ghost use Rattle.std.specs.Int.{int_shr};
 ghost use Rattle.gfx_dwt.specs.Ranges.{AllWithin, Within, at};
-ghost use Rattle.gfx_quant.specs.Colour.{channel, clamped, colour_of};
+ghost use Rattle.gfx_quant.specs.Colour.{channel, colour_of};
 ghost use Rattle.gfx_quant.specs.Planes.{AreColours};
 
-use crate::colour::{CB_IN_BLUE, CB_IN_GREEN, CR_IN_GREEN, CR_IN_RED, to_colour};
+use crate::colour::{CB_IN_BLUE, CB_IN_GREEN, CR_IN_GREEN, CR_IN_RED, level, to_colour};
 use crate::greys::{put_greys, put_solid};
 use gfx_base::Pixel;
 use gfx_dwt::{is_solid, noughts_before};
@@ -118,26 +118,12 @@ fn red_total(y: i16, cr: i16, part: i16) -> i16
 }
 
 #[inline]
-fn level(total: i16) -> i16
-    ensures { result ≡ int_shr total 5 }
-{
-    total >> 5
-}
-
-#[inline]
-fn clamp_byte(level: i16) -> u8
-    ensures { result ≡ clamped level }
-{
-    level.clamp(0, 255) as u8
-}
-
-#[inline]
 fn blue_of(y: i16, cb: i16) -> u8
     requires y { Within 8191 y }
     requires cb { Within 8191 cb }
     ensures { result ≡ channel y (CB_IN_BLUE *ℤ cb) }
 {
-    clamp_byte(level(blue_total(y, cb, small_whole(blue_rest(cb)))))
+    level(i64::from(blue_total(y, cb, small_whole(blue_rest(cb)))))
 }
 
 #[inline]
@@ -147,7 +133,7 @@ fn green_of(y: i16, cb: i16, cr: i16) -> u8
     requires cr { Within 8191 cr }
     ensures { result ≡ channel y (CB_IN_GREEN *ℤ cb +ℤ CR_IN_GREEN *ℤ cr) }
 {
-    clamp_byte(level(green_total(y, cr, whole(green_rest(cb, cr)))))
+    level(i64::from(green_total(y, cr, whole(green_rest(cb, cr)))))
 }
 
 #[inline]
@@ -156,7 +142,7 @@ fn red_of(y: i16, cr: i16) -> u8
     requires cr { Within 8191 cr }
     ensures { result ≡ channel y (CR_IN_RED *ℤ cr) }
 {
-    clamp_byte(level(red_total(y, cr, whole(red_rest(cr)))))
+    level(i64::from(red_total(y, cr, whole(red_rest(cr)))))
 }
 
 /// Blue and green in 16 bits.

@@ -1,5 +1,5 @@
 -- Runs of zeros in an upgrade.
-use Rattle.std.proofs.Common.{◌≡◌, ℕ, zero, suc, ◌+◌, ◌-◌, ◌<◌, ◌≤◌, Bool, true, false, ◌&&◌, ℤ, pos, ◌+ℤ◌, List, refl, sym, ap, subst, ◌∙◌, arith}
+use Rattle.std.proofs.Common.{◌≡◌, ℕ, zero, suc, ◌+◌, ◌-◌, ◌<◌, ◌≤◌, Bool, true, false, ℤ, pos, ◌+ℤ◌, List, refl, sym, ap, subst, ◌∙◌, arith}
 use Rattle.gfx_dwt.specs.Ranges.{IsCoefficient, at}
 use Rattle.gfx_quant.specs.Coefficient.{coefficient_of, cut, is_coefficient}
 use Rattle.gfx_srl.proofs.ReadingSteps.{gives-zero}

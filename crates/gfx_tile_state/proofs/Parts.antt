@@ -11,7 +11,7 @@ use Rattle.gfx_quant.specs.Coefficient.{cut, is_coefficient}
 use Rattle.gfx_quant.specs.Planes.{Dequantises}
 use Rattle.gfx_tile_state.specs.declared.entries.Readers.{Readers}
 use Rattle.gfx_tile_state.specs.Entries.{Pass, AreEntries, Upgraded, pairs_from, raw_from, sum_after}
-use Rattle.gfx_tile_state.specs.Passes.{FitsOnto, LeavesKept, LeavesIt, StaysIn, IsSound, Part, ReadsFirst, TakesFirst, blank, added, summed}
+use Rattle.gfx_tile_state.specs.Passes.{FitsOnto, LeavesKept, LeavesIt, StaysIn, IsSound, Part, ReadsFirst, TakesFirst, Upgrades, UpgradesSums, blank, added, summed}
 use Rattle.gfx_tile_state.specs.Shape.{AreAtMost, AreWithin}
 use Rattle.gfx_tile_state.proofs.Places.{at-added, length-added, is-coefficient, same-plane, tests}
 
@@ -132,3 +132,9 @@ pub upgraded-whole : (pass : Pass) (plane sums : List ℤ) (fits : Bool) (reader
     → (entries : List ℤ) × AreEntries pass entries × ((k : ℕ) → k < 4096 → at sums k ≡ sum_after pass entries k)
 upgraded-whole pass plane sums false readers e same u = cc
 upgraded-whole pass plane sums true readers e same u = (u.entries, entries-are pass plane true readers u, λ k h. ap (λ l. at l k) same ∙ sums-are pass plane readers u k h)
+
+-- a component whose sums an upgrade made, with all else as it was
+pub upgrades-part : (pass : Pass) (positions : List ℕ) (sums : List ℤ) (old new : Part) → UpgradesSums (Ok tt) pass old.kept sums
+    → new.sums ≡ sums → new.kept ≡ old.kept → new.positions ≡ positions → Upgrades (Ok tt) pass positions old new
+upgrades-part pass positions sums old new (entries, are, sums_are, whole, stays) same on place =
+    (entries, are, λ k h. ap (λ l. at l k) same ∙ sums_are k h, on, place, ap length same ∙ whole, subst (λ l. StaysIn old.kept (at l)) (sym same) stays)

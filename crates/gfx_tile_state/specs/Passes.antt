@@ -77,6 +77,17 @@ Upgrades (Ok done) pass positions old new =
 Upgrades (Err refusal) pass positions old new =
     (refusal ≡ CoefficientRange) × ((entries : List ℤ) × AreEntries pass entries × LeavesIt old.kept (sum_after pass entries)) × (new ≡ old)
 
+-- the sums of a component after an upgrade, over its kept plane
+abbrev pub UpgradesSums : Result (Unit {0}) Refusal → Pass → List ℤ → List ℤ → Type 0
+UpgradesSums (Ok done) pass kept sums =
+    (entries : List ℤ) × AreEntries pass entries × ((k : ℕ) → k < 4096 → at sums k ≡ sum_after pass entries k) × (length sums ≡ 4096) × StaysIn kept (at sums)
+UpgradesSums (Err refusal) pass kept sums = (refusal ≡ CoefficientRange) × ((entries : List ℤ) × AreEntries pass entries × LeavesIt kept (sum_after pass entries))
+
+-- what a pass makes, or what was there before where it is refused
+abbrev pub made : Result (Unit {0}) Refusal → Part → Part → Part
+made (Ok done) old new = new
+made (Err refusal) old new = old
+
 -- a plane with another stays in the 16-bit range
 abbrev pub FitsOnto : List ℤ → List ℤ → Type 0
 FitsOnto kept plane = (k : ℕ) → k < 4096 → is_coefficient (at kept k +ℤ at plane k) ≡ true

@@ -11,7 +11,7 @@ use Rattle.gfx_bits.specs.Bits.{bits_of}
 use Rattle.gfx_dwt.specs.Samples.{sample}
 use Rattle.gfx_quant.specs.Colour.{colour_of}
 use Rattle.gfx_tile_state.specs.Entries.{Pass, pass_of}
-use Rattle.gfx_tile_state.specs.Passes.{Part, TakesFirst, Upgrades, coefficients, fresh}
+use Rattle.gfx_tile_state.specs.Passes.{Part, TakesFirst, Upgrades, coefficients, fresh, made}
 use Rattle.gfx_tile_state.specs.Shapes.{positions_of}
 use Rattle.gfx_tile_state.specs.Shape.{AreBelow, SomeAbove}
 use Rattle.gfx_tile_state.specs.declared.state.TileState.{TileState}
@@ -82,6 +82,12 @@ UpgradesIn result component srl raw shape old new =
     Upgrades result (upgrade_of old component shape srl raw) (positions_of shape component) (part_of old component) (part_of new component)
     × OthersStay component old new
     × (new.transform ≡ old.transform)
+
+-- the upgrade of a component of another record, made in this one; the other components stay
+abbrev pub UpgradesFrom : Result (Unit {0}) Refusal → Component → List ℕ → List ℕ → PassShape → TileState → TileState → TileState → Type 0
+UpgradesFrom result component srl raw shape before old new =
+    Upgrades result (upgrade_of before component shape srl raw) (positions_of shape component) (part_of before component) (made result (part_of before component) (part_of new component))
+    × OthersStay component old new
 
 -- the pixel of a row and a column: the colour of the samples of the record's coefficients
 abbrev pub pixel_of : TileState → ℕ → ℕ → Pixel

@@ -1,5 +1,6 @@
 //! The plane that earlier tiles left under a component.
-ghost use Rattle.std.specs.Prelude.{◌≡◌, length, IfOk, MatchBool};
+ghost use Rattle.std.specs.Prelude.{◌≡◌, ◌≤◌, ◌⊎◌, length, IfOk, MatchBool};
+ghost use Rattle.std.specs.Vec.{vec_capacity};
 ghost use Rattle.gfx_dwt.specs.Ranges.{AllCoefficients};
 ghost use Rattle.gfx_tile_state.specs.Passes.{FitsOnto, LeavesKept, added, blank};
 
@@ -8,22 +9,29 @@ use gfx_base::NoMemory;
 use std::alloc::Global;
 use std::marker::Model;
 
-/// A kept plane. While it is blank, what stands in its memory means nothing: so a plain tile needn't touch it.
+/// How many numbers a plane has.
+const PLACES: usize = 4096;
+
+/// A kept plane. While it is blank, what stands in its memory means nothing; until a plane is put there, nothing is
+/// written in it: so a plain tile needn't touch it.
 #[derive(Drop)]
 pub struct Kept {
+    /// 4,096 numbers, or nothing yet and room for as many.
     plane: Vec<i16>,
     blank: bool,
 }
 
 impl Model for Kept {
-    ghost use Rattle.std.specs.Prelude.{◌≡◌, ℤ, List, length};
+    ghost use Rattle.std.specs.Prelude.{ℤ, List};
     ghost use Rattle.gfx_tile_state.specs.Passes.{kept_in};
 
     ghost Value = { List ℤ };
 
     ghost view = { λ kept. kept_in kept.blank kept.plane.items };
 
-    ghost invariant = { λ kept. length kept.plane.items ≡ 4096 };
+    ghost use Rattle.gfx_tile_state.specs.Inside.{HasRoom};
+
+    ghost invariant = { HasRoom };
 }
 
 impl Kept {
@@ -32,7 +40,7 @@ impl Kept {
         ensures { IfOk result (λ kept. kept ≡ blank) }
     {
         Ok(Kept {
-            plane: vec![in alloc; 0i16; 4096]?,
+            plane: Vec::with_capacity(alloc, PLACES)?,
             blank: true,
         })
     }
@@ -41,10 +49,9 @@ impl Kept {
     pub fn copy(&self) -> Result<Self, NoMemory>
         ensures { IfOk result (λ kept. kept ≡ self.now) }
     {
-        Ok(Kept {
-            plane: self.plane.clone()?,
-            blank: self.blank,
-        })
+        let mut copy = Kept::new(*self.plane.allocator())?;
+        copy.copy_from(self);
+        Ok(copy)
     }
 
     /// What another plane is. It takes no memory.
@@ -54,6 +61,7 @@ impl Kept {
         if other.blank {
             self.blank = true;
         } else {
+            make_whole(&mut self.plane);
             self.plane.copy_from_slice(&other.plane);
             self.blank = false;
         }
@@ -71,6 +79,7 @@ impl Kept {
         requires { AllCoefficients plane.now }
         ensures { self.new ≡ plane.now }
     {
+        make_whole(&mut self.plane);
         put(plane, &mut self.plane);
         self.blank = false;
     }
@@ -96,5 +105,15 @@ impl Kept {
         } else {
             add(&self.plane, sums, out);
         }
+    }
+}
+
+/// Sees to it that all numbers are there. It takes no memory, since there is room for them.
+fn make_whole(plane: &mut Vec<i16>)
+    requires { (length plane.old.items ≡ 4096) ⊎ (4096 ≤ vec_capacity plane.old) }
+    ensures { length plane.new.items ≡ 4096 }
+{
+    if plane.len() != PLACES {
+        plane.resize(PLACES, 0).unwrap();
     }
 }

@@ -2,7 +2,7 @@ ghost use Rattle.std.specs.Prelude.{◌≡◌, IfOk, MatchBool};
 ghost use Rattle.gfx_bits.specs.Bits.{bits_of};
 ghost use Rattle.gfx_dwt.specs.Ranges.{AllCoefficients};
 ghost use Rattle.gfx_tile_state.specs.Entries.{pass_of};
-ghost use Rattle.gfx_tile_state.specs.Passes.{TakesFirst, Upgrades, blank, coefficients, fresh};
+ghost use Rattle.gfx_tile_state.specs.Passes.{TakesFirst, Upgrades, UpgradesSums, blank, coefficients, fresh, made};
 ghost use Rattle.gfx_tile_state.specs.Shape.{AreBelow, AreWithin, SomeAbove};
 
 use crate::entries::Readers;
@@ -136,26 +136,60 @@ impl Part {
         ensures { Upgrades result (pass_of transform self.old.positions positions.now self.old.sums (bits_of srl.now) (bits_of raw.now)) positions.now self.old self.new }
     {
         let mut plane = [0; 4096];
-        load(&self.sums, &mut plane);
+        self.upgraded(srl, raw, transform, positions, &mut plane)?;
+        put(&plane, &mut self.sums);
+        self.positions = *positions;
+        Ok(())
+    }
+
+    /// What an upgrade makes of another component, in the memory of this one. After an `Err` nothing is said of what
+    /// this one is.
+    pub fn upgrade_from(
+        &mut self,
+        before: &Part,
+        srl: &[u8],
+        raw: &[u8],
+        transform: Transform,
+        positions: &[u8; 10],
+    ) -> Result<(), Refusal>
+        requires within { AreWithin 6 30 positions.now }
+        requires below { AreBelow positions.now before.now.positions }
+        ensures { Upgrades result (pass_of transform before.now.positions positions.now before.now.sums (bits_of srl.now) (bits_of raw.now)) positions.now before.now (made result before.now self.new) }
+    {
+        let mut plane = [0; 4096];
+        before.upgraded(srl, raw, transform, positions, &mut plane)?;
+        self.kept.copy_from(&before.kept);
+        put(&plane, &mut self.sums);
+        self.positions = *positions;
+        Ok(())
+    }
+
+    /// Its sums after an upgrade to positions that are not above those that stand.
+    fn upgraded(
+        &self,
+        srl: &[u8],
+        raw: &[u8],
+        transform: Transform,
+        positions: &[u8; 10],
+        plane: &mut [i32; 4096],
+    ) -> Result<(), Refusal>
+        requires within { AreWithin 6 30 positions.now }
+        requires below { AreBelow positions.now self.now.positions }
+        ensures sums { UpgradesSums result (pass_of transform self.now.positions positions.now self.now.sums (bits_of srl.now) (bits_of raw.now)) self.now.kept plane.new }
+        ensures coefficients { AllCoefficients plane.new }
+    {
+        load(&self.sums, plane);
         let mut readers = Readers {
             srl: SrlReader::new(srl),
             bits: BitReader::new(raw),
         };
-        let fits = upgrade_plane(
-            &mut plane,
-            transform,
-            &self.positions,
-            positions,
-            &mut readers,
-        );
+        let fits = upgrade_plane(plane, transform, &self.positions, positions, &mut readers);
         if !fits {
             return Err(Refusal::CoefficientRange);
         }
-        if !self.kept.fits_onto(&plane) {
+        if !self.kept.fits_onto(plane) {
             return Err(Refusal::CoefficientRange);
         }
-        put(&plane, &mut self.sums);
-        self.positions = *positions;
         Ok(())
     }
 

@@ -2,7 +2,7 @@ ghost use Rattle.std.specs.Prelude.{◌≡◌, ◌<◌, ◌≤◌, ◌*◌, ◌+
 ghost use Rattle.gfx_dwt.specs.Ranges.{AllWithin};
 ghost use Rattle.gfx_dwt.specs.Samples.{cell, sample};
 ghost use Rattle.gfx_tile_state.specs.Passes.{blank, coefficients};
-ghost use Rattle.gfx_tile_state.specs.Record.{MayAdd, MayBeUpgraded, MayUpgrade, StartsIn, UpgradesIn, fits_transform, fresh_tile, part_of, pixel_of, transform_of};
+ghost use Rattle.gfx_tile_state.specs.Record.{MayAdd, MayBeUpgraded, MayUpgrade, StartsIn, UpgradesFrom, UpgradesIn, fits_transform, fresh_tile, part_of, pixel_of, transform_of};
 
 use crate::part::Part;
 use crate::shape::PassShape;
@@ -186,6 +186,36 @@ impl TileState {
             Component::Cb => self.cb.upgrade(srl, raw, shape.transform, &positions),
             Component::Cr => self.cr.upgrade(srl, raw, shape.transform, &positions),
         }
+    }
+
+    /// What an upgrade makes of a component of another state, in the memory of this one. After an `Err` nothing is
+    /// said of what this one is.
+    pub fn upgrade_from(
+        &mut self,
+        before: &TileState,
+        component: Component,
+        srl: &[u8],
+        raw: &[u8],
+        shape: &PassShape,
+    ) -> Result<(), Refusal>
+        requires { MayBeUpgraded before.now shape.now }
+        ensures part { UpgradesFrom result component srl.now raw.now shape.now before.now self.old self.new }
+        ensures ok { OnOk result (self.new.transform ≡ before.now.transform) }
+    {
+        let positions = shape.positions(component);
+        match component {
+            Component::Y => self
+                .y
+                .upgrade_from(&before.y, srl, raw, shape.transform, &positions)?,
+            Component::Cb => self
+                .cb
+                .upgrade_from(&before.cb, srl, raw, shape.transform, &positions)?,
+            Component::Cr => self
+                .cr
+                .upgrade_from(&before.cr, srl, raw, shape.transform, &positions)?,
+        }
+        self.transform = before.transform;
+        Ok(())
     }
 
     /// The tile's pixels: the colours of the samples of its coefficients.

@@ -4,7 +4,7 @@ ghost use Rattle.gfx_quant.specs.Coefficient.{coefficient_of, cut, is_coefficien
 ghost use Rattle.gfx_tile_state.specs.Entries.{AreAlike, Pass, Upgraded, pass_of, past};
 ghost use Rattle.gfx_tile_state.specs.Shape.{AreAtMost, AreWithin, AreBelow};
 
-use crate::entries::{Readers, read_entry};
+use crate::entries::{Readers, read_entry, read_known};
 use gfx_dwt::Transform;
 use gfx_quant::{band_size, band_start, nth_band};
 
@@ -68,7 +68,7 @@ fn cut_sum(sum: i64) -> i32
 }
 
 /// Adds to a sum what an entry adds to it at a bit position, cut to the range of a coefficient, and says whether it
-/// stays in that range. Most entries are zero, which is the quicker way.
+/// stays in that range. Most entries of sums that are zero are zero too, which is the quicker way.
 #[inline(always)]
 fn add_entry(plane: &mut [i32; 4096], place: usize, entry: i32, position: u8) -> bool
     requires inside { place < 4096 }
@@ -79,7 +79,7 @@ fn add_entry(plane: &mut [i32; 4096], place: usize, entry: i32, position: u8) ->
     ensures fits { result ≡ is_coefficient (at plane.old place +ℤ coefficient_of entry position) }
     ensures sum { plane.new ≡ slice_set plane.old place (cut (at plane.old place +ℤ coefficient_of entry position)) }
 {
-    if entry == 0 {
+    if plane[place] == 0 && entry == 0 {
         return true;
     }
     let sum = sum_of(plane[place], entry, position);
@@ -138,41 +138,42 @@ fn are_blank(plane: &[i32; 4096], from: usize) -> bool
     blank
 }
 
-/// How many sums from a place on are zero, at most that many.
+/// Upgrades eight places with signs for which as many zeros are known to come, and says whether all sums stay in the
+/// range of a coefficient.
 #[inline(always)]
-fn blanks(plane: &[i32; 4096], from: usize, most: usize) -> usize
-    requires { from + most ≤ 4096 }
-    ensures most { result ≤ most }
-    ensures blank { (k : ℕ) → from ≤ k → k < from + result → at plane.now k ≡ pos 0 }
+fn upgrade_eight(
+    plane: &mut [i32; 4096],
+    from: usize,
+    n: u8,
+    position: u8,
+    readers: &mut Readers<'_>,
+) -> bool
+    requires end { from + 8 ≤ 4096 }
+    requires some { 1 ≤ n }
+    requires few { n ≤ 24 }
+    requires least { 1 ≤ position }
+    requires most { position ≤ 30 }
+    requires coefficients { AllCoefficients plane.old }
+    requires known { 8 ≤ readers.old.srl.zeros }
+    ensures upgraded { (pass : Pass) (fits : Bool) → AreAlike pass from (from + 8) n position false → Upgraded pass from plane.old fits readers.old → Upgraded pass (from + 8) plane.new (fits && result) readers.new }
+    ensures coefficients { AllCoefficients plane.new }
 {
-    let mut count = 0;
-    'eights: while most - count >= 8 && are_blank(plane, from + count) {
-        count += 8;
+    if are_blank(plane, from) {
+        readers.srl.pass_zeros(8);
+        return true;
     }
-    'ones: while count < most && is_zero(plane[from + count]) {
-        count += 1;
+    let mut fits = true;
+    for place in from..from + 8 {
+        let entry = read_known(readers, plane[place], n);
+        let total = sum_of(plane[place], entry, position);
+        plane[place] = cut_sum(total);
+        fits &= is_small(total);
     }
-    count
-}
-
-/// Goes past sums that are zero where zeros are known to come for them, and says how many they are.
-#[inline(always)]
-fn pass_blanks(plane: &[i32; 4096], from: usize, to: usize, readers: &mut Readers<'_>) -> usize
-    requires order { from ≤ to }
-    requires end { to ≤ 4096 }
-    ensures within { from + result ≤ to }
-    ensures blank { (k : ℕ) → from ≤ k → k < from + result → at plane.now k ≡ pos 0 }
-    ensures known { result ≤ readers.old.srl.zeros }
-    ensures passed { readers.new ≡ past readers.old result }
-{
-    let known = readers.srl.zeros_ahead() as usize;
-    let count = blanks(plane, from, known.min(to - from));
-    readers.srl.pass_zeros(count as u32);
-    count
+    fits
 }
 
 /// Upgrades the places from one to before another, all of one band with signs, and says whether all sums stay in the
-/// range of a coefficient. Runs of zeros are passed as wholes.
+/// range of a coefficient.
 #[inline(always)]
 fn upgrade_signed(
     plane: &mut [i32; 4096],
@@ -195,9 +196,9 @@ fn upgrade_signed(
     let mut fits = true;
     let mut place = from;
     'places: while place < to {
-        let count = pass_blanks(plane, place, to, readers);
-        if count > 0 {
-            place += count;
+        if readers.srl.zeros_ahead() >= 8 && to - place >= 8 {
+            fits &= upgrade_eight(plane, place, n, position, readers);
+            place += 8;
         } else {
             let entry = read_entry(readers, plane[place], n, false);
             fits &= add_entry(plane, place, entry, position);

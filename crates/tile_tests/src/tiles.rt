@@ -6,6 +6,11 @@ use gfx_tile_state::{PassShape, TileState};
 use std::process::Abort;
 use std::test::Fail;
 
+// The first pass of Y, at level 6.
+const FIRST: [u8; 14] = [
+    0x00, 0x00, 0x3D, 0xE0, 0x68, 0xE5, 0x7F, 0x40, 0x08, 0x0A, 0x01, 0x38, 0x82, 0x00,
+];
+
 // All bands at base 6, with so much less quality.
 fn shape(level: u8) -> PassShape {
     let transform = Transform::Plain;
@@ -89,10 +94,7 @@ fn shown(tile: &TileState) -> ([u8; 3], u64) {
 #[test]
 fn seven_levels(rt: HostRuntime) -> Result<(), Fail> {
     let mut tile = TileState::new(rt.alloc()).ok().ok_or("no memory")?;
-    let first = [
-        0x00, 0x00, 0x3D, 0xE0, 0x68, 0xE5, 0x7F, 0x40, 0x08, 0x0A, 0x01, 0x38, 0x82, 0x00,
-    ];
-    assert_eq!(rt; tile.first(Component::Y, &first, &shape(6)), Ok(()));
+    assert_eq!(rt; tile.first(Component::Y, &FIRST, &shape(6)), Ok(()));
     assert_eq!(rt; tile.first(Component::Cb, &[], &shape(6)), Ok(()));
     assert_eq!(rt; tile.first(Component::Cr, &[], &shape(6)), Ok(()));
     assert_eq!(rt; shown(&tile), ([0, 54, 128], 196_121_601));
@@ -149,6 +151,48 @@ fn seven_levels(rt: HostRuntime) -> Result<(), Fail> {
         );
         assert_eq!(rt; shown(&tile), (pixels, total));
     }
+    Ok(())
+}
+
+fn upgraded_from(
+    tile: &mut TileState,
+    before: &TileState,
+    component: Component,
+    srl: &[u8],
+    raw: &[u8],
+    shape: &PassShape,
+) -> Result<(), Refusal> {
+    match before.may_upgrade(shape) {
+        Ok(()) => tile.upgrade_from(before, component, srl, raw, shape),
+        Err(refusal) => Err(refusal),
+    }
+}
+
+// The next level, made in another record: that one shows it, and the first one shows what it did.
+#[test]
+fn a_level_in_another_record(rt: HostRuntime) -> Result<(), Fail> {
+    let mut tile = TileState::new(rt.alloc()).ok().ok_or("no memory")?;
+    assert_eq!(rt; tile.first(Component::Y, &FIRST, &shape(6)), Ok(()));
+    assert_eq!(rt; tile.first(Component::Cb, &[], &shape(6)), Ok(()));
+    assert_eq!(rt; tile.first(Component::Cr, &[], &shape(6)), Ok(()));
+    let before = ([0, 54, 128], 196_121_601);
+    let mut next = tile.copy().ok().ok_or("no memory")?;
+    assert_eq!(rt; shown(&next), before);
+    let (srl, raw) = ([0x8C, 0x00, 0x00, 0x3F, 0xF4], [0x70, 0x00, 0x08]);
+    assert_eq!(rt;
+        upgraded_from(&mut next, &tile, Component::Y, &srl, &raw, &shape(5)),
+        Ok(())
+    );
+    assert_eq!(rt;
+        upgraded_from(&mut next, &tile, Component::Cb, &[], &[], &shape(5)),
+        Ok(())
+    );
+    assert_eq!(rt;
+        upgraded_from(&mut next, &tile, Component::Cr, &[], &[], &shape(5)),
+        Ok(())
+    );
+    assert_eq!(rt; shown(&next), ([0, 87, 128], 197_356_818));
+    assert_eq!(rt; shown(&tile), before);
     Ok(())
 }
 

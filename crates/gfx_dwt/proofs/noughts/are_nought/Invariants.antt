@@ -1,6 +1,7 @@
-use Rattle.std.proofs.Common.{◌≡◌, ℕ, ◌<◌, IsTrue, pos}
+use Rattle.std.proofs.Common.{◌≡◌, ◌≢◌, ℕ, ◌<◌, pos}
+use Rattle.std.specs.Prelude.{MatchBool}
 use Rattle.gfx_dwt.specs.Ranges.{at}
 use Rattle.gfx_dwt.proofs.noughts.are_nought.Given as goal
 
 abbrev pub invariant-loop-place : goal.invariant-loop-place
-invariant-loop-place l = IsTrue l.nought → (k : ℕ) → k < l.place → at l.block k ≡ pos 0
+invariant-loop-place l = MatchBool l.nought ((k : ℕ) → k < l.place → at l.block k ≡ pos 0) ((k : ℕ) × (k < l.place) × (at l.block k ≢ pos 0))

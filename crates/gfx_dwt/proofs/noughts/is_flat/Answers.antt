@@ -1,29 +1,22 @@
-use Rattle.std.proofs.Common.{◌≡◌, ◌+◌, ◌-◌, ℤ, length-take, length-drop, FitsSigned, w32, arith, rules, sym, ap, ◌∙◌, ⊎_elim}
+use Rattle.std.proofs.Common.{◌-◌, FitsSigned, pos, w32, arith, rules}
 use Rattle.std.proofs.lemmas.Int.{to_z-of_z}
 use Rattle.gfx_dwt.specs.Ranges.{at}
+use Rattle.gfx_dwt.proofs.Blocks.{block_is, block_more}
 use Rattle.gfx_dwt.proofs.NoDetail.{and_first, and_second}
-use Rattle.gfx_dwt.proofs.Same.{inside_or_not}
-use Rattle.gfx_dwt.proofs.Strips.{strip_at}
 use Rattle.gfx_dwt.proofs.noughts.is_flat.Goals as goal
 
 pub returns-clause-before : goal.returns-clause-before
 returns-clause-before c = λ both k h.
     let known = c.min-known.result in
-    let plane = c.args.plane.now in
-    ⊎_elim
-    (λ p. c.requires.noughts k (omega (arith, c.min-known.ensures)))
-    (λ p.
-    let i : known + (k - known) ≡ k = omega arith in
-    ap (at plane) (sym i) ∙ sym (strip_at known (c.args.start - known) plane (k - known) (omega arith))
-    ∙ c.are_nought.ensures (and_first c.are_nought.result c.are_all.result both) (k - known) (omega (arith, length-take {A = ℤ}, length-drop {A = ℤ}, c.told-plane)))
-    (inside_or_not k known)
+    block_more (pos 0) c.args.plane.now known (c.args.start - known) (omega arith)
+    (rw (and_first c.are_nought.result c.are_all.result both) at c.are_nought.ensures)
+    (λ j p. c.requires.noughts j (omega (arith, c.min-known.ensures)))
+    k (omega arith)
 
 pub returns-clause-behind : goal.returns-clause-behind
 returns-clause-behind c = λ both k p h.
-    let start = c.args.start in
     let plane = c.args.plane.now in
-    let i : start + (k - start) ≡ k = omega arith in
     let value : FitsSigned w32 (at plane 4095) = search rules in
-    ap (at plane) (sym i) ∙ sym (strip_at start _ plane (k - start) (omega arith))
-    ∙ c.are_all.ensures (and_second c.are_nought.result c.are_all.result both) (k - start) (omega (arith, length-take {A = ℤ}, length-drop {A = ℤ}, c.told-plane))
-    ∙ to_z-of_z w32 (at plane 4095) value
+    block_is (at plane 4095) plane c.args.start (4096 - c.args.start) (omega arith)
+    (rw (and_second c.are_nought.result c.are_all.result both, to_z-of_z w32 (at plane 4095) value) at c.are_all.ensures)
+    k p (omega arith)

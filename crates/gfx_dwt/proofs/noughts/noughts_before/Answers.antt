@@ -1,16 +1,6 @@
-use Rattle.std.proofs.Common.{◌≡◌, ◌+◌, ◌-◌, ◌*◌, ℤ, length-take, length-drop, arith, refl, sym, ap, ◌∙◌, ⊎_elim}
-use Rattle.gfx_dwt.specs.Ranges.{at}
-use Rattle.gfx_dwt.proofs.Same.{inside_or_not}
-use Rattle.gfx_dwt.proofs.Strips.{strip_at}
+use Rattle.std.proofs.Common.{◌*◌, pos, arith}
+use Rattle.gfx_dwt.proofs.Blocks.{block_more}
 use Rattle.gfx_dwt.proofs.noughts.noughts_before.Goals as goal
 
 pub loop-block-preserved : goal.loop-block-preserved
-loop-block-preserved c = λ k h.
-    let start = 64 * c.loop-block.block in
-    let plane = c.args.plane.now in
-    ⊎_elim
-    (λ p. c.loop-block.invariant k p)
-    (λ p.
-    let i : start + (k - start) ≡ k = omega arith in
-    ap (at plane) (sym i) ∙ sym (strip_at start (start + 64 - start) plane (k - start) (omega arith)) ∙ c.if-not-are_nought.ensures refl (k - start) (omega (arith, length-take {A = ℤ}, length-drop {A = ℤ}, c.told-plane)))
-    (inside_or_not k start)
+loop-block-preserved c = λ k h. block_more (pos 0) c.args.plane.now (64 * c.loop-block.block) _ (omega arith) c.if-not-are_nought.ensures c.loop-block.invariant k (omega arith)

@@ -28,8 +28,8 @@ returns-clause-within c =
 pub returns-then-noughts-eq4096-clause-samples : goal.returns-then-noughts-eq4096-clause-samples
 returns-then-noughts-eq4096-clause-samples c = λ y x p q.
     let plane = c.args.plane.now in
-    c.noughts_before-noughts.ensures (y * 64 + x) (omega arith)
-    ∙ sym (nought_of_within _ (sample_within c.args.transform 0 plane (λ k h. within_of_nought 0 _ (c.noughts_before-noughts.ensures k (omega arith))) y x p q))
+    c.noughts_before-noughts.ensures.before (y * 64 + x) (omega arith)
+    ∙ sym (nought_of_within _ (sample_within c.args.transform 0 plane (λ k h. within_of_nought 0 _ (c.noughts_before-noughts.ensures.before k (omega arith))) y x p q))
 
 pub returns-then-is_flat-clause-samples : goal.returns-then-is_flat-clause-samples
 returns-then-is_flat-clause-samples c = λ y x p q.

@@ -2,7 +2,7 @@
 ghost use Rattle.gfx_dwt.specs.Ranges.{AllCoefficients, AllSamples, IsCoefficient, IsSample};
 ghost use Rattle.std.specs.Prelude.{◌<◌};
 
-use gfx_dwt::{Transform, forward, forward_with, inverse, inverse_with};
+use gfx_dwt::{Transform, Workspace, forward, forward_with, inverse, inverse_narrow, inverse_with};
 use std::test::Fail;
 
 /// What a plane is filled with.
@@ -58,6 +58,25 @@ fn draw_samples(pattern: Pattern, plane: &mut [i32; 4096])
     }
 }
 
+/// A sixteenth of a coefficient, toward zero.
+fn small(coefficient: i32) -> i16
+    requires { IsCoefficient coefficient }
+{
+    (coefficient / 16) as i16
+}
+
+fn draw_small(pattern: Pattern, plane: &mut [i16; 4096]) {
+    for k in 0..4096 {
+        plane[k] = small(coefficient(pattern, k));
+    }
+}
+
+fn widen(narrow: &[i16; 4096], plane: &mut [i32; 4096]) {
+    for k in 0..4096 {
+        plane[k] = i32::from(narrow[k]);
+    }
+}
+
 /// All places in one number, modulo 2^64.
 fn checksum(plane: &[i32; 4096]) -> i64 {
     let mut sum = 0i64;
@@ -106,6 +125,68 @@ fn inverse_of_patterns(rt: HostRuntime) -> Result<(), Fail> {
         draw_coefficients(pattern, &mut plane);
         inverse_with(&mut plane, Transform::Reduced, &mut tmp);
         assert_eq!(rt; checksum(&plane), reduced, "{pattern:?}");
+    }
+    Ok(())
+}
+
+/// What becomes of a plane in 16 bits, if they are enough.
+fn narrow_checksum(plane: &[i16; 4096], transform: Transform) -> Option<i64> {
+    let mut out = [7; 4096];
+    let mut wide = [7; 4096];
+    if !inverse_narrow(plane, transform, &mut out, &mut Workspace::new()) {
+        return None;
+    }
+    widen(&out, &mut wide);
+    Some(checksum(&wide))
+}
+
+/// A pattern, and the checksums of what becomes of a sixteenth of it in 16 bits.
+#[derive(Clone, Copy)]
+struct SmallCase(Pattern, Option<i64>, Option<i64>);
+
+#[test]
+fn inverse_of_small_patterns_in_16_bits(rt: HostRuntime) -> Result<(), Fail> {
+    for SmallCase(pattern, plain, reduced) in [
+        SmallCase(
+            Pattern::Impulse(0),
+            Some(1250001506784046364),
+            Some(-5257346381315830404),
+        ),
+        SmallCase(
+            Pattern::Impulse(1022),
+            Some(7180518297593983035),
+            Some(-249262017),
+        ),
+        SmallCase(
+            Pattern::Impulse(2077),
+            Some(7320073800707436544),
+            Some(-2455355016496017210),
+        ),
+        SmallCase(
+            Pattern::Impulse(4031),
+            Some(-7183201797302999627),
+            Some(2290023343204489489),
+        ),
+        SmallCase(
+            Pattern::Impulse(4095),
+            Some(-8812141201024874735),
+            Some(70894763801099417),
+        ),
+        SmallCase(Pattern::Ramp, None, Some(7014011954067292392)),
+        SmallCase(Pattern::Extremes, None, None),
+    ] {
+        let mut plane = [0; 4096];
+        draw_small(pattern, &mut plane);
+        assert_eq!(rt;
+            narrow_checksum(&plane, Transform::Plain),
+            plain,
+            "{pattern:?}"
+        );
+        assert_eq!(rt;
+            narrow_checksum(&plane, Transform::Reduced),
+            reduced,
+            "{pattern:?}"
+        );
     }
     Ok(())
 }

@@ -4,7 +4,7 @@ use gfx_dwt::{Band, Transform};
 use gfx_quant::{
     Quant, band_of, band_size, band_start, check_base, cut_plane, dequantise, dequantise_band,
     dequantise_plane, from_colour, from_colours, nth_band, quant_from, quant_to, quantise,
-    quantise_plane, to_colour, to_colours, truncate, truncate_plane,
+    quantise_plane, to_colour, to_colours, to_colours_narrow, truncate, truncate_plane,
 };
 
 fn opaque(b: u8, g: u8, r: u8) -> Pixel {
@@ -230,4 +230,26 @@ fn wide_colours_go_place_by_place(rt: HostRuntime) {
     let mut pixels = [opaque(0, 0, 0); 4096];
     to_colours(&plane, &plane, &plane, &mut pixels);
     assert_eq!(rt; pixels[4095], opaque(255, 68, 255));
+}
+
+#[test]
+fn colours_of_16_bits_go_place_by_place(rt: HostRuntime) {
+    let (mut y, mut cb, mut cr) = ([-17; 4096], [333; 4096], [-1021; 4096]);
+    let mut pixels = [opaque(0, 0, 0); 4096];
+    to_colours_narrow(&y, &cb, &cr, &mut pixels);
+    assert_eq!(rt; pixels[4095], opaque(145, 146, 82));
+    y[4095] = 0;
+    cb[4095] = 18_514;
+    cr[4095] = 18_514;
+    to_colours_narrow(&y, &cb, &cr, &mut pixels);
+    assert_eq!(rt;
+        (pixels[0], pixels[4094]),
+        (opaque(145, 146, 82), opaque(145, 146, 82))
+    );
+    assert_eq!(rt; pixels[4095], opaque(255, 0, 255));
+    to_colours_narrow(&y, &[0; 4096], &[0; 4096], &mut pixels);
+    assert_eq!(rt;
+        (pixels[0], pixels[4095]),
+        (opaque(127, 127, 127), opaque(128, 128, 128))
+    );
 }

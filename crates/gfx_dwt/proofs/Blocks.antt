@@ -1,5 +1,6 @@
 -- Blocks of a list, looked at one after another.
-use Rattle.std.proofs.Common.{◌≡◌, ◌≢◌, ℕ, ◌+◌, ◌-◌, ◌<◌, ◌≤◌, ℤ, List, length, take, drop, length-take, length-drop, arith, sym, ap, ◌∙◌, subst, ⊎_elim}
+use Rattle.std.proofs.Common.{Bool, true, false, ◌≡◌, ◌≢◌, ℕ, ◌+◌, ◌-◌, ◌<◌, ◌≤◌, ℤ, List, length, take, drop, length-take, length-drop, arith, sym, ap, ◌∙◌, subst, ⊎_elim}
+use Rattle.std.specs.Prelude.{MatchBool}
 use Rattle.gfx_dwt.specs.Noughts.{AllAre, SomeIsNot}
 use Rattle.gfx_dwt.specs.Ranges.{at}
 use Rattle.gfx_dwt.proofs.Same.{inside_or_not}
@@ -21,3 +22,10 @@ pub block_varies : (one : ℤ) (xs : List ℤ) (a n : ℕ) → a + n ≤ length 
 block_varies one xs a n fits some =
     let inside : some.0 < n = omega (arith, some.1, length-take {A = ℤ}, length-drop {A = ℤ}) in
     (a + some.0, omega arith, omega arith, subst (λ z. z ≢ one) (strip_at a n xs some.0 inside) some.2)
+
+-- where all before a place is one number, all is, exactly where what is behind it is
+pub rest_too : (same : Bool) (one : ℤ) (xs : List ℤ) (a : ℕ) → a ≤ length xs → ((k : ℕ) → k < a → at xs k ≡ one) → MatchBool same (AllAre one (take (length xs - a) (drop a xs))) (SomeIsNot one (take (length xs - a) (drop a xs))) → MatchBool same (AllAre one xs) (SomeIsNot one xs)
+rest_too true one xs a h before rest = λ k p. block_more one xs a (length xs - a) (omega arith) rest before k (omega arith)
+rest_too false one xs a h before rest =
+    let some = block_varies one xs a (length xs - a) (omega arith) rest in
+    (some.0, omega (arith, some.2), some.3)

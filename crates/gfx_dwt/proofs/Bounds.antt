@@ -1,5 +1,5 @@
 -- How large the results of the arithmetic of one sample are.
-use Rattle.std.proofs.Common.{◌≡◌, ℕ, ◌+◌, ◌*◌, ℤ, pos, negsuc, neg_ℤ, ◌+ℤ◌, ◌≤ℤ◌, to_z, of_z, w32, ◌<◌, ◌^◌, arith}
+use Rattle.std.proofs.Common.{◌≡◌, ℕ, ◌+◌, ◌*◌, ℤ, pos, negsuc, neg_ℤ, ◌+ℤ◌, ◌≤ℤ◌, to_z, of_z, w16, w32, ◌<◌, ◌^◌, arith}
 use Rattle.std.proofs.lemmas.Int.{ints, to_z-of_z}
 use lib.Signed.{mag}
 use Rattle.gfx_dwt.specs.declared.layout.Transform.{Transform}
@@ -52,6 +52,14 @@ bits_of_small z h = to_z-of_z w32 z (record { sfits = h })
 pub bits_of_within : (b : ℕ) (z : ℤ) → b < 2 ^ 31 → Within b z → to_z w32 (of_z w32 z) ≡ z
 bits_of_within b (pos n) l h = bits_of_small (pos n) (omega (arith, ints))
 bits_of_within b (negsuc n) l h = bits_of_small (negsuc n) (omega (arith, ints))
+
+-- a number that fits 16 bits is read back from them
+pub bits_of_short : (z : ℤ) → mag z < 2 ^ 15 → to_z w16 (of_z w16 z) ≡ z
+bits_of_short z h = to_z-of_z w16 z (record { sfits = h })
+
+pub bits_of_narrow : (b : ℕ) (z : ℤ) → b < 2 ^ 15 → Within b z → to_z w16 (of_z w16 z) ≡ z
+bits_of_narrow b (pos n) l h = bits_of_short (pos n) (omega (arith, ints))
+bits_of_narrow b (negsuc n) l h = bits_of_short (negsuc n) (omega (arith, ints))
 
 pub high_of_within : (t : Transform) (b : ℕ) (odd left right : ℤ) → Within b odd → Within b left → Within b right → Within b (high_of t odd left right)
 high_of_within t b odd left right p q r =

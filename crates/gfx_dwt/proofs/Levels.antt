@@ -1,5 +1,5 @@
 -- The parts of the plane that the levels fill, and what the levels give there.
-use Rattle.std.proofs.Common.{◌≡◌, ℕ, ◌+◌, ◌*◌, ◌<◌, ◌≤◌, ℤ, pos, List, drop, arith, zero-add, ap, sym, refl, lit≤, ◌∙◌}
+use Rattle.std.proofs.Common.{◌≡◌, ℕ, ◌+◌, ◌-◌, ◌*◌, ◌<◌, ◌≤◌, ℤ, pos, List, length, drop, arith, zero-add, ap, sym, refl, lit≤, ◌∙◌}
 use Rattle.std.proofs.lemmas.List.{get_or-drop}
 use Rattle.gfx_dwt.specs.declared.layout.Transform.{Transform}
 use Rattle.gfx_dwt.specs.declared.layout.Transform.TheVariants.{Plain, Reduced}
@@ -114,6 +114,13 @@ sample_is t p0 p1 p2 p3 e1 k1 e2 k2 e y x p q =
     let before : k < part_start t Second = rw b.second_start h in
     k2 k before ∙ k1 k (omega arith))
     (λ r c h k. rw (b.second_start, b.second_size) at (second_is t p0 p1 p2 e1 k1 e2 r c (rw b.second_size h) (rw b.second_size k))) y x (rw b.whole p) (rw b.whole q)
+
+-- a level that is joined at the end of a whole plane
+pub level_at_end : (t : Transform) (l : Scale) (was now : List ℤ) → length was ≡ 4096 → ((y x : ℕ) → y < line_size t l → x < line_size t l → at now (length was - line_size t l * line_size t l + (y * line_size t l + x)) ≡ part_joined t l (drop (length was - line_size t l * line_size t l) was) y x) → IsLevelOf t l was now
+level_at_end t l was now e each = rw e at each
+
+pub kept_at_end : (t : Transform) (l : Scale) (was now : List ℤ) → length was ≡ 4096 → ((k : ℕ) → k < length was - line_size t l * line_size t l → at now k ≡ at was k) → KeepsBefore t l was now
+kept_at_end t l was now e kept = rw e at kept
 
 -- how large samples are
 pub sample_within : (t : Transform) (bound : ℕ) (p0 : List ℤ) → AllWithin bound p0 → (y x : ℕ) → y < 64 → x < 64 → Within (bound + 15 * bound + 15 * bound + 15 * bound) (sample t p0 y x)

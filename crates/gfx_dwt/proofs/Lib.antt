@@ -1,11 +1,13 @@
 pub mod Blocks
 pub mod Bounds
 pub mod Edges
+pub mod FirstLevel
 pub mod Levels
 pub mod NoDetail
 pub mod Pairs
 pub mod Planes
 pub mod Same
+pub mod Spans
 pub mod SplitBounds
 pub mod SplitLevels
 pub mod SplitLines

@@ -1,6 +1,5 @@
 -- Lines and levels whose high half is nought.
-use Rattle.std.proofs.Common.{Bool, true, false, ◌≡◌, ℕ, ◌+◌, ◌-◌, ◌*◌, ◌<◌, ◌≤◌, min, ℤ, pos, negsuc, ◌+ℤ◌, List, length, arith, lit≤, sym, refl, ap, ◌∙◌, ⊎_elim, below_more}
-use Rattle.std.specs.Prelude.{◌&&◌}
+use Rattle.std.proofs.Common.{◌≡◌, ℕ, ◌+◌, ◌-◌, ◌*◌, ◌<◌, ◌≤◌, min, ℤ, pos, negsuc, ◌+ℤ◌, List, arith, refl, ◌∙◌, ⊎_elim}
 use Rattle.std.proofs.lemmas.Int.{ints}
 use Rattle.gfx_dwt.specs.declared.layout.Transform.{Transform}
 use Rattle.gfx_dwt.specs.declared.layout.Transform.TheVariants.{Plain, Reduced}
@@ -8,18 +7,15 @@ use Rattle.gfx_dwt.specs.declared.layout.Scale.{Scale}
 use Rattle.gfx_dwt.specs.declared.layout.Scale.TheVariants.{First, Second, Third}
 use Rattle.gfx_dwt.specs.declared.layout.Band.{Band}
 use Rattle.gfx_dwt.specs.declared.layout.Band.TheVariants.{Hl1, Lh1, Hh1, Hl2, Lh2, Hh2, Hl3, Lh3, Hh3, Ll3}
-use Rattle.gfx_dwt.specs.Place.{coefficient, low_size, high_size, line_size, low_start, part_start, start}
+use Rattle.gfx_dwt.specs.Place.{coefficient, low_size, high_size, low_start, part_start, start}
 use Rattle.gfx_dwt.specs.Lifting.{halved, even_of, odd_of}
 use Rattle.gfx_dwt.specs.Joining.{behind, edged, lowered, even, odd, joined}
 use Rattle.gfx_dwt.specs.Ranges.{Within, at}
-use Rattle.gfx_dwt.specs.Samples.{cell, column, quarter, level_joined, part_joined, sample, second_level, third_level}
+use Rattle.gfx_dwt.specs.Samples.{level_joined, sample, second_level, third_level}
 use Rattle.gfx_dwt.proofs.Levels.{AreBandsOf, first_bands, nested, second_bands, third_bands}
-use borrow.Rule.Slice.PartMut.{put_mid}
-use Rattle.gfx_dwt.proofs.Edges.{by_parity, edged_inside, edged_behind, joined_even, joined_odd, high_le_low}
-use Rattle.gfx_dwt.proofs.Pairs.{PairsAre}
+use Rattle.gfx_dwt.proofs.Edges.{by_parity, edged_inside, edged_behind, joined_even, joined_odd}
 use Rattle.gfx_dwt.proofs.Planes.{place_in}
 use Rattle.gfx_dwt.proofs.Same.{inside_or_not, joined_within, joined_same}
-use Rattle.gfx_dwt.proofs.Strips.{mid_below, mid_within, earlier_row}
 
 -- a high half of noughts
 abbrev pub nought : ℕ → ℤ
@@ -69,84 +65,10 @@ pub odd_smooth : (t : Transform) (l : Scale) (low : ℕ → ℤ) (n m : ℕ) →
 unfolding odd
 odd_smooth t l low n m e = rw (e, edged_nought t l n, even_smooth t l low n, even_smooth t l low m) (odd_of_nought t (low n) (low m))
 
--- the pairs of a line before its last even sample
-pub smooth_pairs : (t : Transform) (l : Scale) (low : ℕ → ℤ) (xs : List ℤ) (k : ℕ) → k < low_size t l → PairsAre xs low (λ j. halved t (low j +ℤ low (j + 1))) k → PairsAre xs (even t l low nought) (odd t l low nought) k
-smooth_pairs t l low xs k h p = record {
-  evens_are = λ j q. p.evens_are j q ∙ sym (even_smooth t l low j);
-  odds_are = λ j q. p.odds_are j q ∙ sym (odd_smooth t l low j (j + 1) (omega arith));
-}
-
--- behind the pairs of a line stands its last even sample
-pub smooth_rest : (t : Transform) (l : Scale) (low : ℕ → ℤ) (k : ℕ) → 2 * (low_size t l - 1) ≤ k → k < line_size t l → low (low_size t l - 1) ≡ joined t l low nought k
-smooth_rest t l low k p q =
-    let le = high_le_low t l in
-    let n = low_size t l - 1 in
-    ⊎_elim
-    (λ h. let e : k ≡ 2 * n = omega arith in rw e (sym (joined_even t l low nought n ∙ even_smooth t l low n)))
-    (λ h.
-    let e : k ≡ 2 * n + 1 = omega arith in
-    rw e (sym (joined_odd t l low nought n ∙ odd_smooth t l low n n (omega arith) ∙ halved_twice t (low n))))
-    (inside_or_not k (2 * n + 1))
-
 -- where both halves of a line are nought, the line is nought
 pub joined_nought : (t : Transform) (l : Scale) (low high : ℕ → ℤ) → ((n : ℕ) → n < low_size t l → low n ≡ pos 0) → ((n : ℕ) → n < high_size t l → high n ≡ pos 0) → (k : ℕ) → k < low_size t l + high_size t l → joined t l low high k ≡ pos 0
 joined_nought t l low high p q k h =
     nought_of_within _ (joined_within t l 0 0 low high (λ n b. within_of_nought 0 _ (p n b)) (λ n b. within_of_nought 0 _ (q n b)) k h)
-
--- two rows more are written
-pub two_rows_put : (w s k : ℕ) (xs ys : List ℤ) (f : ℕ → ℕ → ℤ) → s * w + 2 * w ≤ length xs → length ys ≡ 2 * w → ((i c : ℕ) → i < s → c < w → cell w xs i c ≡ f i c) → ((c : ℕ) → c < w → at ys c ≡ f s c) → ((c : ℕ) → c < w → at ys (w + c) ≡ f (s + 1) c) → (i c : ℕ) → i < s + 2 → c < w → cell w (put_mid (s * w) k xs ys) i c ≡ f i c
-two_rows_put w s k xs ys f fits len before zeroth first i c h l =
-    let P : ℕ → Type 0 = λ j. cell w (put_mid (s * w) k xs ys) j c ≡ f j c in
-    let one : (s + 1) * w + c ≡ s * w + (w + c) = omega arith in
-    below_more P (s + 1)
-    (below_more P s
-    (λ j p. mid_below (s * w) k xs ys (j * w + c) (earlier_row w j s c p l) (omega arith) ∙ before j c p l)
-    (mid_within (s * w) k xs ys c (omega arith) (omega arith) ∙ zeroth c l))
-    (ap (at (put_mid (s * w) k xs ys)) one ∙ mid_within (s * w) k xs ys (w + c) (omega arith) (omega arith) ∙ first c l)
-    i (omega arith)
-
-pub is_even_smooth : (t : Transform) (l : Scale) (low : ℕ → ℤ) (n : ℕ) (z : ℤ) → z ≡ low n → z ≡ joined t l low nought (2 * n)
-is_even_smooth t l low n z e = e ∙ sym (joined_even t l low nought n ∙ even_smooth t l low n)
-
-pub is_odd_smooth : (t : Transform) (l : Scale) (low : ℕ → ℤ) (n : ℕ) (z a b : ℤ) → n + 1 < low_size t l → z ≡ halved t (a +ℤ b) → a ≡ low n → b ≡ low (n + 1) → z ≡ joined t l low nought (2 * n + 1)
-is_odd_smooth t l low n z a b h e p q = e ∙ rw (p, q) (sym (joined_odd t l low nought n ∙ odd_smooth t l low n (n + 1) (omega arith)))
-
-pub low_le_high : (t : Transform) (l : Scale) → low_size t l ≤ high_size t l + 2
-low_le_high Plain First = lit≤ tt
-low_le_high Plain Second = lit≤ tt
-low_le_high Plain Third = lit≤ tt
-low_le_high Reduced First = lit≤ tt
-low_le_high Reduced Second = lit≤ tt
-low_le_high Reduced Third = lit≤ tt
-
-pub low_start_is : (t : Transform) (l : Scale) → line_size t l * line_size t l - low_size t l * low_size t l ≡ low_size t l * high_size t l + high_size t l * low_size t l + high_size t l * high_size t l
-low_start_is Plain First = refl
-low_start_is Plain Second = refl
-low_start_is Plain Third = refl
-low_start_is Reduced First = refl
-low_start_is Reduced Second = refl
-low_start_is Reduced Third = refl
-
--- a level whose high quarters are nought, from the joined rows of its low quarter
-pub level_smooth : (t : Transform) (l : Scale) (part above : List ℤ) → ((k : ℕ) → k < low_start t l → at part k ≡ pos 0) → (x : ℕ) → x < line_size t l → ((r : ℕ) → r < low_size t l → at above (r * line_size t l + x) ≡ joined t l (quarter (low_start t l) (low_size t l) part r) nought x) → (y : ℕ) → y < line_size t l → joined t l (column (line_size t l) above x) nought y ≡ part_joined t l part y x
-unfolding part_joined level_joined
-level_smooth t l part above none x q rows y p =
-    let n = low_size t l in
-    let m = high_size t l in
-    joined_same t l _ _ _ _
-    (λ r h. rows r h ∙ joined_same t l _ _ _ _ (λ k b. refl) (λ k b. let i = place_in m n r k h b in sym (none (0 + (r * m + k)) (omega arith))) x q)
-    (λ r h. sym (joined_nought t l _ _
-    (λ k b. let i = place_in n m r k h b in none (n * m + (r * n + k)) (omega arith))
-    (λ k b. let i = place_in m m r k h b in none (n * m + m * n + (r * m + k)) (omega arith)) x q))
-    y p
-
-pub and_first : (a b : Bool) → a && b ≡ true → a ≡ true
-and_first true b h = refl
-and_first false b h = h
-
-pub and_second : (a b : Bool) → a && b ≡ true → b ≡ true
-and_second true b h = h
-and_second false b h = cc h
 
 -- a line whose low half is the same number everywhere, and whose high half is nought
 pub joined_flat : (t : Transform) (l : Scale) (c : ℤ) (low high : ℕ → ℤ) → ((n : ℕ) → n < low_size t l → low n ≡ c) → ((n : ℕ) → n < high_size t l → high n ≡ pos 0) → (k : ℕ) → k < low_size t l + high_size t l → joined t l low high k ≡ c

@@ -23,3 +23,10 @@ pub put_keeps : (xs ys : List ℤ) (k : ℕ) (v : ℤ) → ((j : ℕ) → k ≤ 
 put_keeps xs ys k v same j h =
     let apart : j ≢ k = omega arith in
     get_or-set_other xs k j v (pos 0) apart ∙ same j (omega arith)
+
+-- one place more is written, and of each there holds what shall
+pub put_holds : (P : ℕ → ℤ → Type 0) (xs : List ℤ) (k : ℕ) (v : ℤ) → k < length xs → P k v → ((j : ℕ) → j < k → P j (at xs j)) → (j : ℕ) → j < k + 1 → P j (at (set xs k v) j)
+put_holds P xs k v h here before =
+    below_more (λ j. P j (at (set xs k v) j)) k
+    (λ j l. let same : at (set xs k v) j ≡ at xs j = grind (arith, common_steps) in rw same (before j l))
+    (let same : at (set xs k v) k ≡ v = grind (arith, common_steps) in rw same here)

@@ -1,5 +1,5 @@
 -- A plane that is written row by row.
-use Rattle.std.proofs.Common.{◌≡◌, ℕ, zero, suc, ◌+◌, ◌-◌, ◌*◌, ◌<◌, ◌≤◌, ℤ, pos, List, ◌++◌, length, take, drop, arith, ap, refl, ◌∙◌, below_more, inl, inr, length-take}
+use Rattle.std.proofs.Common.{◌≡◌, ℕ, zero, suc, ◌+◌, ◌-◌, ◌*◌, ◌<◌, ◌≤◌, ℤ, pos, List, ◌++◌, length, take, drop, arith, ap, refl, ◌∙◌, below_more, inl, inr, length-append, length-drop, length-take}
 use Rattle.std.proofs.lemmas.List.{get_or_append_left, get_or-append_right, get_or-take, get_or-drop}
 use Rattle.std.proofs.lemmas.Nat.{row_fits}
 use borrow.Rule.Slice.PartMut.{put_mid}
@@ -19,14 +19,9 @@ mid_within a k xs ys n h l =
     get_or-append_right (take a xs) (ys ++ drop k (drop a xs)) a (a + n) (pos 0) (omega (arith, length-take {A = ℤ})) (omega arith)
     ∙ rw e (get_or_append_left ys (drop k (drop a xs)) (pos 0) n h)
 
-pub mid_above : (a k : ℕ) (xs ys : List ℤ) (n : ℕ) → a + k ≤ n → a ≤ length xs → length ys ≡ k → at (put_mid a k xs ys) n ≡ at xs n
-mid_above a k xs ys n h l e =
-    let i : a + (k + (n - a - k)) ≡ n = omega arith in
-    get_or-append_right (take a xs) (ys ++ drop k (drop a xs)) a n (pos 0) (omega (arith, length-take {A = ℤ})) (omega arith)
-    ∙ get_or-append_right ys (drop k (drop a xs)) k (n - a) (pos 0) e (omega arith)
-    ∙ get_or-drop k (drop a xs) (n - a - k) (pos 0)
-    ∙ get_or-drop a xs (k + (n - a - k)) (pos 0)
-    ∙ ap (at xs) i
+-- a part gives way to one of its length
+pub put_long : (a k : ℕ) (xs ys : List ℤ) → a + k ≤ length xs → length ys ≡ k → length (put_mid a k xs ys) ≡ length xs
+put_long a k xs ys h e = omega (arith, h, e, length-append {A = ℤ}, length-take {A = ℤ}, length-drop {A = ℤ})
 
 -- a place of an earlier row stands before a later row
 pub earlier_row : (w i r c : ℕ) → i < r → c < w → i * w + c < r * w
@@ -40,7 +35,7 @@ row_put w r k xs ys f fits len before here i c h l =
     (mid_within (r * w) k xs ys c (omega arith) (omega arith) ∙ here c l)
     i h
 
-nought_at : (n k : ℕ) → at (replicate n (pos 0)) k ≡ pos 0
+pub nought_at : (n k : ℕ) → at (replicate n (pos 0)) k ≡ pos 0
 nought_at zero k = refl
 nought_at (suc n) zero = refl
 nought_at (suc n) (suc k) = nought_at n k

@@ -6,3 +6,4 @@ pub mod Joining
 pub mod Splitting
 pub mod Samples
 pub mod Coefficients
+pub mod Narrow

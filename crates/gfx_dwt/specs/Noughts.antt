@@ -1,4 +1,4 @@
--- Noughts at the front of a plane, and planes of one number (this project's own words).
+-- Noughts at the front of a plane, and lists of one number (this project's own words).
 use Rattle.std.specs.Prelude.{◌≡◌, ◌≢◌, ℕ, ◌+◌, ◌%◌, ◌<◌, ◌≤◌, ℤ, pos, List, length}
 use Rattle.gfx_dwt.specs.Ranges.{at}
 
@@ -9,14 +9,6 @@ AllAre one values = (k : ℕ) → k < length values → at values k ≡ one
 -- some number of a list is another
 abbrev pub SomeIsNot : ℤ → List ℤ → Type 0
 SomeIsNot one values = (k : ℕ) × (k < length values) × (at values k ≢ one)
-
--- each number of a plane is its first
-abbrev pub IsSolid : List ℤ → Type 0
-IsSolid plane = (k : ℕ) → k < 4096 → at plane k ≡ at plane 0
-
--- some number of a plane is another than its first
-abbrev pub Varies : List ℤ → Type 0
-Varies plane = (k : ℕ) × (k < 4096) × (at plane k ≢ at plane 0)
 
 -- the blocks of 64 numbers before a place are nought, and the one behind it, if the plane doesn't end there, is not
 pub record BlankBlocks (plane : List ℤ) (place : ℕ) : Type 0 where

@@ -1,6 +1,5 @@
-ghost use Rattle.std.specs.Prelude.{pos, ◌≡◌, ◌≢◌, ℕ, ◌<◌, ◌≤◌, length, IsTrue, MatchBool};
-ghost use Rattle.gfx_dwt.specs.Noughts.{AllAre, BlankBlocks, IsSolid, SomeIsNot, Varies};
-ghost use Rattle.gfx_dwt.specs.Ranges.{at};
+ghost use Rattle.std.specs.Prelude.{pos, ◌≡◌, ◌≢◌, MatchBool};
+ghost use Rattle.gfx_dwt.specs.Noughts.{AllAre, BlankBlocks, SomeIsNot};
 
 /// How many numbers are looked at together.
 const BLOCK: usize = 64;
@@ -39,57 +38,35 @@ pub fn noughts_before(plane: &[i32; 4096]) -> usize
 }
 
 #[inline]
-fn is_same(value: i32, other: i32) -> bool
+fn is_same(value: i16, other: i16) -> bool
     ensures { MatchBool result (value ≡ other) (value ≢ other) }
 {
     value == other
 }
 
-/// Whether all numbers are this one.
+/// Whether all numbers of a block are this one.
+// No early return, as above.
 #[inline]
-fn are_all(values: &[i32], one: i32) -> bool
-    ensures { MatchBool result (AllAre one values.now) (SomeIsNot one values.now) }
+fn are_same(block: &[i16], one: i16) -> bool
+    ensures { MatchBool result (AllAre one block.now) (SomeIsNot one block.now) }
 {
     let mut same = true;
-    for place in 0..values.len() {
-        same &= is_same(values[place], one);
+    for place in 0..block.len() {
+        same &= is_same(block[place], one);
     }
     same
 }
 
-/// Whether all numbers of a plane before a place are nought, and those behind it the same. Of the first, so many
-/// are known to be nought; it looks at others only if they are fewer than a block.
-pub fn is_flat(plane: &[i32; 4096], start: usize, noughts: usize) -> bool
-    requires start { start ≤ 4096 }
-    requires noughts { (k : ℕ) → k < noughts → at plane.now k ≡ pos 0 }
-    ensures before { IsTrue result → (k : ℕ) → k < start → at plane.now k ≡ pos 0 }
-    ensures behind { IsTrue result → (k : ℕ) → start ≤ k → k < 4096 → at plane.now k ≡ at plane.now 4095 }
+/// Whether all numbers of a slice are this one; it stops at the first block that has another.
+pub fn all_are(values: &[i16], one: i16) -> bool
+    ensures { MatchBool result (AllAre one values.now) (SomeIsNot one values.now) }
 {
-    let known = noughts.min(start);
-    if known + BLOCK <= start {
-        return false;
-    }
-    are_nought(&plane[known..start]) & are_all(&plane[start..], plane[4095])
-}
-
-/// Puts one number in all places.
-pub fn fill(out: &mut [i32], value: i32)
-    ensures { (k : ℕ) → k < length out.old → at out.new k ≡ value }
-{
-    for place in 0..out.len() {
-        out[place] = value;
-    }
-}
-
-/// Whether all numbers of a plane are the same.
-pub fn is_solid(plane: &[i32; 4096]) -> bool
-    ensures { MatchBool result (IsSolid plane.now) (Varies plane.now) }
-{
-    for block in 0..64 {
+    let blocks = values.len() / BLOCK;
+    for block in 0..blocks {
         let start = BLOCK * block;
-        if !are_all(&plane[start..start + BLOCK], plane[0]) {
+        if !are_same(&values[start..start + BLOCK], one) {
             return false;
         }
     }
-    true
+    are_same(&values[BLOCK * blocks..], one)
 }

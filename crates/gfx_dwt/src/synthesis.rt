@@ -1,15 +1,14 @@
-ghost use Rattle.std.specs.Prelude.{pos, drop, ◌≡◌, ℕ, ◌+◌, ◌-◌, ◌*◌, ◌<◌, ◌≤◌, ◌^◌, length};
+ghost use Rattle.std.specs.Prelude.{drop, ◌≡◌, ℕ, ◌+◌, ◌-◌, ◌*◌, ◌<◌, ◌≤◌, ◌^◌, length};
 ghost use Rattle.gfx_dwt.specs.Joining.{joined};
-ghost use Rattle.gfx_dwt.specs.Place.{high_size, line_size, low_size, low_start, part_start};
+ghost use Rattle.gfx_dwt.specs.Place.{high_size, line_size, low_size, low_start};
 ghost use Rattle.gfx_dwt.specs.Ranges.{AllCoefficients, AllWithin, at};
 ghost use Rattle.gfx_dwt.specs.Samples.{cell, part_joined, quarter, sample};
 
 use crate::joining::{join_columns, join_rows};
 use crate::layout::{Scale, Transform};
-use crate::noughts::{fill, is_flat, noughts_before};
-use crate::smooth::{smooth_columns, smooth_rows};
 
 /// Joins all rows of a level's part: LL with HL above, LH with HH below.
+#[inline(always)]
 fn join_quarters(
     transform: Transform,
     level: Scale,
@@ -36,6 +35,7 @@ fn join_quarters(
 }
 
 /// Joins a level in the part of the plane that it fills.
+#[inline(always)]
 fn join_level(transform: Transform, level: Scale, part: &mut [i32], tmp: &mut [i32])
     requires part_len { length part.old ≡ line_size transform level * line_size transform level }
     requires tmp_len { length tmp.old ≡ length part.old }
@@ -49,83 +49,20 @@ fn join_level(transform: Transform, level: Scale, part: &mut [i32], tmp: &mut [i
     join_columns(transform, level, above, below, part, width);
 }
 
-/// Joins a level in the plane; the bands before its part stay.
-fn join_in_plane(transform: Transform, level: Scale, plane: &mut [i32; 4096], tmp: &mut [i32; 4096])
-    requires { AllWithin (2 ^ 26) plane.old }
-    ensures each { (y x : ℕ) → y < line_size transform level → x < line_size transform level → at plane.new (part_start transform level + (y * line_size transform level + x)) ≡ part_joined transform level (drop (part_start transform level) plane.old) y x }
-    ensures kept { (k : ℕ) → k < part_start transform level → at plane.new k ≡ at plane.old k }
+/// Joins a level in the part that it fills at the end of a plane, or of a part of one; what stands before it stays.
+#[inline(always)]
+pub fn join_in_plane(transform: Transform, level: Scale, plane: &mut [i32], tmp: &mut [i32])
+    requires plane_len { line_size transform level * line_size transform level ≤ length plane.old }
+    requires tmp_len { line_size transform level * line_size transform level ≤ length tmp.old }
+    requires within { AllWithin (2 ^ 26) plane.old }
+    ensures each { (y x : ℕ) → y < line_size transform level → x < line_size transform level → at plane.new (length plane.old - line_size transform level * line_size transform level + (y * line_size transform level + x)) ≡ part_joined transform level (drop (length plane.old - line_size transform level * line_size transform level) plane.old) y x }
+    ensures kept { (k : ℕ) → k < length plane.old - line_size transform level * line_size transform level → at plane.new k ≡ at plane.old k }
     ensures within { (bound : ℕ) → AllWithin bound plane.old → AllWithin (16 * bound) plane.new }
 {
     let width = level.low_size(transform) + level.high_size(transform);
     let size = width * width;
-    join_level(
-        transform,
-        level,
-        &mut plane[4096 - size..],
-        &mut tmp[..size],
-    );
-}
-
-/// Joins a level whose high quarters are nought, in the part of the plane that it fills.
-fn smooth_level(transform: Transform, level: Scale, part: &mut [i32], tmp: &mut [i32])
-    requires part_len { length part.old ≡ line_size transform level * line_size transform level }
-    requires tmp_len { length tmp.old ≡ length part.old }
-    requires part { AllWithin (2 ^ 26) part.old }
-    requires noughts { (k : ℕ) → k < low_start transform level → at part.old k ≡ pos 0 }
-    ensures each { (y x : ℕ) → y < line_size transform level → x < line_size transform level → cell (line_size transform level) part.new y x ≡ part_joined transform level part.old y x }
-    ensures within { (bound : ℕ) → AllWithin bound part.old → AllWithin (16 * bound) part.new }
-{
-    let low_size = level.low_size(transform);
-    let width = low_size + level.high_size(transform);
-    let (above, _) = tmp.split_at_mut(low_size * width);
-    let (_, low) = part.split_at(width * width - low_size * low_size);
-    smooth_rows(transform, level, low, above, low_size);
-    smooth_columns(transform, level, above, part, width);
-}
-
-/// Joins a level whose high quarters are nought in the plane; the bands before its part stay.
-fn smooth_in_plane(
-    transform: Transform,
-    level: Scale,
-    plane: &mut [i32; 4096],
-    tmp: &mut [i32; 4096],
-)
-    requires within { AllWithin (2 ^ 26) plane.old }
-    requires noughts { (k : ℕ) → k < part_start transform level + low_start transform level → at plane.old k ≡ pos 0 }
-    ensures each { (y x : ℕ) → y < line_size transform level → x < line_size transform level → at plane.new (part_start transform level + (y * line_size transform level + x)) ≡ part_joined transform level (drop (part_start transform level) plane.old) y x }
-    ensures kept { (k : ℕ) → k < part_start transform level → at plane.new k ≡ at plane.old k }
-    ensures within { (bound : ℕ) → AllWithin bound plane.old → AllWithin (16 * bound) plane.new }
-{
-    let width = level.low_size(transform) + level.high_size(transform);
-    let size = width * width;
-    smooth_level(
-        transform,
-        level,
-        &mut plane[4096 - size..],
-        &mut tmp[..size],
-    );
-}
-
-/// Joins a level in the plane, of which so many places at its front are nought.
-fn join_next(
-    transform: Transform,
-    level: Scale,
-    plane: &mut [i32; 4096],
-    tmp: &mut [i32; 4096],
-    noughts: usize,
-)
-    requires within { AllWithin (2 ^ 26) plane.old }
-    requires noughts { (k : ℕ) → k < noughts → k < part_start transform level + low_start transform level → at plane.old k ≡ pos 0 }
-    ensures each { (y x : ℕ) → y < line_size transform level → x < line_size transform level → at plane.new (part_start transform level + (y * line_size transform level + x)) ≡ part_joined transform level (drop (part_start transform level) plane.old) y x }
-    ensures kept { (k : ℕ) → k < part_start transform level → at plane.new k ≡ at plane.old k }
-    ensures within { (bound : ℕ) → AllWithin bound plane.old → AllWithin (16 * bound) plane.new }
-{
-    let low_size = level.low_size(transform);
-    if 4096 - low_size * low_size <= noughts {
-        smooth_in_plane(transform, level, plane, tmp);
-    } else {
-        join_in_plane(transform, level, plane, tmp);
-    }
+    let start = plane.len() - size;
+    join_level(transform, level, &mut plane[start..], &mut tmp[..size]);
 }
 
 /// Turns coefficients in band order into samples row by row ([MS-RDPRFX] 3.1.8.1.4, and [MS-RDPEGFX] for
@@ -135,19 +72,9 @@ pub fn inverse_with(plane: &mut [i32; 4096], transform: Transform, tmp: &mut [i3
     ensures samples { (y x : ℕ) → y < 64 → x < 64 → cell 64 plane.new y x ≡ sample transform plane.old y x }
     ensures within { AllWithin 1507328 plane.new }
 {
-    let noughts = noughts_before(plane);
-    if noughts == 4096 {
-        return;
-    }
-    let low_size = Scale::Third.low_size(transform);
-    if is_flat(plane, 4096 - low_size * low_size, noughts) {
-        let value = plane[4095];
-        fill(plane, value);
-        return;
-    }
-    join_next(transform, Scale::Third, plane, tmp, noughts);
-    join_next(transform, Scale::Second, plane, tmp, noughts);
-    join_next(transform, Scale::First, plane, tmp, noughts);
+    join_in_plane(transform, Scale::Third, plane, tmp);
+    join_in_plane(transform, Scale::Second, plane, tmp);
+    join_in_plane(transform, Scale::First, plane, tmp);
 }
 
 /// Turns coefficients in band order into samples row by row ([MS-RDPRFX] 3.1.8.1.4, and [MS-RDPEGFX] for

@@ -9,7 +9,7 @@ use Rattle.gfx_dwt.specs.declared.layout.Band.TheVariants.{Hl1, Lh1, Hh1, Hl2, L
 use Rattle.gfx_dwt.specs.Place.{LiesIn, number, start, size}
 use Rattle.gfx_dwt.specs.Ranges.{AllCoefficients, IsCoefficient}
 use Rattle.gfx_quant.specs.Coefficient.{coefficient_of, is_coefficient}
-use Rattle.gfx_quant.specs.Planes.{MapsBands, PlaneHas}
+use Rattle.gfx_quant.specs.Planes.{AllHave, MapsBands, PlaneHas}
 use Rattle.gfx_quant.specs.Quant.{value_of}
 
 last_end : (t : Transform) → start t Ll3 + size t Ll3 ≡ 4096
@@ -78,3 +78,9 @@ pub scaled_coefficients : (t : Transform) (positions : List ℕ) (old new : List
 scaled_coefficients t positions old new len has maps k h =
     let place : (band : Band) × LiesIn t band k = some_band t k (omega arith) in
     rw (maps place.0 k place.1) (coefficient_fact _ (has place.0 k (few place.0) place.1))
+
+-- the values of a band have coefficients where the plane's have
+pub band_have : (t : Transform) (positions : List ℕ) (plane : List ℤ) (band : Band) (position from count : ℕ) → position ≡ value_of positions band → from ≡ start t band → count ≡ size t band → PlaneHas 10 t positions plane → AllHave position plane from (from + count)
+band_have t positions plane band position from count ep es ez has k a b =
+    let lies : LiesIn t band k = (omega arith, omega arith) in
+    rw ep (has band k (few band) lies)

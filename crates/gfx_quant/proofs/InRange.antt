@@ -4,7 +4,7 @@ use Rattle.std.specs.Prelude.{◌&&◌, ◌⊎◌, MatchBool}
 use Rattle.std.proofs.lemmas.Int.{ints}
 use Rattle.std.proofs.Math.Nat.{mul-le-mul_right, div-mul-le_self, one-le-pow}
 use Rattle.gfx_dwt.specs.Ranges.{at}
-use Rattle.gfx_quant.specs.Coefficient.{is_coefficient}
+use Rattle.gfx_quant.specs.Coefficient.{coefficient_of, is_coefficient}
 use Rattle.gfx_quant.specs.Planes.{AllHave, SomeLacks, has_coefficient}
 
 below_is : (x : ℕ) → x < 32768 → is_coefficient (pos x) ≡ true
@@ -57,6 +57,10 @@ either n m = grind arith
 -- nought has a coefficient at each bit position
 pub nought_has : (position : ℕ) (v : ℤ) → v ≡ pos 0 → has_coefficient position v ≡ true
 nought_has position v e = rw e (below_is (0 * 2 ^ (position - 1)) (omega arith))
+
+-- what nought is scaled to
+pub nought_scaled : (position : ℕ) (v : ℤ) → v ≡ pos 0 → pos 0 ≡ coefficient_of v position
+nought_scaled position v e = rw e (omega (arith, ints))
 
 -- the values before a place are nought
 pub fewer_have : (position : ℕ) (values : List ℤ) (from middle to : ℕ) (fits : Bool) → from ≤ middle → middle ≤ to → ((k : ℕ) → from ≤ k → k < middle → at values k ≡ pos 0) → MatchBool fits (AllHave position values middle to) (SomeLacks position values middle to) → MatchBool fits (AllHave position values from to) (SomeLacks position values from to)

@@ -10,3 +10,4 @@ pub mod Nibbles
 pub mod Numbers
 pub mod Accepted
 pub mod Rests
+pub mod Shifts

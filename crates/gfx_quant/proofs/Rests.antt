@@ -1,5 +1,5 @@
 -- A row of pixels in 16 bits.
-use Rattle.std.proofs.Common.{◌≡◌, ◌≢◌, ℕ, ℤ, pos, negsuc, ◌+◌, ◌-◌, ◌*◌, ◌/◌, ◌%◌, ◌^◌, ◌<◌, ◌+ℤ◌, ◌-ℤ◌, ◌*ℤ◌, List, length, Some, get_or, set, arith, refl, ap, subst, ◌∙◌, to_z, of_z, w16, below_more, inl, inr}
+use Rattle.std.proofs.Common.{◌≡◌, ◌≢◌, ℕ, ℤ, pos, negsuc, ◌+◌, ◌-◌, ◌*◌, ◌/◌, ◌%◌, ◌^◌, ◌<◌, ◌≤◌, ◌+ℤ◌, ◌-ℤ◌, ◌*ℤ◌, ◌<ℤ◌, ◌≤ℤ◌, List, length, Some, get_or, set, arith, refl, ap, subst, ◌∙◌, FitsSigned, to_z, of_z, w16, below_more, inl, inr}
 use Rattle.std.proofs.lemmas.Int.{ints, to_z-of_z}
 use Rattle.std.proofs.lemmas.Bool.{cases_lt}
 use Rattle.std.proofs.lemmas.Grind.{common_steps}
@@ -7,7 +7,7 @@ use Rattle.std.proofs.lemmas.Option.{get_or_from_slice_get, gets}
 use Rattle.std.specs.Int.{int_shr}
 use Rattle.std.specs.Prelude.{slice_get}
 use Rattle.gfx_base.specs.declared.pixel.Pixel.{Pixel}
-use Rattle.gfx_dwt.specs.Ranges.{Within, at}
+use Rattle.gfx_dwt.specs.Ranges.{Within}
 use Rattle.gfx_quant.specs.Colour.{channel, clamped, colour_of, lifted}
 use Rattle.gfx_quant.proofs.Floors.{Floor, floor_65536, quick_channel_is}
 use Rattle.gfx_quant.proofs.Steps.{slice_get-set_same, slice_get-set_other}
@@ -60,10 +60,6 @@ red_is y cr rest part total wide byte d e g h i =
 short_bits : (z : ℤ) → Within 8191 z → to_z w16 (of_z w16 z) ≡ z
 short_bits (pos n) h = to_z-of_z w16 (pos n) (record { sfits = omega (arith, ints) })
 short_bits (negsuc n) h = to_z-of_z w16 (negsuc n) (record { sfits = omega (arith, ints) })
-
--- a small sample of a row is read from 16 bits as it stands
-abbrev pub IsShort : List ℤ → ℕ → ℕ → ℤ → Type 0
-IsShort plane from k z = Within 8191 z → z ≡ at plane (from + k)
 
 pub low_read : (y cb cr : ℤ) → Within 8191 y → Within 8191 cb → Within 8191 cr
     → channel (to_z w16 (of_z w16 y)) (pos 115992 *ℤ to_z w16 (of_z w16 cb)) + 256 * channel (to_z w16 (of_z w16 y)) (negsuc 22526 *ℤ to_z w16 (of_z w16 cb) +ℤ negsuc 46818 *ℤ to_z w16 (of_z w16 cr))
@@ -138,18 +134,28 @@ pub low_is : (y cb cr : ℤ) (b g low : ℕ) → Within 8191 y → Within 8191 c
     → low ≡ b + 256 * g → low ≡ channel y (pos 115992 *ℤ cb) + 256 * channel y (negsuc 22526 *ℤ cb +ℤ negsuc 46818 *ℤ cr)
 low_is y cb cr b g low p q r d e f = f ∙ rw (d, e) (low_read y cb cr p q r)
 
--- a row's samples in 16 bits have its pixels
-pub row_is : (y cb cr y' cb' cr' : ℤ) (out : List Pixel) (n : ℕ) → y' ≡ y → cb' ≡ cb → cr' ≡ cr → slice_get out n ≡ Some (colour_of y' cb' cr') → slice_get out n ≡ Some (colour_of y cb cr)
-row_is y cb cr y' cb' cr' out n d e f h = rw (← d, ← e, ← f) h
-
--- where nothing is added, all channels are the same
-pub grey_is : (y total wide : ℤ) (byte : ℕ) → total ≡ y +ℤ pos 4096 → wide ≡ total → byte ≡ clamped (int_shr wide 5) → pixel_by byte byte byte ≡ colour_of y (pos 0) (pos 0)
+-- a channel where nothing is added
+grey_is : (y total wide : ℤ) (byte : ℕ) → total ≡ y +ℤ pos 4096 → wide ≡ total → byte ≡ clamped (int_shr wide 5) → byte ≡ channel y (pos 0)
 grey_is y total wide byte e f g =
     let more : total ≡ y +ℤ pos 4096 +ℤ (pos 0 +ℤ pos 0) = omega (arith, ints, e) in
-    let blue : byte ≡ channel y (pos 115992 *ℤ pos 0) = channel_is y _ (pos 0) (pos 0) (pos 0) total wide byte refl refl more f g in
-    let green : byte ≡ channel y (negsuc 22526 *ℤ pos 0 +ℤ negsuc 46818 *ℤ pos 0) = channel_is y _ (pos 0) (pos 0) (pos 0) total wide byte refl refl more f g in
-    let red : byte ≡ channel y (pos 91916 *ℤ pos 0) = channel_is y _ (pos 0) (pos 0) (pos 0) total wide byte refl refl more f g in
-    λ i. pixel_by (blue i) (green i) (red i)
+    channel_is y _ (pos 0) (pos 0) (pos 0) total wide byte refl refl more f g
+
+white : (n : ℕ) → 4095 ≤ n → 255 ≡ clamped (int_shr (pos n +ℤ pos 4096) 5)
+white n h = omega arith
+
+-- the same, where what is white anyway is cut first
+pub capped_grey_is : (y total wide : ℤ) (byte : ℕ) → (y <ℤ pos 4095 → total ≡ y +ℤ pos 4096) → (pos 4095 ≤ℤ y → total ≡ pos 8191) → wide ≡ total → byte ≡ clamped (int_shr wide 5) → byte ≡ channel y (pos 0)
+capped_grey_is (pos n) total wide byte low high f g = elim (cases_lt n 4095) [
+  | inl h ↦ grey_is (pos n) total wide byte (low (omega (arith, ints))) f g
+  | inr h ↦
+      let cut : wide ≡ pos 8191 = f ∙ high (omega (arith, ints)) in
+      grey_is (pos n) (pos n +ℤ pos 4096) (pos n +ℤ pos 4096) byte refl refl (g ∙ ap (λ (z : ℤ). clamped (int_shr z 5)) cut ∙ white n h)
+]
+capped_grey_is (negsuc n) total wide byte low high f g = grey_is (negsuc n) total wide byte (low (omega (arith, ints))) f g
+
+-- samples of 16 bits are read from a plane as they stand there
+pub colour_read_narrow : (y cb cr : ℤ) → FitsSigned w16 y → FitsSigned w16 cb → FitsSigned w16 cr → colour_of (to_z w16 (of_z w16 y)) (to_z w16 (of_z w16 cb)) (to_z w16 (of_z w16 cr)) ≡ colour_of y cb cr
+colour_read_narrow y cb cr p q r = rw (to_z-of_z w16 y p, to_z-of_z w16 cb q, to_z-of_z w16 cr r) refl
 
 -- one more pixel of a tile
 pub tile_painted : (f : ℕ → Pixel) (xs : List Pixel) (i : ℕ) (x : Pixel) → i < length xs → x ≡ f i → ((k : ℕ) → k < i → slice_get xs k ≡ Some (f k)) → (k : ℕ) → k < i + 1 → slice_get (set xs i x) k ≡ Some (f k)

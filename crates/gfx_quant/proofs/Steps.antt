@@ -1,6 +1,7 @@
 -- One more place of a loop over a plane.
-use Rattle.std.proofs.Common.{◌≡◌, ◌≢◌, ℕ, ◌+◌, ◌<◌, ◌≤◌, ◌^◌, ◌-◌, ◌*ℤ◌, ℤ, pos, negsuc, List, length, Some, get_or, set, arith, get_or-set_other, get_or-set_same, below_more, ap, refl, ◌∙◌, to_z, of_z, w32, lit<}
+use Rattle.std.proofs.Common.{◌≡◌, ◌≢◌, ℕ, ◌+◌, ◌<◌, ◌≤◌, ◌^◌, ℤ, pos, negsuc, List, length, Some, get_or, set, arith, get_or-set_other, get_or-set_same, below_more, ap, refl, ◌∙◌, to_z, of_z, w32, lit<, inl, inr}
 use Rattle.std.proofs.lemmas.Int.{ints, to_z-of_z}
+use Rattle.std.proofs.lemmas.Bool.{cases_lt}
 use Rattle.std.proofs.lemmas.Grind.{common_steps}
 use Rattle.std.proofs.lemmas.Option.{get_or_from_slice_get, gets}
 use Rattle.std.specs.Prelude.{slice_get}
@@ -8,7 +9,6 @@ use lib.Signed.{mag}
 use Rattle.gfx_base.specs.declared.pixel.Pixel.{Pixel}
 use Rattle.gfx_dwt.specs.Ranges.{IsSample, Within, at}
 use Rattle.gfx_quant.specs.Colour.{colour_of}
-use Rattle.gfx_quant.specs.Coefficient.{coefficient_of}
 use Rattle.gfx_quant.specs.Planes.{MapsBetween}
 
 -- a number that fits 32 bits is read back from them
@@ -57,6 +57,13 @@ maps_step f from i source old now x order inside here before = record {
   behind = λ k h. let apart : k ≢ i = omega arith in get_or-set_other now i k x (pos 0) apart ∙ before.behind k (omega arith);
 }
 
--- what a value that is still due is scaled to
-pub scaled_is : (position : ℕ) (source now x weight : ℤ) → x ≡ now *ℤ weight → weight ≡ pos (2 ^ (position - 1)) → now ≡ source → x ≡ coefficient_of source position
-scaled_is position source now x weight e f g = e ∙ ap (λ (z : ℤ). z *ℤ weight) g ∙ ap (λ (z : ℤ). source *ℤ z) f
+-- numbers that f maps to nought, which are put first, and those behind them
+pub maps_joined : (f : ℤ → ℤ) (from middle to : ℕ) (source old now new : List ℤ) → from ≤ middle → middle ≤ to → ((k : ℕ) → from ≤ k → k < middle → pos 0 ≡ f (at source k)) → MapsBetween (λ _. pos 0) from middle old old now → MapsBetween f middle to source now new → MapsBetween f from to source old new
+maps_joined f from middle to source old now new one two none first second = record {
+  inside = λ k a b. elim (cases_lt k middle) [
+    | inl h ↦ second.below k h ∙ first.inside k a h ∙ none k a h
+    | inr h ↦ second.inside k h b
+  ];
+  below = λ k h. second.below k (omega arith) ∙ first.below k h;
+  behind = λ k h. second.behind k h ∙ first.behind k (omega arith);
+}

@@ -7,7 +7,7 @@ use gfx_dwt::Band;
 
 /// What a value at this bit position is multiplied by.
 #[inline]
-pub(crate) fn weight(position: u8) -> i32
+fn weight(position: u8) -> i32
     requires low { 1 ≤ position }
     requires high { position ≤ 30 }
     ensures { result ≡ pos (2 ^ (position - 1)) }

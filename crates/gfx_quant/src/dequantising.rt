@@ -1,4 +1,4 @@
-ghost use Rattle.std.specs.Prelude.{◌≡◌, ℕ, ◌≤◌, ◌<◌, ◌-◌, ◌+◌, ◌/◌, ◌^◌, pos, neg_ℤ, ◌*ℤ◌, ◌≤ℤ◌, ◌<ℤ◌, ◌⊎◌, length, IsTrue, MatchBool};
+ghost use Rattle.std.specs.Prelude.{◌≡◌, ℕ, ◌≤◌, ◌<◌, ◌-◌, ◌+◌, ◌/◌, ◌^◌, pos, neg_ℤ, ◌≤ℤ◌, ◌<ℤ◌, ◌⊎◌, length, IsTrue, MatchBool};
 ghost use Rattle.gfx_dwt.specs.Place.{number};
 ghost use Rattle.gfx_dwt.specs.Ranges.{AllCoefficients, IsCoefficient, at};
 ghost use Rattle.gfx_quant.specs.Coefficient.{coefficient_of};
@@ -6,7 +6,6 @@ ghost use Rattle.gfx_quant.specs.Planes.{AllHave, ArePositions, BandLeavesRange,
 ghost use Rattle.gfx_quant.specs.Quant.{value_of};
 
 use crate::bands::{band_size, band_start, nth_band};
-use crate::coefficients::weight;
 use gfx_dwt::{Transform, noughts_before};
 
 /// The least value that has a coefficient at this bit position.
@@ -77,12 +76,15 @@ fn all_have(values: &[i32], from: usize, to: usize, position: u8) -> bool
     is_between(lowest, least, most) & is_between(highest, least, most)
 }
 
+// A shift: the processor multiplies four numbers in two slow steps.
 #[inline]
-fn scaled(v: i32, weight: i32) -> i32
-    requires { IsCoefficient (v *ℤ weight) }
-    ensures { result ≡ v *ℤ weight }
+fn scaled(v: i32, position: u8) -> i32
+    requires low { 1 ≤ position }
+    requires high { position ≤ 30 }
+    requires fits { IsCoefficient (coefficient_of v position) }
+    ensures { result ≡ coefficient_of v position }
 {
-    v * weight
+    v << (position - 1)
 }
 
 /// Puts the coefficients in place of the values from one place to before another.
@@ -95,9 +97,8 @@ fn scale(values: &mut [i32], from: usize, to: usize, position: u8)
     requires fits { AllHave position values.old from to }
     ensures { MapsBetween (λ v. coefficient_of v position) from to values.old values.old values.new }
 {
-    let weight = weight(position);
     for place in from..to {
-        values[place] = scaled(values[place], weight);
+        values[place] = scaled(values[place], position);
     }
 }
 
@@ -201,6 +202,116 @@ pub fn dequantise_plane(plane: &mut [i32; 4096], transform: Transform, positions
     let fits = plane_has(plane, transform, positions, noughts);
     if fits {
         scale_plane(plane, transform, positions, noughts);
+    }
+    fits
+}
+
+// What leaves 16 bits is cut to their end, which the processor does as it narrows; a coefficient doesn't leave them.
+#[inline]
+fn narrowed(number: i32) -> i16
+    requires { IsCoefficient number }
+    ensures { result ≡ number }
+{
+    number.clamp(-32768, 32767) as i16
+}
+
+/// Puts nought in all places from one to before another.
+#[inline]
+fn clear(out: &mut [i16], from: usize, to: usize)
+    requires order { from ≤ to }
+    requires end { to ≤ length out.old }
+    ensures { MapsBetween (λ _. pos 0) from to out.old out.old out.new }
+{
+    for place in from..to {
+        out[place] = 0;
+    }
+}
+
+/// Puts the coefficients of the values from one place to before another.
+#[inline]
+fn narrow(values: &[i32], from: usize, to: usize, position: u8, out: &mut [i16])
+    requires order { from ≤ to }
+    requires end { to ≤ length values.now }
+    requires out { to ≤ length out.old }
+    requires low { 1 ≤ position }
+    requires high { position ≤ 30 }
+    requires fits { AllHave position values.now from to }
+    ensures { MapsBetween (λ v. coefficient_of v position) from to values.now out.old out.new }
+{
+    for place in from..to {
+        out[place] = narrowed(scaled(values[place], position));
+    }
+}
+
+/// Puts the coefficients of the values of a band; before a place they are nought.
+#[inline]
+fn narrow_band(
+    values: &[i32],
+    from: usize,
+    to: usize,
+    position: u8,
+    noughts: usize,
+    out: &mut [i16],
+)
+    requires order { from ≤ to }
+    requires end { to ≤ length values.now }
+    requires out { to ≤ length out.old }
+    requires low { 1 ≤ position }
+    requires high { position ≤ 30 }
+    requires noughts { (k : ℕ) → from ≤ k → k < to → k < noughts → at values.now k ≡ pos 0 }
+    requires fits { AllHave position values.now from to }
+    ensures { MapsBetween (λ v. coefficient_of v position) from to values.now out.old out.new }
+{
+    let known = noughts.max(from).min(to);
+    clear(out, from, known);
+    narrow(values, known, to, position, out);
+}
+
+/// Puts the coefficients of the values of a plane; before a place they are nought.
+fn narrow_plane(
+    plane: &[i32; 4096],
+    transform: Transform,
+    positions: &[u8; 10],
+    noughts: usize,
+    out: &mut [i16],
+)
+    requires room { length out.old ≡ 4096 }
+    requires positions { ArePositions positions.now }
+    requires noughts { (k : ℕ) → k < noughts → at plane.now k ≡ pos 0 }
+    requires fits { PlaneHas 10 transform positions.now plane.now }
+    ensures { MapsBands transform (λ band v. coefficient_of v (value_of positions.now band)) plane.now out.new }
+{
+    for index in 0..10 {
+        let band = nth_band(index);
+        let start = band_start(transform, band);
+        narrow_band(
+            plane,
+            start,
+            start + band_size(transform, band),
+            positions[index],
+            noughts,
+            out,
+        );
+    }
+}
+
+/// Puts the coefficients of a plane of values in `out`, each in its 16 bits, as `dequantise_plane` gives them.
+/// Where a value has none the answer is false, and `out` stays, which has room for 4,096 numbers.
+pub fn dequantise_narrow(
+    plane: &[i32; 4096],
+    transform: Transform,
+    positions: &[u8; 10],
+    out: &mut [i16],
+) -> bool
+    requires room { length out.old ≡ 4096 }
+    requires positions { ArePositions positions.now }
+    ensures coefficients { IsTrue result → AllCoefficients out.new }
+    ensures exact { MatchBool result (Dequantises transform positions.now plane.now out.new) (LeavesRange transform positions.now plane.now × (out.new ≡ out.old)) }
+{
+    let noughts = noughts_before(plane);
+    let fits = plane_has(plane, transform, positions, noughts);
+    if fits {
+        narrow_plane(plane, transform, positions, noughts, out);
     }
     fits
 }

@@ -1,4 +1,4 @@
-ghost use Rattle.std.specs.Prelude.{◌≡◌, ◌≤◌, ◌<◌, ◌+◌, ◌*◌, ◌^◌, ◌/◌, ◌%◌, ℕ, pos, negsuc, ◌+ℤ◌, ◌-ℤ◌, ◌*ℤ◌, IsTrue, Some, slice_get};
+ghost use Rattle.std.specs.Prelude.{◌≡◌, ◌≤◌, ◌<◌, ◌+◌, ◌*◌, ◌^◌, ℕ, pos, ◌+ℤ◌, ◌-ℤ◌, ◌*ℤ◌, IsTrue, Some, slice_get};
 ghost use Rattle.std.specs.Int.{int_shr};
 ghost use Rattle.gfx_dwt.specs.Ranges.{AllWithin, Within, at};
 ghost use Rattle.gfx_quant.specs.Colour.{channel, colour_of};
@@ -6,21 +6,12 @@ ghost use Rattle.gfx_quant.specs.Planes.{AreColours};
 
 use crate::colour::{CB_IN_BLUE, CB_IN_GREEN, CR_IN_GREEN, CR_IN_RED, level, to_colour};
 use crate::greys::{put_greys, put_solid};
+use crate::halves::{Halves, join_halves, pair};
 use gfx_base::Pixel;
-use gfx_dwt::{is_solid, noughts_before};
+use gfx_dwt::all_are;
 
 /// Up to this magnitude of its samples all of a pixel is found in 16 bits.
 const QUICK: i16 = 8191;
-
-/// What is worked on of a row: its samples in 16 bits, and two halves of each pixel.
-#[derive(Drop)]
-struct Row {
-    y: [i16; 64],
-    cb: [i16; 64],
-    cr: [i16; 64],
-    low: [u16; 64],
-    high: [u16; 64],
-}
 
 // A factor is a multiple of 65,536 and a rest of 16 bits: the processor multiplies by such a rest, and drops
 // the low half of the product, in one step.
@@ -145,44 +136,6 @@ fn red_of(y: i16, cr: i16) -> u8
     level(i64::from(red_total(y, cr, whole(red_rest(cr)))))
 }
 
-/// Blue and green in 16 bits.
-#[inline]
-fn pair(b: u8, g: u8) -> u16
-    ensures { result ≡ b + 256 * g }
-{
-    u16::from(b) + 256 * u16::from(g)
-}
-
-#[inline]
-fn joined(low: u16, high: u16) -> Pixel
-    ensures { result ≡ record { b = low % 256; g = low / 256; r = high % 256; a = 255 } }
-{
-    Pixel {
-        b: (low % 256) as u8,
-        g: (low / 256) as u8,
-        r: (high % 256) as u8,
-        a: 255,
-    }
-}
-
-// What leaves 16 bits is cut to their end, which the processor does as it narrows; so it isn't quick either.
-#[inline]
-fn short(sample: i32) -> i16
-    ensures { Within 8191 result → result ≡ sample }
-{
-    sample.clamp(-32768, 32767) as i16
-}
-
-/// The samples of a row in 16 bits, where they are small enough.
-fn shorten(plane: &[i32; 4096], from: usize, out: &mut [i16; 64])
-    requires { from + 64 ≤ 4096 }
-    ensures { (k : ℕ) → k < 64 → Within 8191 (at out.new k) → at out.new k ≡ at plane.now (from + k) }
-{
-    for place in 0..64 {
-        out[place] = short(plane[from + place]);
-    }
-}
-
 #[inline]
 fn is_quick(sample: i16) -> bool
     ensures { IsTrue result → Within 8191 sample }
@@ -191,140 +144,160 @@ fn is_quick(sample: i16) -> bool
 }
 
 /// Whether all samples of a row are small enough.
-fn are_quick(row: &[i16; 64]) -> bool
-    ensures { IsTrue result → AllWithin 8191 row.now }
+// No early return: so it is done on many samples at a time.
+#[inline]
+fn are_quick(plane: &[i16; 4096], from: usize) -> bool
+    requires { from + 64 ≤ 4096 }
+    ensures { IsTrue result → (k : ℕ) → k < 64 → Within 8191 (at plane.now (from + k)) }
 {
     let mut quick = true;
     for place in 0..64 {
-        quick &= is_quick(row[place]);
+        quick &= is_quick(plane[from + place]);
     }
     quick
 }
 
 /// Two halves of each pixel of a row.
+#[inline]
 fn put_halves(
-    y: &[i16; 64],
-    cb: &[i16; 64],
-    cr: &[i16; 64],
+    y: &[i16; 4096],
+    cb: &[i16; 4096],
+    cr: &[i16; 4096],
+    from: usize,
     low: &mut [u16; 64],
     high: &mut [u16; 64],
 )
-    requires y { AllWithin 8191 y.now }
-    requires cb { AllWithin 8191 cb.now }
-    requires cr { AllWithin 8191 cr.now }
-    ensures low { (k : ℕ) → k < 64 → slice_get low.new k ≡ Some (channel (at y.now k) (CB_IN_BLUE *ℤ at cb.now k) + 256 * channel (at y.now k) (CB_IN_GREEN *ℤ at cb.now k +ℤ CR_IN_GREEN *ℤ at cr.now k)) }
-    ensures high { (k : ℕ) → k < 64 → slice_get high.new k ≡ Some (channel (at y.now k) (CR_IN_RED *ℤ at cr.now k)) }
+    requires end { from + 64 ≤ 4096 }
+    requires y { (k : ℕ) → k < 64 → Within 8191 (at y.now (from + k)) }
+    requires cb { (k : ℕ) → k < 64 → Within 8191 (at cb.now (from + k)) }
+    requires cr { (k : ℕ) → k < 64 → Within 8191 (at cr.now (from + k)) }
+    ensures low { (k : ℕ) → k < 64 → slice_get low.new k ≡ Some (channel (at y.now (from + k)) (CB_IN_BLUE *ℤ at cb.now (from + k)) + 256 * channel (at y.now (from + k)) (CB_IN_GREEN *ℤ at cb.now (from + k) +ℤ CR_IN_GREEN *ℤ at cr.now (from + k))) }
+    ensures high { (k : ℕ) → k < 64 → slice_get high.new k ≡ Some (channel (at y.now (from + k)) (CR_IN_RED *ℤ at cr.now (from + k))) }
 {
     for place in 0..64 {
-        let blue = blue_of(y[place], cb[place]);
-        let green = green_of(y[place], cb[place], cr[place]);
+        let at = from + place;
+        let blue = blue_of(y[at], cb[at]);
+        let green = green_of(y[at], cb[at], cr[at]);
         low[place] = pair(blue, green);
-        high[place] = u16::from(red_of(y[place], cr[place]));
-    }
-}
-
-/// Puts the pixels of a row together.
-fn join_halves(low: &[u16; 64], high: &[u16; 64], from: usize, out: &mut [Pixel; 4096])
-    requires { from + 64 ≤ 4096 }
-    ensures row { (k b g r : ℕ) → k < 64 → b < 256 → r < 256 → slice_get low.now k ≡ Some (b + 256 * g) → slice_get high.now k ≡ Some r → slice_get out.new (from + k) ≡ Some (record { b = b; g = g; r = r; a = 255 }) }
-    ensures before { (k : ℕ) → k < from → slice_get out.new k ≡ slice_get out.old k }
-{
-    for place in 0..64 {
-        out[from + place] = joined(low[place], high[place]);
+        high[place] = u16::from(red_of(y[at], cr[at]));
     }
 }
 
 /// The pixels of a row whose samples are small enough.
-fn put_quick_row(row: &mut Row, from: usize, out: &mut [Pixel; 4096])
+#[inline]
+fn put_quick_row(
+    y: &[i16; 4096],
+    cb: &[i16; 4096],
+    cr: &[i16; 4096],
+    from: usize,
+    halves: &mut Halves,
+    out: &mut [Pixel; 4096],
+)
     requires end { from + 64 ≤ 4096 }
-    requires y { AllWithin 8191 row.old.y }
-    requires cb { AllWithin 8191 row.old.cb }
-    requires cr { AllWithin 8191 row.old.cr }
-    ensures row { (k : ℕ) → k < 64 → slice_get out.new (from + k) ≡ Some (colour_of (at row.old.y k) (at row.old.cb k) (at row.old.cr k)) }
+    requires y { (k : ℕ) → k < 64 → Within 8191 (at y.now (from + k)) }
+    requires cb { (k : ℕ) → k < 64 → Within 8191 (at cb.now (from + k)) }
+    requires cr { (k : ℕ) → k < 64 → Within 8191 (at cr.now (from + k)) }
+    ensures row { (k : ℕ) → k < 64 → slice_get out.new (from + k) ≡ Some (colour_of (at y.now (from + k)) (at cb.now (from + k)) (at cr.now (from + k))) }
     ensures before { (k : ℕ) → k < from → slice_get out.new k ≡ slice_get out.old k }
 {
-    put_halves(&row.y, &row.cb, &row.cr, &mut row.low, &mut row.high);
-    join_halves(&row.low, &row.high, from, out);
+    put_halves(y, cb, cr, from, &mut halves.low, &mut halves.high);
+    join_halves(&halves.low, &halves.high, from, out);
+}
+
+#[inline]
+fn colour_narrow(y: i16, cb: i16, cr: i16) -> Pixel
+    ensures { result ≡ colour_of y cb cr }
+{
+    to_colour(i32::from(y), i32::from(cb), i32::from(cr))
 }
 
 /// The pixels of a row of any samples.
 fn put_any_row(
-    y: &[i32; 4096],
-    cb: &[i32; 4096],
-    cr: &[i32; 4096],
+    y: &[i16; 4096],
+    cb: &[i16; 4096],
+    cr: &[i16; 4096],
     from: usize,
     out: &mut [Pixel; 4096],
 )
     requires end { from + 64 ≤ 4096 }
-    requires y { AllWithin (2 ^ 23) y.now }
-    requires cb { AllWithin (2 ^ 23) cb.now }
-    requires cr { AllWithin (2 ^ 23) cr.now }
     ensures row { (k : ℕ) → k < 64 → slice_get out.new (from + k) ≡ Some (colour_of (at y.now (from + k)) (at cb.now (from + k)) (at cr.now (from + k))) }
     ensures before { (k : ℕ) → k < from → slice_get out.new k ≡ slice_get out.old k }
 {
     for place in 0..64 {
         let at = from + place;
-        out[at] = to_colour(y[at], cb[at], cr[at]);
+        out[at] = colour_narrow(y[at], cb[at], cr[at]);
     }
 }
 
 /// The pixels of a row: in 16 bits where its samples are small enough.
+#[inline]
 fn put_row(
-    y: &[i32; 4096],
-    cb: &[i32; 4096],
-    cr: &[i32; 4096],
+    y: &[i16; 4096],
+    cb: &[i16; 4096],
+    cr: &[i16; 4096],
     from: usize,
-    row: &mut Row,
+    halves: &mut Halves,
     out: &mut [Pixel; 4096],
 )
     requires end { from + 64 ≤ 4096 }
-    requires y { AllWithin (2 ^ 23) y.now }
-    requires cb { AllWithin (2 ^ 23) cb.now }
-    requires cr { AllWithin (2 ^ 23) cr.now }
     ensures row { (k : ℕ) → k < 64 → slice_get out.new (from + k) ≡ Some (colour_of (at y.now (from + k)) (at cb.now (from + k)) (at cr.now (from + k))) }
     ensures before { (k : ℕ) → k < from → slice_get out.new k ≡ slice_get out.old k }
 {
-    shorten(y, from, &mut row.y);
-    shorten(cb, from, &mut row.cb);
-    shorten(cr, from, &mut row.cr);
-    if are_quick(&row.y) && are_quick(&row.cb) && are_quick(&row.cr) {
-        put_quick_row(row, from, out);
+    if are_quick(y, from) && are_quick(cb, from) && are_quick(cr, from) {
+        put_quick_row(y, cb, cr, from, halves, out);
     } else {
         put_any_row(y, cb, cr, from, out);
     }
 }
 
-/// Whether all samples of a tile are nought.
+/// Whether all samples of a tile are its first.
 #[inline]
-fn are_nought(plane: &[i32; 4096]) -> bool
-    ensures { IsTrue result → (k : ℕ) → k < 4096 → at plane.now k ≡ pos 0 }
+fn is_solid(plane: &[i16; 4096]) -> bool
+    ensures { IsTrue result → (k : ℕ) → k < 4096 → at plane.now k ≡ at plane.now 0 }
 {
-    noughts_before(plane) == 4096
+    all_are(plane, plane[0])
 }
 
-/// The pixels of a tile's samples, each as `to_colour` gives it.
+/// Whether all samples of a tile are nought.
+#[inline]
+fn are_nought(plane: &[i16; 4096]) -> bool
+    ensures { IsTrue result → (k : ℕ) → k < 4096 → at plane.now k ≡ pos 0 }
+{
+    all_are(plane, 0)
+}
+
+/// The pixels of a tile's samples in 16 bits, each as `to_colour` gives it.
+pub fn to_colours_narrow(
+    y: &[i16; 4096],
+    cb: &[i16; 4096],
+    cr: &[i16; 4096],
+    out: &mut [Pixel; 4096],
+)
+    ensures { AreColours y.now cb.now cr.now out.new }
+{
+    if is_solid(y) && is_solid(cb) && is_solid(cr) {
+        put_solid(colour_narrow(y[0], cb[0], cr[0]), out);
+        return;
+    }
+    if are_nought(cb) && are_nought(cr) {
+        put_greys(y, out);
+        return;
+    }
+    let mut halves = Halves::new();
+    for number in 0..64 {
+        put_row(y, cb, cr, 64 * number, &mut halves, out);
+    }
+}
+
+/// The pixels of a tile's samples, each as `to_colour` gives it. It goes pixel by pixel: samples that fit 16 bits
+/// are for `to_colours_narrow`.
 pub fn to_colours(y: &[i32; 4096], cb: &[i32; 4096], cr: &[i32; 4096], out: &mut [Pixel; 4096])
     requires y { AllWithin (2 ^ 23) y.now }
     requires cb { AllWithin (2 ^ 23) cb.now }
     requires cr { AllWithin (2 ^ 23) cr.now }
     ensures { AreColours y.now cb.now cr.now out.new }
 {
-    if is_solid(y) & is_solid(cb) & is_solid(cr) {
-        put_solid(to_colour(y[0], cb[0], cr[0]), out);
-        return;
-    }
-    if are_nought(cb) & are_nought(cr) {
-        put_greys(y, out);
-        return;
-    }
-    let mut row = Row {
-        y: [0; 64],
-        cb: [0; 64],
-        cr: [0; 64],
-        low: [0; 64],
-        high: [0; 64],
-    };
-    for number in 0..64 {
-        put_row(y, cb, cr, 64 * number, &mut row, out);
+    for place in 0..4096 {
+        out[place] = to_colour(y[place], cb[place], cr[place]);
     }
 }

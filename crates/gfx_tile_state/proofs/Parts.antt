@@ -1,8 +1,9 @@
 -- What the passes of a component leave.
-use Rattle.std.proofs.Common.{Ok, ◌≡◌, inl, inr, ℕ, ◌<◌, Bool, true, false, ℤ, pos, negsuc, ◌+ℤ◌, List, [], length, min, replicate, refl, sym, ap, subst, ◌∙◌, arith}
+use Rattle.std.proofs.Common.{Ok, Err, ◌≡◌, inl, inr, ℕ, ◌<◌, Bool, true, false, ℤ, pos, negsuc, ◌+ℤ◌, List, [], length, min, replicate, refl, sym, ap, subst, ◌∙◌, arith}
 use Rattle.std.proofs.Math.IntN.{+ℤ_idl}
 use Rattle.std.proofs.lemmas.Int.{ints}
 use Rattle.std.proofs.lemmas.List.{length-replicate, get_or-replicate}
+use Rattle.gfx_base.specs.declared.refusal.Refusal.{Refusal}
 use Rattle.gfx_srl.specs.Steps.{HasRead}
 use Rattle.gfx_srl.proofs.Reading.{says}
 use Rattle.gfx_dwt.specs.declared.layout.Transform.{Transform}
@@ -40,24 +41,32 @@ fresh-sound kept sums positions e f small = record {
   kept_whole = ap length e ∙ length-replicate 4096 (pos 0);
   sums_whole = ap length f ∙ length-replicate 4096 (pos 0);
   fits = fits-blank kept sums e (blank-small sums f);
+  sums_small = λ k h. blank-small sums f k (omega (arith, ap length f, length-replicate 4096 (pos 0)));
   positions_small = small;
+}
+
+-- over a blank plane all sums are sound
+pub blank-sound : (kept sums plane : List ℤ) (positions : List ℕ) → kept ≡ blank → sums ≡ plane → length plane ≡ 4096 → ((k : ℕ) → k < length plane → IsCoefficient (at plane k))
+    → AreAtMost 30 positions → IsSound kept sums positions
+blank-sound kept sums plane positions e f long small most = record {
+  kept_whole = ap length e ∙ length-replicate 4096 (pos 0);
+  sums_whole = ap length f ∙ long;
+  fits = fits-blank kept sums e (λ k h. subst (λ l. IsCoefficient (at l k)) (sym f) (small k (omega arith)));
+  sums_small = λ k h. subst (λ l. IsCoefficient (at l k)) (sym f) (small k (omega (arith, ap length f)));
+  positions_small = most;
 }
 
 pub first-sound : (kept sums plane : List ℤ) (positions : List ℕ) → kept ≡ blank → sums ≡ plane → length plane ≡ 4096 → ((k : ℕ) → k < length plane → IsCoefficient (at plane k))
     → AreWithin 6 30 positions → IsSound kept sums positions
-first-sound kept sums plane positions e f long small within = record {
-  kept_whole = ap length e ∙ length-replicate 4096 (pos 0);
-  sums_whole = ap length f ∙ long;
-  fits = fits-blank kept sums e (λ k h. subst (λ l. IsCoefficient (at l k)) (sym f) (small k (omega arith)));
-  positions_small = λ k h. (within k h).1;
-}
+first-sound kept sums plane positions e f long small within = blank-sound kept sums plane positions e f long small (λ k h. (within k h).1)
 
 pub sums-sound : (kept sums one plane : List ℤ) (positions : List ℕ) → kept ≡ one → sums ≡ plane → length one ≡ 4096 → length plane ≡ 4096 → FitsOnto one plane
-    → AreWithin 6 30 positions → IsSound kept sums positions
-sums-sound kept sums one plane positions e f long long' fits within = record {
+    → ((k : ℕ) → k < length plane → IsCoefficient (at plane k)) → AreWithin 6 30 positions → IsSound kept sums positions
+sums-sound kept sums one plane positions e f long long' fits small within = record {
   kept_whole = ap length e ∙ long;
   sums_whole = ap length f ∙ long';
   fits = λ k h. ap (λ l. is_coefficient (at l k +ℤ at sums k)) e ∙ ap (λ l. is_coefficient (at one k +ℤ at l k)) f ∙ fits k h;
+  sums_small = λ k h. subst (λ l. IsCoefficient (at l k)) (sym f) (small k (omega (arith, ap length f)));
   positions_small = λ k h. (within k h).1;
 }
 
@@ -78,6 +87,12 @@ pub takes-first : (done : Unit {0}) (t : Transform) (positions bytes : List ℕ)
     → TakesFirst (Ok done) t positions bytes kept old new
 takes-first done t positions bytes kept plane old new read on same place long fits small =
     (read.0, read.1, subst (Dequantises t positions (summed t read.0)) (sym same) read.2, on, place, ap length same ∙ long, stays-in kept new.sums plane same long fits small)
+
+-- or it was refused, and all is as it was
+pub first-refused : (refusal : Refusal) (t : Transform) (positions bytes : List ℕ) (kept sums : List ℤ) (old new : Part) → ReadsFirst (Err refusal) t positions bytes sums
+    → new ≡ old → TakesFirst (Err refusal) t positions bytes kept old new
+first-refused refusal t positions bytes kept sums old new (is, inl coded) same = (is, inl coded, same)
+first-refused refusal t positions bytes kept sums old new (is, inr large) same = (is, inr (large.0, large.1, inl large.2), same)
 
 -- ---- an upgrade
 

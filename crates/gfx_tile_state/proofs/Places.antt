@@ -1,9 +1,9 @@
 -- Planes, place by place.
 use Rattle.std.proofs.lemmas.Bool.Decides.{eqb_tells}
-use Rattle.std.proofs.Common.{inl, inr, set, subst, length-set, get_or-set_same, get_or-set_other, ◌≡◌, ℕ, zero, suc, ◌+◌, ◌*◌, ◌<◌, Bool, true, false, ◌&&◌, ℤ, pos, negsuc, ◌+ℤ◌, List, [], ◌∷◌, length, refl, sym, ap, ◌∙◌, arith, below_more, w16, w32, ◌++◌, take, drop, to_z, of_z}
+use Rattle.std.proofs.Common.{inl, inr, set, subst, length-set, get_or-set_same, get_or-set_other, ◌≡◌, ℕ, zero, suc, ◌+◌, ◌*◌, ◌<◌, Bool, true, false, ◌&&◌, ℤ, pos, negsuc, ◌+ℤ◌, List, [], ◌∷◌, length, refl, sym, ap, ◌∙◌, arith, below_more, w16, ◌++◌, take, drop}
 use Rattle.std.specs.Prelude.{MatchBool, FitsSigned, nat_lt}
 use Rattle.std.proofs.lemmas.Bool.{ltb-true, lt-ltb}
-use Rattle.std.proofs.lemmas.Int.{ints, to_z-of_z}
+use Rattle.std.proofs.lemmas.Int.{ints}
 use Rattle.std.proofs.lemmas.List.{ext_get_or, take_at}
 use Rattle.gfx_dwt.specs.Ranges.{IsCoefficient, Within, at}
 use Rattle.gfx_quant.specs.Coefficient.{is_coefficient}
@@ -32,10 +32,6 @@ pub more-fits : (P : ℕ → Bool) (i : ℕ) (fits here : Bool) → here ≡ P i
 more-fits P i true true e before = below_more (λ k. P k ≡ true) i before (sym e)
 more-fits P i true false e before = (i, omega arith, sym e)
 more-fits P i false here e before = (before.0, omega (arith, before.1), before.2)
-
-pub coefficient-bits : (z : ℤ) → IsCoefficient z → to_z w32 (of_z w32 z) ≡ z
-coefficient-bits (pos n) h = to_z-of_z w32 (pos n) (record { sfits = omega (arith, ints) })
-coefficient-bits (negsuc n) h = to_z-of_z w32 (negsuc n) (record { sfits = omega (arith, ints) })
 
 pub within-more : (total x : ℤ) (i : ℕ) → Within (32767 * i) total → Within 32767 x → Within (32767 * (i + 1)) (total +ℤ x)
 within-more total x i h g = record { low = omega (arith, ints, h.low, g.low); high = omega (arith, ints, h.high, g.high) }
@@ -66,6 +62,5 @@ tests (pos n) h = lt-ltb n 32768 (omega (arith, ints, h.most))
 tests (negsuc n) h = ap (λ b. b && true) (lt-ltb n 32768 (omega (arith, ints, h.least)))
 
 -- a part of a vector that is all of it
-pub all-written : (n : ℕ) (xs items : List ℤ) → length xs ≡ 4096 → length items ≡ 4096 → n ≡ 4096 → take n (xs ++ drop (length xs) items) ≡ xs
-all-written n xs items e f g =
-    ap (λ m. take m (xs ++ drop (length xs) items)) {y = length xs} (omega arith) ∙ take_at xs (drop (length xs) items) (length xs) refl
+pub all-written : (n : ℕ) (xs items : List ℤ) → length xs ≡ 4096 → n ≡ 4096 → take n (xs ++ drop (length xs) items) ≡ xs
+all-written n xs items e g = ap (λ m. take m (xs ++ drop (length xs) items)) {y = length xs} (omega arith) ∙ take_at xs (drop (length xs) items) (length xs) refl

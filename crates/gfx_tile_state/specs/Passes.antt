@@ -6,7 +6,7 @@ use Rattle.gfx_rlgr.specs.Rlgr.{Rlgr}
 use Rattle.gfx_dwt.specs.declared.layout.Transform.{Transform}
 use Rattle.gfx_dwt.specs.declared.layout.Band.TheVariants.{Ll3}
 use Rattle.gfx_dwt.specs.Place.{start}
-use Rattle.gfx_dwt.specs.Ranges.{at}
+use Rattle.gfx_dwt.specs.Ranges.{AllCoefficients, at}
 use Rattle.gfx_quant.specs.Coefficient.{is_coefficient}
 use Rattle.gfx_quant.specs.Planes.{Dequantises, LeavesRange}
 use Rattle.gfx_tile_state.specs.Shape.{AreAtMost}
@@ -102,11 +102,12 @@ ReadsFirst (Ok done) t positions bytes plane = (values : List ℤ) × Rlgr bytes
 ReadsFirst (Err refusal) t positions bytes plane =
     (refusal ≡ CoefficientRange) × (Rlgr bytes (Err CoefficientRange) ⊎ ((values : List ℤ) × Rlgr bytes (Ok values) × LeavesRange t positions (summed t values)))
 
--- what a component holds: whole planes that stay in the 16-bit range together, and positions
+-- what a component holds: whole planes that stay in the 16-bit range together, sums that stay in it by themselves, and positions
 pub record IsSound (kept sums : List ℤ) (positions : List ℕ) : Type 0 where
   pub kept_whole : length kept ≡ 4096
   pub sums_whole : length sums ≡ 4096
   pub fits : FitsOnto kept sums
+  pub sums_small : AllCoefficients sums
   pub positions_small : AreAtMost 30 positions
 
 -- a component before its first pass

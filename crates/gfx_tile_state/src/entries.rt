@@ -16,7 +16,7 @@ pub struct Readers<'a> {
 
 /// Reads the entry of a place whose position falls by `n`.
 #[inline(always)]
-pub fn read_entry(readers: &mut Readers<'_>, sum: i32, n: u8, low: bool) -> i32
+pub fn read_entry(readers: &mut Readers<'_>, sum: i16, n: u8, low: bool) -> i32
     requires some { 1 ≤ n }
     requires few { n ≤ 24 }
     ensures reads { ReadsEntry (way n low sum) n result readers.old readers.new }
@@ -34,7 +34,7 @@ pub fn read_entry(readers: &mut Readers<'_>, sum: i32, n: u8, low: bool) -> i32
 /// Reads the entry of a place with a sign; if its sum is zero, a zero must be known to come for it. One sum says little
 /// of the next, so this has no branch.
 #[inline(always)]
-pub fn read_known(readers: &mut Readers<'_>, sum: i32, n: u8) -> i32
+pub fn read_known(readers: &mut Readers<'_>, sum: i16, n: u8) -> i32
     requires some { 1 ≤ n }
     requires few { n ≤ 24 }
     requires known { 1 ≤ readers.old.srl.zeros }
@@ -49,7 +49,7 @@ pub fn read_known(readers: &mut Readers<'_>, sum: i32, n: u8) -> i32
 
 /// How many raw bits a place has.
 #[inline(always)]
-fn raw_width(sum: i32, n: u8) -> u8
+fn raw_width(sum: i16, n: u8) -> u8
     ensures blank { sum ≡ pos 0 → result ≡ 0 }
     ensures signed { (sum ≡ pos 0 → ⊥) → result ≡ n }
     ensures most { result ≤ n }
@@ -59,7 +59,7 @@ fn raw_width(sum: i32, n: u8) -> u8
 
 /// How many zeros that are coded a place has.
 #[inline(always)]
-fn coded_zeros(sum: i32) -> u32
+fn coded_zeros(sum: i16) -> u32
     ensures blank { sum ≡ pos 0 → result ≡ 1 }
     ensures signed { (sum ≡ pos 0 → ⊥) → result ≡ 0 }
     ensures most { result ≤ 1 }
@@ -88,7 +88,7 @@ fn read_coded(srl: &mut SrlReader<'_>, n: u8) -> i32
 }
 
 #[inline(always)]
-fn is_below_zero(sum: i32) -> bool
+fn is_below_zero(sum: i16) -> bool
     ensures { MatchBool result (sum <ℤ pos 0) (pos 0 ≤ℤ sum) }
 {
     sum < 0

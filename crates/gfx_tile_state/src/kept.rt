@@ -1,5 +1,5 @@
 //! The plane that earlier tiles left under a component.
-ghost use Rattle.std.specs.Prelude.{◌≡◌, ◌≤◌, ◌⊎◌, length, IfOk, MatchBool};
+ghost use Rattle.std.specs.Prelude.{◌≡◌, ◌≤◌, ◌⊎◌, length, IfOk, IsTrue, MatchBool};
 ghost use Rattle.std.specs.Vec.{vec_capacity};
 ghost use Rattle.gfx_dwt.specs.Ranges.{AllCoefficients};
 ghost use Rattle.gfx_tile_state.specs.Passes.{FitsOnto, LeavesKept, added, blank};
@@ -74,6 +74,13 @@ impl Kept {
         self.blank = true;
     }
 
+    /// Whether it is known to be all zero; one that isn't may be all zero too.
+    pub fn is_blank(&self) -> bool
+        ensures { IsTrue result → self.now ≡ blank }
+    {
+        self.blank
+    }
+
     /// Puts a plane in its place.
     pub fn put(&mut self, plane: &[i32; 4096])
         requires { AllCoefficients plane.now }
@@ -85,7 +92,7 @@ impl Kept {
     }
 
     /// Whether it stays in the range of a coefficient with another plane, place by place.
-    pub fn fits_onto(&self, plane: &[i32; 4096]) -> bool
+    pub fn fits_onto(&self, plane: &[i16; 4096]) -> bool
         requires { AllCoefficients plane.now }
         ensures { MatchBool result (FitsOnto self.now plane.now) (LeavesKept self.now plane.now) }
     {

@@ -1,18 +1,19 @@
-ghost use Rattle.std.specs.Prelude.{◌≡◌, IfOk, MatchBool};
+ghost use Rattle.std.specs.Prelude.{◌≡◌, ◌<◌, ℕ, IfOk, IsTrue, MatchBool, length};
 ghost use Rattle.gfx_bits.specs.Bits.{bits_of};
 ghost use Rattle.gfx_dwt.specs.Ranges.{AllCoefficients};
+ghost use Rattle.gfx_dwt.specs.Samples.{cell, sample};
 ghost use Rattle.gfx_tile_state.specs.Entries.{pass_of};
 ghost use Rattle.gfx_tile_state.specs.Passes.{TakesFirst, Upgrades, UpgradesSums, blank, coefficients, fresh, made};
-ghost use Rattle.gfx_tile_state.specs.Shape.{AreBelow, AreWithin, SomeAbove};
+ghost use Rattle.gfx_tile_state.specs.Shape.{AreAtMost, AreBelow, AreWithin, SomeAbove};
 
 use crate::entries::Readers;
-use crate::first::read_first;
+use crate::first::{read_first, read_sums};
 use crate::kept::Kept;
-use crate::planes::{fit_together, load, put};
+use crate::planes::{as_plane, fit_together, put, shorten, store};
 use crate::upgrading::upgrade_plane;
 use gfx_base::{NoMemory, Refusal};
 use gfx_bits::BitReader;
-use gfx_dwt::Transform;
+use gfx_dwt::{Transform, Workspace, inverse_narrow, inverse_with};
 use gfx_srl::SrlReader;
 use std::alloc::Global;
 use std::marker::Model;
@@ -92,10 +93,8 @@ impl Part {
         requires { AreWithin 6 30 positions.now }
         ensures { TakesFirst result transform positions.now bytes.now blank self.old self.new }
     {
-        let mut plane = [0; 4096];
-        read_first(bytes, transform, positions, &mut plane)?;
+        read_sums(bytes, transform, positions, &mut self.sums)?;
         self.kept.clear();
-        put(&plane, &mut self.sums);
         self.positions = *positions;
         Ok(())
     }
@@ -135,9 +134,17 @@ impl Part {
         requires below { AreBelow positions.now self.old.positions }
         ensures { Upgrades result (pass_of transform self.old.positions positions.now self.old.sums (bits_of srl.now) (bits_of raw.now)) positions.now self.old self.new }
     {
-        let mut plane = [0; 4096];
-        self.upgraded(srl, raw, transform, positions, &mut plane)?;
-        put(&plane, &mut self.sums);
+        let mut sums = *as_plane(&self.sums);
+        upgrade_sums(
+            &mut sums,
+            &self.kept,
+            srl,
+            raw,
+            transform,
+            &self.positions,
+            positions,
+        )?;
+        self.sums.copy_from_slice(&sums);
         self.positions = *positions;
         Ok(())
     }
@@ -156,40 +163,20 @@ impl Part {
         requires below { AreBelow positions.now before.now.positions }
         ensures { Upgrades result (pass_of transform before.now.positions positions.now before.now.sums (bits_of srl.now) (bits_of raw.now)) positions.now before.now (made result before.now self.new) }
     {
-        let mut plane = [0; 4096];
-        before.upgraded(srl, raw, transform, positions, &mut plane)?;
+        // Over a blank plane any sums are sound: so those that a refusal leaves are.
+        self.kept.clear();
+        self.sums.copy_from_slice(&before.sums);
+        upgrade_slice(
+            &mut self.sums,
+            &before.kept,
+            srl,
+            raw,
+            transform,
+            &before.positions,
+            positions,
+        )?;
         self.kept.copy_from(&before.kept);
-        put(&plane, &mut self.sums);
         self.positions = *positions;
-        Ok(())
-    }
-
-    /// Its sums after an upgrade to positions that are not above those that stand.
-    fn upgraded(
-        &self,
-        srl: &[u8],
-        raw: &[u8],
-        transform: Transform,
-        positions: &[u8; 10],
-        plane: &mut [i32; 4096],
-    ) -> Result<(), Refusal>
-        requires within { AreWithin 6 30 positions.now }
-        requires below { AreBelow positions.now self.now.positions }
-        ensures sums { UpgradesSums result (pass_of transform self.now.positions positions.now self.now.sums (bits_of srl.now) (bits_of raw.now)) self.now.kept plane.new }
-        ensures coefficients { AllCoefficients plane.new }
-    {
-        load(&self.sums, plane);
-        let mut readers = Readers {
-            srl: SrlReader::new(srl),
-            bits: BitReader::new(raw),
-        };
-        let fits = upgrade_plane(plane, transform, &self.positions, positions, &mut readers);
-        if !fits {
-            return Err(Refusal::CoefficientRange);
-        }
-        if !self.kept.fits_onto(plane) {
-            return Err(Refusal::CoefficientRange);
-        }
         Ok(())
     }
 
@@ -200,6 +187,107 @@ impl Part {
     {
         self.kept.add(&self.sums, out);
     }
+
+    /// Its samples row by row, and whether each fits 16 bits; if not, nothing is said of `out`.
+    pub fn samples(
+        &self,
+        transform: Transform,
+        out: &mut [i16; 4096],
+        workspace: &mut Workspace,
+    ) -> bool
+        ensures { IsTrue result → (y x : ℕ) → y < 64 → x < 64 → cell 64 out.new y x ≡ sample transform (coefficients self.now) y x }
+    {
+        if self.narrow_samples(transform, out, workspace) {
+            return true;
+        }
+        self.wide_samples(transform, out)
+    }
+
+    /// Its samples by the transform in 16 bits, and whether that could be done exactly.
+    fn narrow_samples(
+        &self,
+        transform: Transform,
+        out: &mut [i16; 4096],
+        workspace: &mut Workspace,
+    ) -> bool
+        ensures { IsTrue result → (y x : ℕ) → y < 64 → x < 64 → cell 64 out.new y x ≡ sample transform (coefficients self.now) y x }
+    {
+        if self.kept.is_blank() {
+            return inverse_narrow(as_plane(&self.sums), transform, out, workspace);
+        }
+        let mut plane = [0; 4096];
+        self.coefficients(&mut plane);
+        let mut numbers = [0; 4096];
+        store(&plane, &mut numbers);
+        inverse_narrow(&numbers, transform, out, workspace)
+    }
+
+    /// Its samples by the transform in 32 bits, and whether each fits 16 bits.
+    fn wide_samples(&self, transform: Transform, out: &mut [i16; 4096]) -> bool
+        ensures { IsTrue result → (y x : ℕ) → y < 64 → x < 64 → cell 64 out.new y x ≡ sample transform (coefficients self.now) y x }
+    {
+        let mut plane = [0; 4096];
+        let mut tmp = [0; 4096];
+        self.coefficients(&mut plane);
+        inverse_with(&mut plane, transform, &mut tmp);
+        shorten(&plane, out)
+    }
+}
+
+/// Upgrades sums over a kept plane from their positions to new ones. After an `Err` nothing is said of what they are.
+fn upgrade_sums(
+    sums: &mut [i16; 4096],
+    kept: &Kept,
+    srl: &[u8],
+    raw: &[u8],
+    transform: Transform,
+    before: &[u8; 10],
+    behind: &[u8; 10],
+) -> Result<(), Refusal>
+    requires coefficients { AllCoefficients sums.old }
+    requires before { AreAtMost 30 before.now }
+    requires within { AreWithin 6 30 behind.now }
+    requires below { AreBelow behind.now before.now }
+    ensures sums { UpgradesSums result (pass_of transform before.now behind.now sums.old (bits_of srl.now) (bits_of raw.now)) kept.now sums.new }
+    ensures coefficients { AllCoefficients sums.new }
+{
+    let mut readers = Readers {
+        srl: SrlReader::new(srl),
+        bits: BitReader::new(raw),
+    };
+    let fits = upgrade_plane(sums, transform, before, behind, &mut readers);
+    if !fits {
+        return Err(Refusal::CoefficientRange);
+    }
+    if !kept.fits_onto(sums) {
+        return Err(Refusal::CoefficientRange);
+    }
+    Ok(())
+}
+
+/// The same of sums in a vector, 4,096 of them.
+fn upgrade_slice(
+    sums: &mut [i16],
+    kept: &Kept,
+    srl: &[u8],
+    raw: &[u8],
+    transform: Transform,
+    before: &[u8; 10],
+    behind: &[u8; 10],
+) -> Result<(), Refusal>
+    requires whole { length sums.old ≡ 4096 }
+    requires coefficients { AllCoefficients sums.old }
+    requires before { AreAtMost 30 before.now }
+    requires within { AreWithin 6 30 behind.now }
+    requires below { AreBelow behind.now before.now }
+    ensures sums { UpgradesSums result (pass_of transform before.now behind.now sums.old (bits_of srl.now) (bits_of raw.now)) kept.now sums.new }
+    ensures whole { length sums.new ≡ 4096 }
+    ensures coefficients { AllCoefficients sums.new }
+{
+    let Some(plane) = sums.as_mut_array() else {
+        unreachable!()
+    };
+    upgrade_sums(plane, kept, srl, raw, transform, before, behind)
 }
 
 fn are_below(low: &[u8; 10], high: &[u8; 10]) -> bool

@@ -1,4 +1,4 @@
-ghost use Rattle.std.specs.Prelude.{◌≡◌, ◌≤◌, ◌<◌, ◌+◌, ℕ, pos, ◌+ℤ◌, length, MatchBool, true};
+ghost use Rattle.std.specs.Prelude.{◌≡◌, ◌≤◌, ◌<◌, ◌+◌, ℕ, pos, ◌+ℤ◌, length, IsTrue, MatchBool, true};
 ghost use Rattle.gfx_dwt.specs.Ranges.{AllCoefficients, AllWithin, IsCoefficient, Within};
 ghost use Rattle.gfx_quant.specs.Coefficient.{is_coefficient};
 ghost use Rattle.gfx_tile_state.specs.Passes.{FitsOnto, LeavesKept, added, running};
@@ -28,11 +28,10 @@ fn both(one: i16, other: i16) -> i32
 }
 
 #[inline(always)]
-fn fits_on(kept: i16, number: i32) -> bool
-    requires { IsCoefficient number }
+fn fits_on(kept: i16, number: i16) -> bool
     ensures { result ≡ is_coefficient (kept +ℤ number) }
 {
-    is_small(widened(kept) + number)
+    is_small(both(kept, number))
 }
 
 #[inline(always)]
@@ -66,6 +65,40 @@ pub fn store(plane: &[i32; 4096], out: &mut [i16])
     }
 }
 
+/// A slice of a plane's size as a plane.
+pub fn as_plane(numbers: &[i16]) -> &[i16; 4096]
+    requires { length numbers.now ≡ 4096 }
+    ensures { result.now ≡ numbers.now }
+{
+    numbers.try_into().unwrap()
+}
+
+/// Writes the numbers of a plane in 16 bits, and says whether each fits them; one that doesn't is cut to their end.
+// No early return: so it is done on many numbers at a time.
+pub fn shorten(plane: &[i32; 4096], out: &mut [i16; 4096]) -> bool
+    ensures { IsTrue result → out.new ≡ plane.now }
+{
+    let mut fits = true;
+    for place in 0..4096 {
+        let short = cut(plane[place]);
+        fits &= is_same(short, plane[place]);
+        out[place] = short;
+    }
+    fits
+}
+
+#[inline(always)]
+fn cut(number: i32) -> i16 {
+    number.clamp(-32768, 32767) as i16
+}
+
+#[inline(always)]
+fn is_same(short: i16, number: i32) -> bool
+    ensures { IsTrue result → number ≡ short }
+{
+    i32::from(short) == number
+}
+
 /// Two planes, place by place.
 pub fn add(kept: &[i16], sums: &[i16], out: &mut [i32; 4096])
     requires kept { length kept.now ≡ 4096 }
@@ -78,9 +111,8 @@ pub fn add(kept: &[i16], sums: &[i16], out: &mut [i32; 4096])
 }
 
 /// Whether a plane with another stays in the range of a coefficient at each place.
-pub fn fits_onto(kept: &[i16], plane: &[i32; 4096]) -> bool
-    requires kept { length kept.now ≡ 4096 }
-    requires coefficients { AllCoefficients plane.now }
+pub fn fits_onto(kept: &[i16], plane: &[i16; 4096]) -> bool
+    requires { length kept.now ≡ 4096 }
     ensures { MatchBool result (FitsOnto kept.now plane.now) (LeavesKept kept.now plane.now) }
 {
     let mut fits = true;

@@ -1,4 +1,4 @@
-ghost use Rattle.std.specs.Prelude.{◌≡◌, ◌<◌, ◌≤◌, ◌*◌, ◌+◌, ◌^◌, ℕ, IfOk, OnOk, OnErr, Some, true, slice_get};
+ghost use Rattle.std.specs.Prelude.{◌≡◌, ◌<◌, ◌≤◌, ◌*◌, ◌+◌, ◌^◌, ℕ, IfOk, IsTrue, OnOk, OnErr, Some, true, slice_get};
 ghost use Rattle.gfx_dwt.specs.Ranges.{AllWithin};
 ghost use Rattle.gfx_dwt.specs.Samples.{cell, sample};
 ghost use Rattle.gfx_tile_state.specs.Passes.{blank, coefficients};
@@ -7,8 +7,8 @@ ghost use Rattle.gfx_tile_state.specs.Record.{MayAdd, MayBeUpgraded, MayUpgrade,
 use crate::part::Part;
 use crate::shape::PassShape;
 use gfx_base::{NoMemory, Pixel, Refusal};
-use gfx_dwt::{Transform, inverse_with};
-use gfx_quant::{Component, to_colours};
+use gfx_dwt::{Transform, Workspace, inverse_with};
+use gfx_quant::{Component, to_colours, to_colours_narrow};
 use std::alloc::Global;
 
 /// What the passes of a tile have left: the transform of the last first pass, and three components.
@@ -220,6 +220,37 @@ impl TileState {
 
     /// The tile's pixels: the colours of the samples of its coefficients.
     pub fn pixels(&self, out: &mut [Pixel; 4096])
+        ensures { (y x : ℕ) → y < 64 → x < 64 → slice_get out.new (y * 64 + x) ≡ Some (pixel_of self.now y x) }
+    {
+        if !self.narrow_pixels(out) {
+            self.wide_pixels(out);
+        }
+    }
+
+    /// The tile's pixels where all samples fit 16 bits, and whether they do; if not, nothing is said of `out`.
+    fn narrow_pixels(&self, out: &mut [Pixel; 4096]) -> bool
+        ensures { IsTrue result → (y x : ℕ) → y < 64 → x < 64 → slice_get out.new (y * 64 + x) ≡ Some (pixel_of self.now y x) }
+    {
+        let transform = self.transform_or_plain();
+        let mut workspace = Workspace::new();
+        let mut y = [0; 4096];
+        if !self.y.samples(transform, &mut y, &mut workspace) {
+            return false;
+        }
+        let mut cb = [0; 4096];
+        if !self.cb.samples(transform, &mut cb, &mut workspace) {
+            return false;
+        }
+        let mut cr = [0; 4096];
+        if !self.cr.samples(transform, &mut cr, &mut workspace) {
+            return false;
+        }
+        to_colours_narrow(&y, &cb, &cr, out);
+        true
+    }
+
+    /// The tile's pixels, whatever its coefficients.
+    fn wide_pixels(&self, out: &mut [Pixel; 4096])
         ensures { (y x : ℕ) → y < 64 → x < 64 → slice_get out.new (y * 64 + x) ≡ Some (pixel_of self.now y x) }
     {
         let transform = self.transform_or_plain();

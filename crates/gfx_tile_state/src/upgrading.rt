@@ -1,5 +1,5 @@
 ghost use Rattle.std.specs.Prelude.{◌≡◌, ◌≤◌, ◌<◌, ◌+◌, ◌-◌, ◌^◌, pos, ◌+ℤ◌, ◌*ℤ◌, ℕ, ℤ, Bool, true, false, ◌&&◌, List, slice_set, IsTrue};
-ghost use Rattle.gfx_dwt.specs.Ranges.{AllCoefficients, IsCoefficient, Within, at};
+ghost use Rattle.gfx_dwt.specs.Ranges.{AllCoefficients, Within, at};
 ghost use Rattle.gfx_quant.specs.Coefficient.{coefficient_of, cut, is_coefficient};
 ghost use Rattle.gfx_tile_state.specs.Entries.{AreAlike, Pass, Upgraded, pass_of, past};
 ghost use Rattle.gfx_tile_state.specs.Shape.{AreAtMost, AreWithin, AreBelow};
@@ -13,8 +13,7 @@ const LOW: usize = 9;
 
 /// A sum with what an entry adds to it at a bit position.
 #[inline(always)]
-fn sum_of(sum: i32, entry: i32, position: u8) -> i64
-    requires sum { IsCoefficient sum }
+fn sum_of(sum: i16, entry: i32, position: u8) -> i64
     requires entry { Within (2 ^ 24) entry }
     requires low { 1 ≤ position }
     requires high { position ≤ 30 }
@@ -60,17 +59,16 @@ fn is_small(sum: i64) -> bool
 }
 
 #[inline(always)]
-fn cut_sum(sum: i64) -> i32
-    ensures value { result ≡ cut sum }
-    ensures small { IsCoefficient result }
+fn cut_sum(sum: i64) -> i16
+    ensures { result ≡ cut sum }
 {
-    sum.clamp(-32768, 32767) as i32
+    sum.clamp(-32768, 32767) as i16
 }
 
 /// Adds to a sum what an entry adds to it at a bit position, cut to the range of a coefficient, and says whether it
 /// stays in that range. Most entries of sums that are zero are zero too, which is the quicker way.
 #[inline(always)]
-fn add_entry(plane: &mut [i32; 4096], place: usize, entry: i32, position: u8) -> bool
+fn add_entry(plane: &mut [i16; 4096], place: usize, entry: i32, position: u8) -> bool
     requires inside { place < 4096 }
     requires coefficients { AllCoefficients plane.old }
     requires entry { Within (2 ^ 24) entry }
@@ -91,7 +89,7 @@ fn add_entry(plane: &mut [i32; 4096], place: usize, entry: i32, position: u8) ->
 /// in the range of a coefficient.
 #[inline(always)]
 fn upgrade_places(
-    plane: &mut [i32; 4096],
+    plane: &mut [i16; 4096],
     from: usize,
     to: usize,
     n: u8,
@@ -118,7 +116,7 @@ fn upgrade_places(
 }
 
 #[inline(always)]
-fn is_zero(number: i32) -> bool
+fn is_zero(number: i16) -> bool
     ensures { IsTrue result → number ≡ pos 0 }
 {
     number == 0
@@ -127,7 +125,7 @@ fn is_zero(number: i32) -> bool
 /// Whether eight sums from a place on are zero.
 // No early return: so it is done on all of them at a time.
 #[inline(always)]
-fn are_blank(plane: &[i32; 4096], from: usize) -> bool
+fn are_blank(plane: &[i16; 4096], from: usize) -> bool
     requires { from + 8 ≤ 4096 }
     ensures { IsTrue result → (k : ℕ) → from ≤ k → k < from + 8 → at plane.now k ≡ pos 0 }
 {
@@ -142,7 +140,7 @@ fn are_blank(plane: &[i32; 4096], from: usize) -> bool
 /// range of a coefficient.
 #[inline(always)]
 fn upgrade_eight(
-    plane: &mut [i32; 4096],
+    plane: &mut [i16; 4096],
     from: usize,
     n: u8,
     position: u8,
@@ -176,7 +174,7 @@ fn upgrade_eight(
 /// range of a coefficient.
 #[inline(always)]
 fn upgrade_signed(
-    plane: &mut [i32; 4096],
+    plane: &mut [i16; 4096],
     from: usize,
     to: usize,
     n: u8,
@@ -211,7 +209,7 @@ fn upgrade_signed(
 /// Upgrades the places of a band, whose position may also stay: nothing is read then.
 #[inline(always)]
 fn upgrade_band(
-    plane: &mut [i32; 4096],
+    plane: &mut [i16; 4096],
     from: usize,
     to: usize,
     n: u8,
@@ -240,7 +238,7 @@ fn upgrade_band(
 /// Upgrades a component's sums from their positions to new ones, and says whether all stay in the
 /// range of a coefficient.
 pub fn upgrade_plane(
-    plane: &mut [i32; 4096],
+    plane: &mut [i16; 4096],
     transform: Transform,
     before: &[u8; 10],
     behind: &[u8; 10],

@@ -1,8 +1,8 @@
-use Rattle.std.proofs.Common.{◌<◌, ◌≡◌, ◌∙◌, length, FitsSigned, w32, arith, rules}
+use Rattle.std.proofs.Common.{◌<◌, ◌≡◌, ◌∙◌, ap, length, FitsSigned, w32, arith, rules}
 use Rattle.std.proofs.lemmas.Int.{to_z-of_z}
 use Rattle.gfx_dwt.specs.Ranges.{at}
 use Rattle.gfx_quant.specs.Coefficient.{coefficient_of}
-use Rattle.gfx_quant.proofs.Steps.{maps_step, scaled_is}
+use Rattle.gfx_quant.proofs.Steps.{maps_step}
 use Rattle.gfx_quant.proofs.dequantising.scale.Goals as goal
 
 pub loop-place-preserved : goal.loop-place-preserved
@@ -12,8 +12,7 @@ loop-place-preserved c =
     let now = c.loop-place.values in
     let inside : i < length now = omega arith in
     let value : FitsSigned w32 (at now i) = search rules in
-    let weight : FitsSigned w32 c.weight-weight.result = record { sfits = c.weight-weight.type_inv } in
     let product : FitsSigned w32 c.scaled.result = record { sfits = c.scaled.type_inv } in
     let here : c.scaled.result ≡ coefficient_of (at source i) c.args.position =
-    scaled_is c.args.position (at source i) (at now i) c.scaled.result c.weight-weight.result (simp to_z-of_z at c.scaled.ensures) c.weight-weight.ensures (c.loop-place.invariant.behind i (omega arith)) in
+    simp to_z-of_z at c.scaled.ensures ∙ ap (λ v. coefficient_of v c.args.position) (c.loop-place.invariant.behind i (omega arith)) in
     maps_step (λ v. coefficient_of v c.args.position) c.args.from i source source now _ (omega arith) inside (to_z-of_z w32 c.scaled.result product ∙ here) c.loop-place.invariant

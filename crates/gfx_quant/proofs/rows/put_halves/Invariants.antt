@@ -8,6 +8,6 @@ abbrev pub invariant-loop-place : goal.invariant-loop-place
 invariant-loop-place l = record {
   low_len : length l.low ≡ 64;
   high_len : length l.high ≡ 64;
-  lows : (k : ℕ) → k < l.place → slice_get l.low k ≡ Some (channel (at l.y k) (pos 115992 *ℤ at l.cb k) + 256 * channel (at l.y k) (negsuc 22526 *ℤ at l.cb k +ℤ negsuc 46818 *ℤ at l.cr k));
-  highs : (k : ℕ) → k < l.place → slice_get l.high k ≡ Some (channel (at l.y k) (pos 91916 *ℤ at l.cr k));
+  lows : (k : ℕ) → k < l.place → slice_get l.low k ≡ Some (channel (at l.y (l.from + k)) (pos 115992 *ℤ at l.cb (l.from + k)) + 256 * channel (at l.y (l.from + k)) (negsuc 22526 *ℤ at l.cb (l.from + k) +ℤ negsuc 46818 *ℤ at l.cr (l.from + k)));
+  highs : (k : ℕ) → k < l.place → slice_get l.high k ≡ Some (channel (at l.y (l.from + k)) (pos 91916 *ℤ at l.cr (l.from + k)));
 }

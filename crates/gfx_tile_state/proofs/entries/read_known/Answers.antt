@@ -1,4 +1,4 @@
-use Rattle.std.proofs.Common.{◌∙◌, ap, cond, neg_ℤ, w32}
+use Rattle.std.proofs.Common.{◌∙◌, ap, cond, neg_ℤ, w16}
 use Rattle.std.proofs.lemmas.Int.{to_z-of_z}
 use Rattle.gfx_tile_state.proofs.Sums.{small-bits}
 use Rattle.gfx_tile_state.proofs.Reading.{reads-known}
@@ -6,7 +6,7 @@ use Rattle.gfx_tile_state.proofs.entries.read_known.Goals as goal
 
 pub returns-clause-reads : goal.returns-clause-reads
 returns-clause-reads c =
-    let sum = to_z-of_z w32 c.args.sum c.ranges.sum in
+    let sum = to_z-of_z w16 c.args.sum c.ranges.sum in
     let magnitude = small-bits c.read_number-magnitude.result c.read_number-magnitude.ensures.small in
     rw (small-bits c.away.result c.away.ensures.small)
     (reads-known c.args.n c.args.sum c.args.readers.now _ c.raw_width.result c.coded_zeros.result c.away.result c.is_below_zero.result c.requires.some c.requires.known

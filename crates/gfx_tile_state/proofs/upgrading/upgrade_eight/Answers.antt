@@ -1,4 +1,4 @@
-use Rattle.std.proofs.Common.{rules, ◌≡◌, ◌∙◌, ◌<◌, ◌+◌, ◌+ℤ◌, length, set, length-set, arith, subst, sym, FitsSigned, w32, w64, ◌&&◌, refl, ap, false}
+use Rattle.std.proofs.Common.{rules, ◌≡◌, ◌∙◌, ◌<◌, ◌+◌, ◌+ℤ◌, length, set, length-set, arith, subst, sym, FitsSigned, w16, w64, ◌&&◌, refl, ap, false}
 use Rattle.std.proofs.lemmas.Int.{to_z-of_z}
 use Rattle.gfx_dwt.specs.Ranges.{at}
 use Rattle.gfx_quant.specs.Coefficient.{coefficient_of, cut, is_coefficient}
@@ -6,7 +6,7 @@ use Rattle.gfx_tile_state.specs.Entries.{Upgraded}
 use Rattle.gfx_tile_state.proofs.Blanks.{passed-blanks}
 use Rattle.gfx_tile_state.proofs.Sums.{small-bits}
 use Rattle.gfx_tile_state.proofs.Passing.{place-read, and-more, and-true, cut-within}
-use Rattle.gfx_tile_state.proofs.Places.{coefficient-bits, set-coefficient}
+use Rattle.gfx_tile_state.proofs.Places.{set-coefficient}
 use Rattle.gfx_tile_state.proofs.upgrading.upgrade_eight.Goals as goal
 
 pub returns-then-are_blank-clause-upgraded : goal.returns-then-are_blank-clause-upgraded
@@ -22,14 +22,15 @@ loop-place-preserved c =
     let plane = c.loop-place.plane in
     let held = c.loop-place.invariant in
     let inside : i < length plane = omega (arith, held.long) in
-    let was : FitsSigned w32 (at plane i) = search rules in
+    let was : FitsSigned w16 (at plane i) = search rules in
     let entry = small-bits c.read_known-entry.result c.read_known-entry.ensures.small in
     let sum = at plane i +ℤ coefficient_of c.read_known-entry.result c.args.position in
-    let total : c.sum_of-total.result ≡ sum = rw (to_z-of_z w32 (at plane i) was, entry) at c.sum_of-total.ensures in
+    let total : c.sum_of-total.result ≡ sum = rw (to_z-of_z w16 (at plane i) was, entry) at c.sum_of-total.ensures in
     let wide : FitsSigned w64 c.sum_of-total.result = record { sfits = c.sum_of-total.type_inv } in
     let plain = to_z-of_z w64 c.sum_of-total.result wide in
-    let put : c.cut_sum.result ≡ cut sum = c.cut_sum.ensures.value ∙ ap cut (plain ∙ total) in
-    rw (coefficient-bits c.cut_sum.result c.cut_sum.ensures.small, put) (record {
+    let put : c.cut_sum.result ≡ cut sum = c.cut_sum.ensures ∙ ap cut (plain ∙ total) in
+    let short : FitsSigned w16 c.cut_sum.result = record { sfits = c.cut_sum.type_inv } in
+    rw (to_z-of_z w16 c.cut_sum.result short, put) (record {
       long = length-set _ _ _ ∙ held.long;
       known = omega (arith, held.known, c.read_known-entry.ensures.known);
       coefficients = set-coefficient plane i (cut sum) inside (cut-within _) held.coefficients;
@@ -37,7 +38,7 @@ loop-place-preserved c =
           subst (λ b. Upgraded pass (i + 1) (set plane i (cut sum)) b c.read_known-entry.new.readers) (and-more fits c.loop-place.fits c.is_small-fits.result)
           (place-read pass c.args.from (c.args.from + 8) i c.args.n c.args.position false (fits && c.loop-place.fits) c.is_small-fits.result plane c.loop-place.readers c.read_known-entry.new.readers
           c.read_known-entry.result (cut sum) (omega arith) (omega arith) inside alike (held.upgraded pass fits alike u)
-          (rw (to_z-of_z w32 (at plane i) was) at c.read_known-entry.ensures.reads)
+          (rw (to_z-of_z w16 (at plane i) was) at c.read_known-entry.ensures.reads)
           refl
           (c.is_small-fits.ensures ∙ ap is_coefficient (plain ∙ total)));
     })

@@ -1,0 +1,58 @@
+use Rattle.std.proofs.Common.{◌≡◌, ℕ, ◌+◌, ◌-◌, ◌++◌, length, ◌∙◌, refl, arith, min}
+use Rattle.gfx_dwt.specs.declared.layout.Scale.TheVariants.{First}
+use Rattle.gfx_dwt.specs.Joining.{even}
+use Rattle.gfx_dwt.specs.Lifting.{even_of}
+use Rattle.gfx_dwt.specs.Place.{high_size, low_size}
+use Rattle.gfx_dwt.specs.Ranges.{at}
+use Rattle.gfx_dwt.specs.Samples.{column}
+use Rattle.gfx_dwt.proofs.Edges.{is_even, is_odd, high_le_low}
+use Rattle.gfx_dwt.proofs.Planes.{behind_part, second_part, front_at, column_within}
+use Rattle.gfx_dwt.proofs.Same.{even_within}
+use Rattle.gfx_dwt.proofs.narrow_joining.join_pair.Goals as goal
+
+pub pair-requires-clause-above : goal.pair-requires-clause-above
+pair-requires-clause-above c = λ x h.
+    let t = c.args.transform in
+    let l = First in
+    let w : ℕ = 64 in
+    let low = column w c.args.low.now x in
+    let high = column w c.args.high.now x in
+    let n = c.args.place in
+    let le = high_le_low t l in
+    let up : at c.split_at_mut-above.result.0.now x ≡ even t l low high n = front_at w _ _ c.split_at_mut-above.ensures.front x (omega arith) ∙ c.requires.above x (omega arith) in
+    rw up (even_within t l 10239 6143 low high (column_within w (low_size t l) 10239 c.args.low.now c.requires.low_len c.requires.low x (omega arith)) (column_within w (high_size t l) 6143 c.args.high.now c.requires.high_len c.requires.high x (omega arith)) n (omega arith))
+
+pub returns-clause-odds : goal.returns-clause-odds
+returns-clause-odds c = λ x h.
+    let t = c.args.transform in
+    let l = First in
+    let w : ℕ = 64 in
+    let low = column w c.args.low.now x in
+    let high = column w c.args.high.now x in
+    let n = c.args.place in
+    let le = high_le_low t l in
+    let up : at c.split_at_mut-above.result.0.now x ≡ even t l low high n = front_at w _ _ c.split_at_mut-above.ensures.front x (omega arith) ∙ c.requires.above x (omega arith) in
+    let i : n + 1 - 1 ≡ n = omega arith in
+    let m : min (n + 1) (low_size t l - 1) ≡ n + 1 = omega arith in
+    let next_even : even_of t (at c.narrow_row.result.now x) (at c.narrow_edge_row-here.result.now x) (at c.narrow_edge_row-next.result.now x) ≡ even t l low high (n + 1) =
+    is_even t l low high (n + 1) _ _ _ _ refl (c.narrow_row.ensures.each x h) (rw i (c.narrow_edge_row-here.ensures.each x h)) (c.narrow_edge_row-next.ensures.each x h) in
+    let odds_len : length c.pair.new.odds ≡ w = c.pair.auto.odds ∙ c.split_at_mut-odds.ensures.front_len in
+    second_part w c.split_at_mut-above.result.0.now c.pair.new.odds c.pair.new.evens c.split_at_mut-above.ensures.front_len x (omega arith)
+    ∙ is_odd t l low high n _ _ _ _ (c.pair.ensures.odds x (omega arith)) (c.narrow_edge_row-here.ensures.each x h) up (rw m next_even)
+
+pub returns-clause-evens : goal.returns-clause-evens
+returns-clause-evens c = λ x h.
+    let t = c.args.transform in
+    let l = First in
+    let w : ℕ = 64 in
+    let low = column w c.args.low.now x in
+    let high = column w c.args.high.now x in
+    let n = c.args.place in
+    let le = high_le_low t l in
+    let i : n + 1 - 1 ≡ n = omega arith in
+    let m : min (n + 1) (low_size t l - 1) ≡ n + 1 = omega arith in
+    let next_even : even_of t (at c.narrow_row.result.now x) (at c.narrow_edge_row-here.result.now x) (at c.narrow_edge_row-next.result.now x) ≡ even t l low high (n + 1) =
+    is_even t l low high (n + 1) _ _ _ _ refl (c.narrow_row.ensures.each x h) (rw i (c.narrow_edge_row-here.ensures.each x h)) (c.narrow_edge_row-next.ensures.each x h) in
+    let odds_len : length c.pair.new.odds ≡ w = c.pair.auto.odds ∙ c.split_at_mut-odds.ensures.front_len in
+    behind_part w c.split_at_mut-above.result.0.now (c.pair.new.odds ++ c.pair.new.evens) c.split_at_mut-above.ensures.front_len (w + x)
+    ∙ behind_part w c.pair.new.odds c.pair.new.evens odds_len x ∙ c.pair.ensures.evens x (omega arith) ∙ next_even

@@ -14,6 +14,10 @@ enum Pattern {
     Ramp,
     /// Three times the least value, three times the greatest, and again.
     Extremes,
+    /// Noughts before a place, and the ramp from there on.
+    RampFrom(usize),
+    /// Noughts before a place, and the extremes from there on.
+    ExtremesFrom(usize),
 }
 
 fn coefficient(pattern: Pattern, k: usize) -> i32
@@ -23,9 +27,14 @@ fn coefficient(pattern: Pattern, k: usize) -> i32
     match pattern {
         Pattern::Impulse(at) if at == k => 32_767,
         Pattern::Impulse(_) => 0,
+        Pattern::RampFrom(start) if k < start => 0,
+        Pattern::ExtremesFrom(start) if k < start => 0,
         Pattern::Ramp => 16 * (k as i32) - 32_768,
+        Pattern::RampFrom(_) => 16 * (k as i32) - 32_768,
         Pattern::Extremes if (k / 3) % 2 == 0 => -32_768,
         Pattern::Extremes => 32_767,
+        Pattern::ExtremesFrom(_) if (k / 3) % 2 == 0 => -32_768,
+        Pattern::ExtremesFrom(_) => 32_767,
     }
 }
 
@@ -36,9 +45,14 @@ fn sample(pattern: Pattern, k: usize) -> i32
     match pattern {
         Pattern::Impulse(at) if at == k => 8_191,
         Pattern::Impulse(_) => 0,
+        Pattern::RampFrom(start) if k < start => 0,
+        Pattern::ExtremesFrom(start) if k < start => 0,
         Pattern::Ramp => 4 * (k as i32) - 8_192,
+        Pattern::RampFrom(_) => 4 * (k as i32) - 8_192,
         Pattern::Extremes if (k / 3) % 2 == 0 => -8_192,
         Pattern::Extremes => 8_191,
+        Pattern::ExtremesFrom(_) if (k / 3) % 2 == 0 => -8_192,
+        Pattern::ExtremesFrom(_) => 8_191,
     }
 }
 
@@ -174,6 +188,17 @@ fn inverse_of_small_patterns_in_16_bits(rt: HostRuntime) -> Result<(), Fail> {
         ),
         SmallCase(Pattern::Ramp, None, Some(7014011954067292392)),
         SmallCase(Pattern::Extremes, None, None),
+        SmallCase(Pattern::RampFrom(3072), None, Some(-6539889198971355668)),
+        SmallCase(
+            Pattern::RampFrom(3840),
+            Some(-6022962387228101857),
+            Some(4684290059256670011),
+        ),
+        SmallCase(
+            Pattern::ExtremesFrom(3840),
+            Some(-8508967097365626683),
+            None,
+        ),
     ] {
         let mut plane = [0; 4096];
         draw_small(pattern, &mut plane);

@@ -1,17 +1,16 @@
 -- Laws of bits, numbers and codes.
 use Rattle.std.proofs.Common.{◌≡◌, ℕ, zero, suc, ◌+◌, ◌-◌, ◌*◌, ◌/◌, ◌%◌, ◌^◌, ◌<◌, ◌≤◌, Bool, true, false, cond, nat_le, List, [], ◌∷◌, ◌++◌, length, drop, refl, sym, ap, ◌∙◌, arith, min, subst, replicate, inl, inr, append_assoc, get_or, length-append, get_or-drop}
-use Rattle.std.proofs.Math.Nat.{pow-suc, mul-le-mul_right}
+use Rattle.std.proofs.Math.Nat.{pow-suc, mul-le-mul_right, add-mul}
 use Rattle.std.proofs.Math.Seq.{drop-nil}
 use Rattle.std.proofs.lemmas.List.{drop-drop, length-replicate}
-use Rattle.std.proofs.lemmas.Nat.{pow_pos, mod_below, pow-add, mod_low, shr_high, mod-pow-add, mul-add-lt, leading_top, one_shl, and_mask}
+use Rattle.std.proofs.lemmas.Nat.{pow_pos, mod_below, pow-add, mod_low, shr_high, mod-pow-add, mul-add-lt, leading_top, leading_length}
 use Rattle.std.proofs.lemmas.Bool.{le-leb, lt-leb}
 use Rattle.std.proofs.lemmas.Bool.Decides.{leb_tells}
 use Rattle.std.specs.Int
-use Rattle.std.specs.Prelude.{bit_and, nat_lt}
 use Rattle.std.specs.Int.{w64, from_be_bytes}
 use Rattle.std.specs.Int.Count.{count_leading_zeros}
 use Rattle.std.proofs.Math.Pow.{pow_mono}
-use Rattle.gfx_bits.specs.Bits.{first, number, digits, bits_of, ones, Spelled, IsPadded, zeros_code}
+use Rattle.gfx_bits.specs.Bits.{first, number, digits, bits_of, ones, Spelled, IsPadded}
 
 pub doubled : (n : ℕ) → 2 ^ suc n ≡ 2 ^ n + 2 ^ n
 doubled n = pow-suc 2 n ∙ omega arith
@@ -28,7 +27,7 @@ number_below (suc n) bits =
     elim (first bits) as (λ b. cond b (2 ^ n) 0 + number n (drop 1 bits) < 2 ^ suc n)
     [ true ↦ omega (arith, doubled n) | false ↦ omega (arith, doubled n) ]
 
-number-nil : (n : ℕ) → number n [] ≡ 0
+pub number-nil : (n : ℕ) → number n [] ≡ 0
 unfolding number
 number-nil zero = refl
 number-nil (suc n) = omega (arith, number-nil n)
@@ -49,7 +48,7 @@ number-split (suc m) n bits =
     ∙ elim (first bits) as (λ b. cond b (2 ^ (m + n)) 0 + (number m (drop 1 bits) * 2 ^ n + number n (drop (suc m) bits)) ≡ (cond b (2 ^ m) 0 + number m (drop 1 bits)) * 2 ^ n + number n (drop (suc m) bits))
     [ true ↦ omega (arith, pow-add 2 m n) | false ↦ omega arith ]
 
-top_digit : (n : ℕ) (b : Bool) (low : ℕ) → low < 2 ^ n → (b ≡ nat_le (2 ^ n) (cond b (2 ^ n) 0 + low)) × ((cond b (2 ^ n) 0 + low) % 2 ^ n ≡ low)
+pub top_digit : (n : ℕ) (b : Bool) (low : ℕ) → low < 2 ^ n → (b ≡ nat_le (2 ^ n) (cond b (2 ^ n) 0 + low)) × ((cond b (2 ^ n) 0 + low) % 2 ^ n ≡ low)
 top_digit n true low h = (sym (le-leb _ _ (omega arith)), ap (λ k. k % 2 ^ n) {y = 1 * 2 ^ n + low} (omega arith) ∙ mod_low 1 n low h)
 top_digit n false low h = (sym (lt-leb _ _ (omega arith)), ap (λ k. k % 2 ^ n) {y = 0 * 2 ^ n + low} (omega arith) ∙ mod_low 0 n low h)
 
@@ -166,13 +165,6 @@ digits-join (suc m) n high low top h =
     ∙ ap (λ b. nat_le (2 ^ m) high ∷ b) (digits-join m n (high % 2 ^ m) low (mod_below high (2 ^ m) (pow_pos m)) h) in
     ap (λ k. digits k (high * 2 ^ n + low)) (suc-both m n) ∙ at
 
--- a field in the middle of a number
-pub field_of : (a n r : ℕ) (bits : List Bool) → number (a + n + r) bits / 2 ^ r % 2 ^ n ≡ number n (drop a bits)
-field_of a n r bits =
-    ap (λ k. k / 2 ^ r % 2 ^ n) (number-split (a + n) r bits)
-    ∙ ap (λ k. k % 2 ^ n) (shr_high (number (a + n) bits) r (number r (drop (a + n) bits)) (number_below r (drop (a + n) bits)) ∙ number-split a n bits)
-    ∙ mod_low (number a bits) n (number n (drop a bits)) (number_below n (drop a bits))
-
 -- ---- bytes
 
 pub bits_of-append : (xs ys : List ℕ) → bits_of (xs ++ ys) ≡ bits_of xs ++ bits_of ys
@@ -234,19 +226,6 @@ padded-only bits xs ys p q one other =
     let same : one.0 ≡ other.0 = omega (arith, one.1, other.1) in
     bits_of-only xs ys p q (one.2 ∙ ap (λ n. bits ++ replicate n false) same ∙ sym other.2)
 
--- ---- the window of a reader that has used some bits of its first byte
-
-pub window_of : (used : ℕ) (bits : List Bool) → used ≤ 7 → number 64 bits / 2 ^ (7 - used) % 2 ^ 57 ≡ number 57 (drop used bits)
-window_of used bits h = ap (λ n. number n bits / 2 ^ (7 - used) % 2 ^ 57) {y = used + 57 + (7 - used)} (omega arith) ∙ field_of used 57 (7 - used) bits
-
--- some bits on, byte by byte
-pub skipped : (used n : ℕ) (bytes : List ℕ) → drop n (drop used (bits_of bytes)) ≡ drop ((used + n) % 8) (bits_of (drop ((used + n) / 8) bytes))
-skipped used n bytes =
-    drop-drop n used (bits_of bytes)
-    ∙ ap (λ k. drop k (bits_of bytes)) {y = 8 * ((used + n) / 8) + (used + n) % 8} (omega arith)
-    ∙ sym (drop-drop ((used + n) % 8) (8 * ((used + n) / 8)) (bits_of bytes))
-    ∙ ap (λ b. drop ((used + n) % 8) b) (drop-byte ((used + n) / 8) bytes)
-
 -- ---- ones
 
 -- the number of n bits that begin with fewer than n ones
@@ -271,42 +250,67 @@ ones-above (suc n) [] h = absurd (omega arith)
 ones-above (suc n) (false ∷ bits) h = absurd (omega arith)
 ones-above (suc n) (true ∷ bits) h = omega (arith, doubled n, ones-above n bits (omega arith))
 
-power-below : (i j a : ℕ) → 2 ^ i ≤ a → a < 2 ^ suc j → i ≤ j
+pub power-below : (i j a : ℕ) → 2 ^ i ≤ a → a < 2 ^ suc j → i ≤ j
 power-below i j a p s = elim (leb_tells i j) [
   | inl h ↦ h.1
   | inr h ↦ let more : 2 ^ suc j ≤ 2 ^ i = pow_mono h.1 in absurd (omega arith)
 ]
 
 -- a number between two powers has that many leading zeros
-leading_zeros-at : (j a : ℕ) → 2 ^ j ≤ a → a < 2 ^ suc j → a < 2 ^ 64 → count_leading_zeros 64 a + suc j ≡ 64
+pub leading_zeros-at : (j a : ℕ) → 2 ^ j ≤ a → a < 2 ^ suc j → a < 2 ^ 64 → count_leading_zeros 64 a + suc j ≡ 64
 leading_zeros-at j a p q h =
     let top = leading_top 64 a (omega (arith, pow_pos j)) h in
     omega (arith, top.1, power-below j top.0 a p top.3, power-below top.0 j a top.2 q)
 
--- the ones at the front of a window, as the machine counts them
-pub ones_of_window : (bits : List Bool) → Int.leading_ones w64 (number 57 bits * 2 ^ 7) ≡ min 57 (ones bits)
-ones_of_window bits = elim (leb_tells 57 (ones bits)) [
-  | inl h ↦
-      let full : number 57 bits + 1 ≡ 2 ^ 57 = ones-above 57 bits h.1 in
-      let rest : 2 ^ 64 - 1 - number 57 bits * 128 ≡ 127 = omega arith in
-      omega (arith, ap (count_leading_zeros 64) rest, leading_zeros-at 6 127 (omega arith) (omega arith) (omega arith))
-  | inr h ↦
-      let j : ℕ = 56 - ones bits in
-      let part = ones-below 57 j bits (omega arith) in
-      let seven : 2 ^ (j + 7) ≡ 2 ^ j * 128 = pow-add 2 j 7 in
-      omega (arith, leading_zeros-at (j + 7) (2 ^ 64 - 1 - number 57 bits * 128) (omega (arith, part.1)) (omega (arith, part.0, doubled j, doubled (j + 7))) (omega arith))
+-- a word whose low k bits are ones, and no others
+zeros-above : (k : ℕ) → k ≤ 64 → count_leading_zeros 64 (2 ^ k - 1) + k ≡ 64
+zeros-above k h =
+    let most : 2 ^ k ≤ 2 ^ 64 = pow_mono h in
+    let top = leading_length 64 (2 ^ k - 1) (omega (arith, pow_pos k)) in
+    let same : top.0 ≡ k = elim (leb_tells k top.0) [
+      | inl low ↦ elim (leb_tells top.0 k) [
+        | inl high ↦ omega (arith, low.1, high.1)
+        | inr over ↦ let more : 2 ^ suc k ≤ 2 ^ top.0 = pow_mono over.1 in absurd (omega (arith, more, top.3, doubled k, pow_pos k))
+      ]
+      | inr under ↦ let more : 2 ^ suc top.0 ≤ 2 ^ k = pow_mono under.1 in absurd (omega (arith, more, top.2, doubled top.0, pow_pos top.0, pow_pos k))
+    ] in
+    omega (arith, top.1, same)
+
+-- the ones at the front of so many bits, as the machine counts them at the top of a word
+pub ones_at_top : (w : ℕ) (bits : List Bool) → w ≤ 64 → Int.leading_ones w64 (number w bits * 2 ^ (64 - w)) ≡ min w (ones bits)
+ones_at_top w bits h = elim (leb_tells w (ones bits)) [
+  | inl all ↦
+      let full : number w bits + 1 ≡ 2 ^ w = ones-above w bits all.1 in
+      let top : number w bits * 2 ^ (64 - w) + 2 ^ (64 - w) ≡ 2 ^ 64 = omega (arith, add-mul (number w bits) 1 (2 ^ (64 - w)), ap (λ k. k * 2 ^ (64 - w)) full, whole) in
+      let rest : 2 ^ 64 - 1 - number w bits * 2 ^ (64 - w) ≡ 2 ^ (64 - w) - 1 = omega arith in
+      omega (arith, all.1, ap (count_leading_zeros 64) rest, zeros-above (64 - w) (omega arith))
+  | inr some ↦
+      let j : ℕ = w - 1 - ones bits in
+      let part = ones-below w j bits (omega (arith, some.1)) in
+      let at : 2 ^ (j + (64 - w)) ≡ 2 ^ j * 2 ^ (64 - w) = pow-add 2 j (64 - w) in
+      let most : 2 ^ w * 2 ^ (64 - w) ≤ (number w bits + 2 ^ suc j) * 2 ^ (64 - w) = mul-le-mul_right (2 ^ (64 - w)) part.0 in
+      let less : (number w bits + 2 ^ j + 1) * 2 ^ (64 - w) ≤ 2 ^ w * 2 ^ (64 - w) = mul-le-mul_right (2 ^ (64 - w)) (omega (arith, part.1)) in
+      let apart = add-mul (number w bits) (2 ^ suc j) (2 ^ (64 - w)) in
+      let one = add-mul (number w bits + 2 ^ j) 1 (2 ^ (64 - w)) in
+      let two = add-mul (number w bits) (2 ^ j) (2 ^ (64 - w)) in
+      let twice : 2 ^ suc j * 2 ^ (64 - w) ≡ 2 ^ suc (j + (64 - w)) = sym (pow-add 2 (suc j) (64 - w)) ∙ ap (λ k. 2 ^ k) {y = suc (j + (64 - w))} (omega arith) in
+      omega (
+        arith,
+        some.1,
+        leading_zeros-at (j + (64 - w)) (2 ^ 64 - 1 - number w bits * 2 ^ (64 - w))
+            (omega (arith, pow_pos (64 - w), at, less, one, two, whole))
+            (omega (arith, pow_pos (64 - w), most, apart, twice, whole))
+            (omega arith),
+      )
 ]
+  where
+    whole : 2 ^ w * 2 ^ (64 - w) ≡ 2 ^ 64
+    whole = sym (pow-add 2 w (64 - w)) ∙ ap (λ k. 2 ^ k) {y = 64} (omega arith)
 
 pub length-ones : (bits : List Bool) → ones bits ≤ length bits
 length-ones [] = omega arith
 length-ones (false ∷ bits) = omega arith
 length-ones (true ∷ bits) = omega (arith, length-ones bits)
-
-pub word_fits : (k : ℕ) (bits : List Bool) → k < 8 → number (8 * k) bits * 256 + 255 < 2 ^ 64
-word_fits k bits h =
-    let below : number (8 * k) bits < 2 ^ (8 * k) = number_below (8 * k) bits in
-    let most : 2 ^ (8 * k) ≤ 2 ^ 56 = let small : 8 * k ≤ 56 = omega arith in pow_mono small in
-    omega arith
 
 number-none : (bits : List Bool) → number 0 bits ≡ 0
 unfolding number
@@ -333,12 +337,6 @@ pub number_top : (n r : ℕ) (bits : List Bool) → number (n + r) bits / 2 ^ r 
 number_top n r bits =
     ap (λ k. k / 2 ^ r) (number-split n r bits) ∙ shr_high (number n bits) r (number r (drop n bits)) (number_below r (drop n bits))
 
-pub window_top : (n : ℕ) (bits : List Bool) → n ≤ 57 → number 57 bits / 2 ^ (57 - n) ≡ number n bits
-window_top n bits h = ap (λ k. number k bits / 2 ^ (57 - n)) {y = n + (57 - n)} (omega arith) ∙ number_top n (57 - n) bits
-
-pub window_field : (a n : ℕ) (bits : List Bool) → a + n ≤ 57 → number 57 bits / 2 ^ (57 - (a + n)) % 2 ^ n ≡ number n (drop a bits)
-window_field a n bits h = ap (λ k. number k bits / 2 ^ (57 - (a + n)) % 2 ^ n) {y = a + n + (57 - (a + n))} (omega arith) ∙ field_of a n (57 - (a + n)) bits
-
 -- ones that are gone past
 pub ones-drop : (n : ℕ) (bits : List Bool) → n ≤ ones bits → ones bits ≡ n + ones (drop n bits)
 ones-drop zero bits h = omega arith
@@ -348,19 +346,6 @@ ones-drop (suc n) (true ∷ bits) h = omega (arith, ones-drop n bits (omega arit
 
 pub drop-ones : (n : ℕ) (bits : List Bool) → n ≤ ones bits → drop (suc (ones (drop n bits))) (drop n bits) ≡ drop (suc (ones bits)) bits
 drop-ones n bits h = drop-drop (suc (ones (drop n bits))) n bits ∙ ap (λ k. drop k bits) {y = suc (ones bits)} (omega (arith, ones-drop n bits h))
-
--- the same as the machine computes it
-pub masked_field : (a n window : ℕ) (bits : List Bool) → a + n ≤ 57 → window ≡ number 57 bits
-    → bit_and (window / 2 ^ (57 - (a + n))) (1 * 2 ^ n % 2 ^ 64 - 1) ≡ number n (drop a bits)
-masked_field a n window bits h is =
-    ap (λ m. bit_and (window / 2 ^ (57 - (a + n))) (m - 1)) (one_shl n 64 (omega arith))
-    ∙ and_mask (window / 2 ^ (57 - (a + n))) n
-    ∙ ap (λ w. w / 2 ^ (57 - (a + n)) % 2 ^ n) is
-    ∙ window_field a n bits h
-
-pub window_value : (word used : ℕ) (bits : List Bool) → word ≡ number 64 bits → used ≤ 7 → bit_and (word / 2 ^ (7 - used)) (2 ^ 57 - 1) ≡ number 57 (drop used bits)
-window_value word used bits is h =
-    and_mask (word / 2 ^ (7 - used)) 57 ∙ ap (λ w. w / 2 ^ (7 - used) % 2 ^ 57) is ∙ window_of used bits h
 
 -- the next bit as a number
 pub number_1 : (bits : List Bool) → number 1 bits ≡ cond (first bits) 1 0

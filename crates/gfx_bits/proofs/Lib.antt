@@ -2,3 +2,5 @@ pub mod Laws
 pub mod Writing
 pub mod Zeros
 pub mod Padding
+pub mod Ahead
+pub mod Showing

@@ -1,15 +1,14 @@
 -- Zeros at the front of bits, as a window has them and as they are written.
-use Rattle.std.proofs.Common.{◌≡◌, ℕ, zero, suc, ◌+◌, ◌-◌, ◌*◌, ◌%◌, ◌^◌, ◌<◌, ◌≤◌, Bool, true, false, cond, List, [], ◌∷◌, ◌++◌, ◌⊎◌, drop, refl, sym, ap, ◌∙◌, arith, min, subst, replicate, inl, inr, append_assoc}
-use Rattle.std.specs.Prelude.{nat_lt}
+use Rattle.std.proofs.Common.{◌≡◌, ℕ, zero, suc, ◌+◌, ◌-◌, ◌*◌, ◌%◌, ◌^◌, ◌<◌, ◌≤◌, Bool, true, false, cond, List, [], ◌∷◌, ◌++◌, ◌⊎◌, drop, refl, sym, ap, ◌∙◌, arith, min, subst, replicate, inl, inr, append_assoc, length, length-append, nat_lt}
 use Rattle.std.specs.Int.Count.{count_leading_zeros}
-use Rattle.std.proofs.Math.Nat.{zero-mod}
+use Rattle.std.proofs.Math.Nat.{zero-mod, zero-mul, mul-le-mul_right}
 use Rattle.std.proofs.Math.Pow.{pow_mono}
 use Rattle.std.proofs.lemmas.Bool.{lt-leb, lt-ltb, le-ltb}
-use Rattle.std.proofs.lemmas.Bool.Decides.{leb_tells, eqb_tells}
-use Rattle.std.proofs.lemmas.List.{drop-drop, replicate-append-replicate, append-nil}
-use Rattle.std.proofs.lemmas.Nat.{pow_pos, pow-add, leading_top}
+use Rattle.std.proofs.lemmas.Bool.Decides.{eqb_tells}
+use Rattle.std.proofs.lemmas.List.{drop-drop, replicate-append-replicate, append-nil, length-replicate}
+use Rattle.std.proofs.lemmas.Nat.{pow_pos, pow-add, leading_top, shl_below}
 use Rattle.gfx_bits.specs.Bits.{first, number, digits, Spelled, zeros_code}
-use Rattle.gfx_bits.proofs.Laws.{number_below, doubled, spelled-join}
+use Rattle.gfx_bits.proofs.Laws.{number_below, spelled-join, leading_zeros-at}
 
 -- bits whose number has a top bit of zero or one
 top-zero : (m r : ℕ) (b : Bool) (rest : ℕ) → r ≤ m → cond b (2 ^ m) 0 + rest < 2 ^ r → (b ≡ false) × (rest < 2 ^ r)
@@ -44,46 +43,43 @@ one-front (suc n) r bits p q =
     omega (arith, subst (λ b. 2 ^ r ≤ cond b (2 ^ (n + suc r)) 0 + number (n + suc r) (drop 1 bits)) top.0 (subst (λ k. 2 ^ r ≤ number k bits) more p)) in
     ap first (sym (drop-suc n bits)) ∙ one-front n r (drop 1 bits) least top.1
 
--- where a window's first one stands, if it has any
-first_one : (bits : List Bool) → (number 57 bits ≡ 0) ⊎ ((j : ℕ) × (2 ^ j ≤ number 57 bits) × (number 57 bits < 2 ^ suc j) × (count_leading_zeros 64 (number 57 bits * 2 ^ 7) ≡ 56 - j) × (j ≤ 56))
-first_one bits = elim (eqb_tells (number 57 bits) 0) [
-  | inl h ↦ inl h.1
-  | inr h ↦
-      let below : number 57 bits < 2 ^ 57 = number_below 57 bits in
-      let top = leading_top 64 (number 57 bits * 2 ^ 7) (omega (arith, h.1)) (omega arith) in
-      at-top (number 57 bits) top.0 (count_leading_zeros 64 (number 57 bits * 2 ^ 7)) (omega (arith, h.1)) below top.1 top.2 top.3
+-- where the first one of so many bits stands, if they have any
+first_one : (w : ℕ) (bits : List Bool) → w ≤ 64
+    → (number w bits ≡ 0) ⊎ ((j : ℕ) × (2 ^ j ≤ number w bits) × (number w bits < 2 ^ suc j) × (count_leading_zeros 64 (number w bits * 2 ^ (64 - w)) + suc j ≡ w))
+first_one w bits h = elim (eqb_tells (number w bits) 0) [
+  | inl none ↦ inl none.1
+  | inr some ↦
+      let top = leading_top w (number w bits) (omega (arith, some.1)) (number_below w bits) in
+      let j : ℕ = top.0 in
+      let low : 2 ^ j * 2 ^ (64 - w) ≤ number w bits * 2 ^ (64 - w) = mul-le-mul_right (2 ^ (64 - w)) top.2 in
+      let high : number w bits * 2 ^ (64 - w) < 2 ^ (suc j + (64 - w)) = shl_below (number w bits) (suc j) (64 - w) top.3 in
+      let over : 2 ^ (suc j + (64 - w)) ≡ 2 ^ suc (j + (64 - w)) = ap (λ k. 2 ^ k) {x = suc j + (64 - w)} {y = suc (j + (64 - w))} (omega arith) in
+      let most : number w bits * 2 ^ (64 - w) < 2 ^ (w + (64 - w)) = shl_below (number w bits) w (64 - w) (number_below w bits) in
+      let all : 2 ^ (w + (64 - w)) ≡ 2 ^ 64 = ap (λ k. 2 ^ k) {x = w + (64 - w)} {y = 64} (omega arith) in
+      let zeros = leading_zeros-at (j + (64 - w)) (number w bits * 2 ^ (64 - w)) (omega (arith, pow-add 2 j (64 - w), low)) (omega (arith, high, over)) (omega (arith, most, all)) in
+      inr (j, top.2, top.3, omega (arith, zeros, top.1))
 ]
-  where
-    power-low : (j : ℕ) → 128 < 2 ^ suc j → 7 ≤ j
-    power-low j h = elim (leb_tells 7 j) [ inl p ↦ p.1 | inr p ↦ let more : 2 ^ suc j ≤ 2 ^ 7 = let few : suc j ≤ 7 = omega (arith, p.1) in pow_mono few in absurd (omega arith) ]
 
-    at-top : (a j count : ℕ) → 1 ≤ a → a < 2 ^ 57 → count + suc j ≡ 64 → 2 ^ j ≤ a * 2 ^ 7 → a * 2 ^ 7 < 2 ^ suc j
-        → (a ≡ 0) ⊎ ((i : ℕ) × (2 ^ i ≤ a) × (a < 2 ^ suc i) × (count ≡ 56 - i) × (i ≤ 56))
-    at-top a j count some below is p q =
-        let seven : 7 ≤ j = power-low j (omega arith) in
-        let i : ℕ = j - 7 in
-        let at : j ≡ i + 7 = omega arith in
-        let whole : 2 ^ j ≡ 2 ^ i * 128 = ap (λ k. 2 ^ k) at ∙ pow-add 2 i 7 in
-        inr (i, omega arith, omega (arith, doubled i, doubled j), omega arith, omega arith)
-
--- what leading zeros of a window, as the machine counts them, are
-pub window_zeros : (bits : List Bool) (count n : ℕ) → count ≡ min (count_leading_zeros 64 (number 57 bits * 2 ^ 7)) 57 → n ≤ count → Spelled bits (replicate n false) (drop n bits)
-window_zeros bits count n e h = elim (first_one bits) [
-  | inl none ↦ zeros-front n (57 - n) bits (subst (λ k. number k bits < 2 ^ (57 - n)) {x = 57} (omega arith) (omega (arith, none, pow_pos (57 - n))))
+-- what leading zeros of bits at the top of a word, as the machine counts them, are
+pub zeros_at_top : (w : ℕ) (bits : List Bool) (count n : ℕ) → w ≤ 64 → count ≡ min (count_leading_zeros 64 (number w bits * 2 ^ (64 - w))) w → n ≤ count
+    → Spelled bits (replicate n false) (drop n bits)
+zeros_at_top w bits count n fits e h = elim (first_one w bits fits) [
+  | inl none ↦ zeros-front n (w - n) bits (subst (λ k. number k bits < 2 ^ (w - n)) {x = w} (omega arith) (omega (arith, none, pow_pos (w - n))))
   | inr one ↦
-      let less : 2 ^ suc one.0 ≤ 2 ^ (57 - n) = let few : suc one.0 ≤ 57 - n = omega (arith, one.3, one.4) in pow_mono few in
-      zeros-front n (57 - n) bits (subst (λ k. number k bits < 2 ^ (57 - n)) {x = 57} (omega (arith, one.3, one.4)) (omega (arith, one.2)))
+      let less : 2 ^ suc one.0 ≤ 2 ^ (w - n) = let few : suc one.0 ≤ w - n = omega (arith, one.3) in pow_mono few in
+      zeros-front n (w - n) bits (subst (λ k. number k bits < 2 ^ (w - n)) {x = w} (omega (arith, one.3)) (omega (arith, one.2)))
 ]
 
-nothing : (a : ℕ) → a ≡ 0 → count_leading_zeros 64 (a * 2 ^ 7) ≡ 64
+nothing : (a q : ℕ) → a ≡ 0 → count_leading_zeros 64 (a * q) ≡ 64
 unfolding count_leading_zeros
-nothing a e = ap (λ k. count_leading_zeros 64 (k * 2 ^ 7)) e
+nothing a q e = ap (count_leading_zeros 64) {y = 0} (ap (λ k. k * q) e ∙ zero-mul q)
 
-pub window_one : (bits : List Bool) (count : ℕ) → count ≡ min (count_leading_zeros 64 (number 57 bits * 2 ^ 7)) 57 → count < 57 → first (drop count bits) ≡ true
-window_one bits count e h = elim (first_one bits) [
-  | inl none ↦ absurd (omega (arith, nothing (number 57 bits) none))
+pub one_at_top : (w : ℕ) (bits : List Bool) (count : ℕ) → w ≤ 64 → count ≡ min (count_leading_zeros 64 (number w bits * 2 ^ (64 - w))) w → count < w
+    → first (drop count bits) ≡ true
+one_at_top w bits count fits e h = elim (first_one w bits fits) [
+  | inl none ↦ absurd (omega (arith, nothing (number w bits) (2 ^ (64 - w)) none))
   | inr one ↦
-      let whole : 57 ≡ count + suc one.0 = omega (arith, one.3, one.4) in
+      let whole : w ≡ count + suc one.0 = omega (arith, one.3) in
       one-front count one.0 bits (subst (λ k. 2 ^ one.0 ≤ number k bits) whole one.1) (subst (λ k. number k bits < 2 ^ suc one.0) whole one.2)
 ]
 
@@ -106,6 +102,17 @@ unfolding zeros_code
 most-read old new most count e p =
     subst (λ b. Spelled old (replicate count false ++ cond b (true ∷ []) []) new) (sym (le-ltb count most (omega arith)))
     (subst (λ code. Spelled old code new) (sym (append-nil (replicate count false))) p)
+
+-- how many bits a count takes
+pub code-size : (most count : ℕ) → length (zeros_code most count) ≡ count + cond (nat_lt count most) 1 0
+unfolding zeros_code
+code-size most count =
+    length-append (replicate count false) (cond (nat_lt count most) (true ∷ []) [])
+    ∙ omega (arith, length-replicate count false, ending (nat_lt count most))
+  where
+    ending : (b : Bool) → length (cond b (true ∷ []) []) ≡ cond b 1 0
+    ending true = refl
+    ending false = refl
 
 -- ---- zeros written
 

@@ -5,8 +5,10 @@
 
 mod filling;
 mod reader;
+mod word;
 mod writer;
 
 pub use filling::what_bits_fill;
 pub use reader::BitReader;
+pub use word::{number_in, zeros_in, zeros_size};
 pub use writer::{BitWriter, NoBits};

@@ -1,12 +1,14 @@
 pub mod Blocks
 pub mod Bounds
 pub mod Edges
-pub mod FirstLevel
 pub mod Levels
+pub mod NarrowLevels
+pub mod NarrowLines
 pub mod NoDetail
 pub mod Pairs
 pub mod Planes
 pub mod Same
+pub mod Smooth
 pub mod Spans
 pub mod SplitBounds
 pub mod SplitLevels

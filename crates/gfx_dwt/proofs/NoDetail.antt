@@ -35,19 +35,19 @@ behind_nought Reduced First = refl
 behind_nought Reduced Second = refl
 behind_nought Reduced Third = refl
 
-edged_nought : (t : Transform) (l : Scale) (n : ℕ) → edged t l nought n ≡ pos 0
+pub edged_nought : (t : Transform) (l : Scale) (n : ℕ) → edged t l nought n ≡ pos 0
 edged_nought t l n =
     ⊎_elim
     (λ h. edged_inside t l nought n h)
     (λ h. edged_behind t l nought n h ∙ behind_nought t l)
     (inside_or_not n (high_size t l))
 
-even_of_nought : (t : Transform) (z : ℤ) → even_of t z (pos 0) (pos 0) ≡ z
+pub even_of_nought : (t : Transform) (z : ℤ) → even_of t z (pos 0) (pos 0) ≡ z
 unfolding halved
 even_of_nought Plain z = omega (arith, ints)
 even_of_nought Reduced z = omega (arith, ints)
 
-odd_of_nought : (t : Transform) (x y : ℤ) → odd_of t (pos 0) x y ≡ halved t (x +ℤ y)
+pub odd_of_nought : (t : Transform) (x y : ℤ) → odd_of t (pos 0) x y ≡ halved t (x +ℤ y)
 odd_of_nought t x y = omega (arith, ints)
 
 pub halved_twice : (t : Transform) (z : ℤ) → halved t (z +ℤ z) ≡ z

@@ -137,3 +137,12 @@ pub fn odd_sample<L: NarrowLifting>(high: i16, left: i16, right: i16) -> i16
 {
     sum(double(high), L::half(sum(left, right)))
 }
+
+#[inline]
+pub fn between<L: NarrowLifting>(left: i16, right: i16) -> i16
+    requires left { Within 16382 left }
+    requires right { Within 16382 right }
+    ensures { result ≡ halved L.transform (left +ℤ right) }
+{
+    L::half(sum(left, right))
+}

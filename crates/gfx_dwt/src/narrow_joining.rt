@@ -1,7 +1,6 @@
-ghost use Rattle.std.specs.Prelude.{◌≡◌, ℕ, ◌+◌, ◌*◌, ◌<◌, ◌≤◌, length};
-ghost use Rattle.gfx_dwt.specs.declared.layout.Scale.TheVariants.{First};
+ghost use Rattle.std.specs.Prelude.{◌≡◌, ℕ, ◌+◌, ◌-◌, ◌*◌, ◌/◌, ◌%◌, ◌<◌, ◌≤◌, ◌==◌, if◌then◌else◌, length};
 ghost use Rattle.gfx_dwt.specs.Joining.{even, joined, odd};
-ghost use Rattle.gfx_dwt.specs.Place.{high_size, low_size};
+ghost use Rattle.gfx_dwt.specs.Place.{high_size, line_size, low_size};
 ghost use Rattle.gfx_dwt.specs.Ranges.{AllWithin, at};
 ghost use Rattle.gfx_dwt.specs.Samples.{cell, column};
 
@@ -10,99 +9,235 @@ use crate::narrow_grid::{narrow_edge_row, narrow_row};
 use crate::narrow_kernels::{lower, pair, raise};
 use crate::narrow_lines::join_narrow_line;
 
-/// Joins each row of a low and of a high quarter of the first level.
-pub fn join_narrow_rows(
+/// Joins each row of a low and of a high quarter.
+#[inline(always)]
+fn join_rows_of(
     transform: Transform,
+    level: Scale,
     low: &[i16],
     high: &[i16],
     out: &mut [i16],
     rows: usize,
 )
     requires rows { rows ≤ 64 }
-    requires low_len { length low.now ≡ rows * low_size transform First }
-    requires high_len { length high.now ≡ rows * high_size transform First }
-    requires out_len { length out.old ≡ rows * 64 }
+    requires low_len { length low.now ≡ rows * low_size transform level }
+    requires high_len { length high.now ≡ rows * high_size transform level }
+    requires out_len { length out.old ≡ rows * line_size transform level }
     requires low { AllWithin 10239 low.now }
     requires high { AllWithin 6143 high.now }
-    ensures { (r c : ℕ) → r < rows → c < 64 → cell 64 out.new r c ≡ joined transform First (cell (low_size transform First) low.now r) (cell (high_size transform First) high.now r) c }
+    ensures { (r c : ℕ) → r < rows → c < line_size transform level → cell (line_size transform level) out.new r c ≡ joined transform level (cell (low_size transform level) low.now r) (cell (high_size transform level) high.now r) c }
 {
-    let low_size = Scale::First.low_size(transform);
-    let high_size = Scale::First.high_size(transform);
+    let low_size = level.low_size(transform);
+    let high_size = level.high_size(transform);
+    let size = low_size + high_size;
     for r in 0..rows {
         let low = narrow_row(low, low_size, r);
         let high = narrow_row(high, high_size, r);
-        let start = r * 64;
-        join_narrow_line(transform, low, high, &mut out[start..start + 64]);
+        let start = r * size;
+        join_narrow_line(transform, level, low, high, &mut out[start..start + size]);
+    }
+}
+
+/// The same. Sizes are known in each of the cases, so that each has loops of its own.
+pub fn join_narrow_rows(
+    transform: Transform,
+    level: Scale,
+    low: &[i16],
+    high: &[i16],
+    out: &mut [i16],
+    rows: usize,
+)
+    requires rows { rows ≤ 64 }
+    requires low_len { length low.now ≡ rows * low_size transform level }
+    requires high_len { length high.now ≡ rows * high_size transform level }
+    requires out_len { length out.old ≡ rows * line_size transform level }
+    requires low { AllWithin 10239 low.now }
+    requires high { AllWithin 6143 high.now }
+    ensures { (r c : ℕ) → r < rows → c < line_size transform level → cell (line_size transform level) out.new r c ≡ joined transform level (cell (low_size transform level) low.now r) (cell (high_size transform level) high.now r) c }
+{
+    match (transform, level) {
+        (Transform::Plain, Scale::First) => {
+            join_rows_of(Transform::Plain, Scale::First, low, high, out, rows)
+        }
+        (Transform::Plain, Scale::Second) => {
+            join_rows_of(Transform::Plain, Scale::Second, low, high, out, rows)
+        }
+        (Transform::Plain, Scale::Third) => {
+            join_rows_of(Transform::Plain, Scale::Third, low, high, out, rows)
+        }
+        (Transform::Reduced, Scale::First) => {
+            join_rows_of(Transform::Reduced, Scale::First, low, high, out, rows)
+        }
+        (Transform::Reduced, Scale::Second) => {
+            join_rows_of(Transform::Reduced, Scale::Second, low, high, out, rows)
+        }
+        (Transform::Reduced, Scale::Third) => {
+            join_rows_of(Transform::Reduced, Scale::Third, low, high, out, rows)
+        }
     }
 }
 
 /// Writes two rows behind a known even one: the odd row behind it, and the next even row.
 #[inline(always)]
-fn join_pair(transform: Transform, low: &[i16], high: &[i16], place: usize, rows: &mut [i16])
-    requires place { place + 1 < low_size transform First }
-    requires low_len { length low.now ≡ low_size transform First * 64 }
-    requires high_len { length high.now ≡ high_size transform First * 64 }
-    requires rows_len { length rows.old ≡ 192 }
+fn join_pair(
+    transform: Transform,
+    level: Scale,
+    low: &[i16],
+    high: &[i16],
+    place: usize,
+    rows: &mut [i16],
+    width: usize,
+)
+    requires width { width ≤ 64 }
+    requires place { place + 1 < low_size transform level }
+    requires low_len { length low.now ≡ low_size transform level * width }
+    requires high_len { length high.now ≡ high_size transform level * width }
+    requires rows_len { length rows.old ≡ 3 * width }
     requires low { AllWithin 10239 low.now }
     requires high { AllWithin 6143 high.now }
-    requires above { (c : ℕ) → c < 64 → at rows.old c ≡ even transform First (column 64 low.now c) (column 64 high.now c) place }
-    ensures above { (c : ℕ) → c < 64 → at rows.new c ≡ at rows.old c }
-    ensures odds { (c : ℕ) → c < 64 → at rows.new (64 + c) ≡ odd transform First (column 64 low.now c) (column 64 high.now c) place }
-    ensures evens { (c : ℕ) → c < 64 → at rows.new (64 + (64 + c)) ≡ even transform First (column 64 low.now c) (column 64 high.now c) (place + 1) }
+    requires above { (c : ℕ) → c < width → at rows.old c ≡ even transform level (column width low.now c) (column width high.now c) place }
+    ensures above { (c : ℕ) → c < width → at rows.new c ≡ at rows.old c }
+    ensures odds { (c : ℕ) → c < width → at rows.new (width + c) ≡ odd transform level (column width low.now c) (column width high.now c) place }
+    ensures evens { (c : ℕ) → c < width → at rows.new (width + (width + c)) ≡ even transform level (column width low.now c) (column width high.now c) (place + 1) }
 {
-    let (above, rest) = rows.split_at_mut(64);
-    let (odds, evens) = rest.split_at_mut(64);
-    let here = narrow_edge_row(transform, high, place);
-    let next = narrow_edge_row(transform, high, place + 1);
+    let (above, rest) = rows.split_at_mut(width);
+    let (odds, evens) = rest.split_at_mut(width);
+    let here = narrow_edge_row(transform, level, high, width, place);
+    let next = narrow_edge_row(transform, level, high, width, place + 1);
     pair(
         transform,
         above,
         odds,
         evens,
-        narrow_row(low, 64, place + 1),
+        narrow_row(low, width, place + 1),
         here,
         next,
     );
 }
 
-/// Writes the last row, behind the last even row that has a row behind it.
-fn join_last(transform: Transform, low: &[i16], high: &[i16], rows: &mut [i16])
-    requires low_len { length low.now ≡ low_size transform First * 64 }
-    requires high_len { length high.now ≡ high_size transform First * 64 }
-    requires rows_len { length rows.old ≡ 128 }
+/// Writes the last row of a plane of even width, behind its last even row.
+#[inline(always)]
+fn join_last(
+    transform: Transform,
+    level: Scale,
+    low: &[i16],
+    high: &[i16],
+    place: usize,
+    rows: &mut [i16],
+    width: usize,
+)
+    requires width { width ≤ 64 }
+    requires whole { 2 * place + 2 ≡ line_size transform level }
+    requires low_len { length low.now ≡ low_size transform level * width }
+    requires high_len { length high.now ≡ high_size transform level * width }
+    requires rows_len { length rows.old ≡ 2 * width }
     requires low { AllWithin 10239 low.now }
     requires high { AllWithin 6143 high.now }
-    requires above { (c : ℕ) → c < 64 → at rows.old c ≡ even transform First (column 64 low.now c) (column 64 high.now c) 31 }
-    ensures above { (c : ℕ) → c < 64 → at rows.new c ≡ at rows.old c }
-    ensures odds { (c : ℕ) → c < 64 → at rows.new (64 + c) ≡ odd transform First (column 64 low.now c) (column 64 high.now c) 31 }
+    requires above { (c : ℕ) → c < width → at rows.old c ≡ even transform level (column width low.now c) (column width high.now c) place }
+    ensures above { (c : ℕ) → c < width → at rows.new c ≡ at rows.old c }
+    ensures odds { (c : ℕ) → c < width → at rows.new (width + c) ≡ odd transform level (column width low.now c) (column width high.now c) place }
 {
-    let (above, odds) = rows.split_at_mut(64);
-    let here = narrow_edge_row(transform, high, 31);
+    let (above, odds) = rows.split_at_mut(width);
+    let here = narrow_edge_row(transform, level, high, width, place);
     match transform {
         Transform::Plain => raise(transform, odds, here, above, above),
-        Transform::Reduced => raise(transform, odds, here, above, narrow_row(low, 64, 32)),
+        Transform::Reduced => raise(
+            transform,
+            odds,
+            here,
+            above,
+            narrow_row(low, width, place + 1),
+        ),
     }
 }
 
-/// Joins each column of the two halves of the first level, row by row over whole rows.
-pub fn join_narrow_columns(transform: Transform, low: &[i16], high: &[i16], out: &mut [i16; 4096])
-    requires low_len { length low.now ≡ low_size transform First * 64 }
-    requires high_len { length high.now ≡ high_size transform First * 64 }
+/// Joins each column of the two halves of a plane, row by row over whole rows.
+#[inline(always)]
+fn join_columns_of(
+    transform: Transform,
+    level: Scale,
+    low: &[i16],
+    high: &[i16],
+    out: &mut [i16],
+    width: usize,
+)
+    requires width { width ≡ line_size transform level }
+    requires low_len { length low.now ≡ low_size transform level * width }
+    requires high_len { length high.now ≡ high_size transform level * width }
+    requires out_len { length out.old ≡ width * width }
     requires low { AllWithin 10239 low.now }
     requires high { AllWithin 6143 high.now }
-    ensures { (y x : ℕ) → y < 64 → x < 64 → cell 64 out.new y x ≡ joined transform First (column 64 low.now x) (column 64 high.now x) y }
+    ensures { (y x : ℕ) → y < width → x < width → cell width out.new y x ≡ joined transform level (column width low.now x) (column width high.now x) y }
 {
-    let first = narrow_row(high, 64, 0);
+    let first = narrow_row(high, width, 0);
     lower(
         transform,
-        &mut out[..64],
-        narrow_row(low, 64, 0),
+        &mut out[..width],
+        narrow_row(low, width, 0),
         first,
         first,
     );
-    for place in 0..31 {
-        let start = 2 * place * 64;
-        join_pair(transform, low, high, place, &mut out[start..start + 192]);
+    for place in 0..(width - 1) / 2 {
+        let start = 2 * place * width;
+        join_pair(
+            transform,
+            level,
+            low,
+            high,
+            place,
+            &mut out[start..start + 3 * width],
+            width,
+        );
     }
-    join_last(transform, low, high, &mut out[3968..]);
+    if width % 2 == 0 {
+        let start = (width - 2) * width;
+        join_last(
+            transform,
+            level,
+            low,
+            high,
+            (width - 2) / 2,
+            &mut out[start..start + 2 * width],
+            width,
+        );
+    }
+}
+
+/// The same. Sizes are known in each of the cases, so that each has loops of its own.
+pub fn join_narrow_columns(
+    transform: Transform,
+    level: Scale,
+    low: &[i16],
+    high: &[i16],
+    out: &mut [i16],
+    width: usize,
+)
+    requires width { width ≡ line_size transform level }
+    requires low_len { length low.now ≡ low_size transform level * width }
+    requires high_len { length high.now ≡ high_size transform level * width }
+    requires out_len { length out.old ≡ width * width }
+    requires low { AllWithin 10239 low.now }
+    requires high { AllWithin 6143 high.now }
+    ensures { (y x : ℕ) → y < width → x < width → cell width out.new y x ≡ joined transform level (column width low.now x) (column width high.now x) y }
+{
+    match (transform, level) {
+        (Transform::Plain, Scale::First) => {
+            join_columns_of(Transform::Plain, Scale::First, low, high, out, 64)
+        }
+        (Transform::Plain, Scale::Second) => {
+            join_columns_of(Transform::Plain, Scale::Second, low, high, out, 32)
+        }
+        (Transform::Plain, Scale::Third) => {
+            join_columns_of(Transform::Plain, Scale::Third, low, high, out, 16)
+        }
+        (Transform::Reduced, Scale::First) => {
+            join_columns_of(Transform::Reduced, Scale::First, low, high, out, 64)
+        }
+        (Transform::Reduced, Scale::Second) => {
+            join_columns_of(Transform::Reduced, Scale::Second, low, high, out, 33)
+        }
+        (Transform::Reduced, Scale::Third) => {
+            join_columns_of(Transform::Reduced, Scale::Third, low, high, out, 17)
+        }
+    }
 }

@@ -1,9 +1,11 @@
-ghost use Rattle.std.specs.Prelude.{◌≡◌, ℕ, ◌<◌, length};
-ghost use Rattle.gfx_dwt.specs.Lifting.{even_of, odd_of};
+ghost use Rattle.std.specs.Prelude.{◌≡◌, ℕ, ◌<◌, ◌+ℤ◌, length};
+ghost use Rattle.gfx_dwt.specs.Lifting.{even_of, halved, odd_of};
 ghost use Rattle.gfx_dwt.specs.Ranges.{AllWithin, at};
 
 use crate::layout::Transform;
-use crate::narrow_formula::{NarrowLifting, PlainNarrow, ReducedNarrow, even_sample, odd_sample};
+use crate::narrow_formula::{
+    NarrowLifting, PlainNarrow, ReducedNarrow, between, even_sample, odd_sample,
+};
 
 /// Writes even samples, from the low half and the high half around them.
 #[inline(always)]
@@ -66,6 +68,20 @@ fn raise_by<L: NarrowLifting>(out: &mut [i16], high: &[i16], left: &[i16], right
     }
 }
 
+/// Writes samples half way between their neighbours.
+#[inline(always)]
+fn amid_by<L: NarrowLifting>(out: &mut [i16], left: &[i16], right: &[i16])
+    requires left_len { length left.now ≡ length out.old }
+    requires right_len { length right.now ≡ length out.old }
+    requires left { AllWithin 16382 left.now }
+    requires right { AllWithin 16382 right.now }
+    ensures { (k : ℕ) → k < length out.old → at out.new k ≡ halved L.transform (at left.now k +ℤ at right.now k) }
+{
+    for k in 0..out.len() {
+        out[k] = between::<L>(left[k], right[k]);
+    }
+}
+
 #[inline(always)]
 pub fn lower(transform: Transform, out: &mut [i16], low: &[i16], before: &[i16], here: &[i16])
     requires low_len { length low.now ≡ length out.old }
@@ -123,5 +139,40 @@ pub fn raise(transform: Transform, out: &mut [i16], high: &[i16], left: &[i16], 
     match transform {
         Transform::Plain => raise_by::<PlainNarrow>(out, high, left, right),
         Transform::Reduced => raise_by::<ReducedNarrow>(out, high, left, right),
+    }
+}
+
+#[inline(always)]
+pub fn amid(transform: Transform, out: &mut [i16], left: &[i16], right: &[i16])
+    requires left_len { length left.now ≡ length out.old }
+    requires right_len { length right.now ≡ length out.old }
+    requires left { AllWithin 16382 left.now }
+    requires right { AllWithin 16382 right.now }
+    ensures { (k : ℕ) → k < length out.old → at out.new k ≡ halved transform (at left.now k +ℤ at right.now k) }
+{
+    match transform {
+        Transform::Plain => amid_by::<PlainNarrow>(out, left, right),
+        Transform::Reduced => amid_by::<ReducedNarrow>(out, left, right),
+    }
+}
+
+/// Writes the same numbers.
+#[inline(always)]
+pub fn copy(values: &[i16], out: &mut [i16])
+    requires { length values.now ≡ length out.old }
+    ensures { (k : ℕ) → k < length out.old → at out.new k ≡ at values.now k }
+{
+    for k in 0..out.len() {
+        out[k] = values[k];
+    }
+}
+
+/// Puts one number in all places.
+#[inline(always)]
+pub fn fill(out: &mut [i16], value: i16)
+    ensures { (k : ℕ) → k < length out.old → at out.new k ≡ value }
+{
+    for place in 0..out.len() {
+        out[place] = value;
     }
 }

@@ -1,92 +1,178 @@
-ghost use Rattle.std.specs.Prelude.{◌≡◌, ℕ, ◌+◌, ◌-◌, ◌*◌, ◌<◌, ◌≤◌, length, slice_set};
-ghost use Rattle.gfx_dwt.specs.Place.{high_size, low_size};
-ghost use Rattle.gfx_dwt.specs.declared.layout.Scale.TheVariants.{First};
-ghost use Rattle.gfx_dwt.specs.declared.layout.Transform.TheVariants.{Plain, Reduced};
-ghost use Rattle.gfx_dwt.specs.Joining.{joined, lowered};
-ghost use Rattle.gfx_dwt.specs.Lifting.{odd_of};
-ghost use Rattle.gfx_dwt.specs.Ranges.{AllWithin, Within, at};
+ghost use Rattle.std.specs.Prelude.{◌≡◌, ℕ, ◌+◌, ◌-◌, ◌*◌, ◌/◌, ◌<◌, ◌≤◌, length};
+ghost use Rattle.gfx_dwt.specs.Place.{high_size, line_size, low_size};
+ghost use Rattle.gfx_dwt.specs.Joining.{behind, edged, joined};
+ghost use Rattle.gfx_dwt.specs.Lifting.{even_of, odd_of};
+ghost use Rattle.gfx_dwt.specs.Ranges.{AllWithin, at};
 
-use crate::layout::Transform;
-use crate::narrow_formula::{NarrowLifting, PlainNarrow, ReducedNarrow, even_sample, odd_sample};
+use crate::layout::{Scale, Transform};
+use crate::narrow_kernels::{fill, lower, raise};
 
-/// So many pairs of samples, each an even one and the odd one behind it, and the even sample behind them.
+/// Writes places with the first one twice.
 #[inline(always)]
-#[tactic(auto, unfolding(crate::specs::Joining::lowered))]
-fn pairs<L: NarrowLifting>(low: &[i16], high: &[i16], out: &mut [i16], count: usize) -> i16
-    requires low_len { count < length low.now }
-    requires high_len { count < length high.now }
-    requires out_len { 2 * count ≤ length out.old }
-    requires low { AllWithin 10239 low.now }
-    requires high { AllWithin 6143 high.now }
-    ensures evens { (k : ℕ) → k < count → at out.new (2 * k) ≡ lowered L.transform (at low.now) (at high.now) k }
-    ensures odds { (k : ℕ) → k < count → at out.new (2 * k + 1) ≡ odd_of L.transform (at high.now k) (lowered L.transform (at low.now) (at high.now) k) (lowered L.transform (at low.now) (at high.now) (k + 1)) }
-    ensures last { result ≡ lowered L.transform (at low.now) (at high.now) count }
-    ensures small { Within 16382 result }
+fn put_behind_first(places: &[i16], out: &mut [i16])
+    requires some { 0 < length places.now }
+    requires out_len { length places.now < length out.old }
+    ensures { (k : ℕ) → k < length places.now + 1 → at out.new k ≡ at places.now (k - 1) }
 {
-    let mut sample = even_sample::<L>(low[0], high[0], high[0]);
-    for k in 0..count {
-        let next = even_sample::<L>(low[k + 1], high[k], high[k + 1]);
-        out[2 * k] = sample;
-        out[2 * k + 1] = odd_sample::<L>(high[k], sample, next);
-        sample = next;
+    out[0] = places[0];
+    for k in 0..places.len() {
+        out[k + 1] = places[k];
     }
-    sample
 }
 
-/// Writes an even sample and the odd one behind it.
-#[inline]
-fn put_pair(out: &mut [i16], index: usize, even: i16, odd: i16)
-    requires { 2 * index + 1 < length out.old }
-    ensures { out.new ≡ slice_set (slice_set out.old (2 * index) even) (2 * index + 1) odd }
-{
-    out[2 * index] = even;
-    out[2 * index + 1] = odd;
-}
-
-/// Joins a line of the plain transform, whose last even sample stands behind itself.
-fn join_plain(low: &[i16], high: &[i16], out: &mut [i16])
-    requires low_len { length low.now ≡ 32 }
-    requires high_len { length high.now ≡ 32 }
-    requires out_len { length out.old ≡ 64 }
-    requires low { AllWithin 10239 low.now }
-    requires high { AllWithin 6143 high.now }
-    ensures { (k : ℕ) → k < length out.old → at out.new k ≡ joined Plain First (at low.now) (at high.now) k }
-{
-    let sample = pairs::<PlainNarrow>(low, high, out, 31);
-    let odd = odd_sample::<PlainNarrow>(high[31], sample, sample);
-    put_pair(out, 31, sample, odd);
-}
-
-/// Joins a line of reduce-extrapolate at its first level, whose high half ends with noughts.
-fn join_first(low: &[i16], high: &[i16], out: &mut [i16])
-    requires low_len { length low.now ≡ 33 }
-    requires high_len { length high.now ≡ 31 }
-    requires out_len { length out.old ≡ 64 }
-    requires low { AllWithin 10239 low.now }
-    requires high { AllWithin 6143 high.now }
-    ensures { (k : ℕ) → k < length out.old → at out.new k ≡ joined Reduced First (at low.now) (at high.now) k }
-{
-    let sample = pairs::<ReducedNarrow>(low, high, out, 30);
-    let next = even_sample::<ReducedNarrow>(low[31], high[30], 0);
-    let odd = odd_sample::<ReducedNarrow>(high[30], sample, next);
-    put_pair(out, 30, sample, odd);
-    let beyond = even_sample::<ReducedNarrow>(low[32], 0, 0);
-    let last = odd_sample::<ReducedNarrow>(0, next, beyond);
-    put_pair(out, 31, next, last);
-}
-
-/// Joins a line of the first level of its halves.
+/// What stands behind the end of a high half with this last place.
 #[inline(always)]
-pub fn join_narrow_line(transform: Transform, low: &[i16], high: &[i16], out: &mut [i16])
-    requires low_len { length low.now ≡ low_size transform First }
-    requires high_len { length high.now ≡ high_size transform First }
-    requires out_len { length out.old ≡ 64 }
+#[tactic(auto, unfolding(crate::specs::Joining::behind))]
+fn place_behind(transform: Transform, level: Scale, last: i16) -> i16
+    ensures { result ≡ behind transform level last }
+{
+    match (transform, level) {
+        (Transform::Plain, _) => last,
+        (Transform::Reduced, Scale::First) => 0,
+        (Transform::Reduced, Scale::Second) => last,
+        (Transform::Reduced, Scale::Third) => last,
+    }
+}
+
+/// Writes a high half with what stands in front of it and behind its end.
+#[inline(always)]
+fn put_edged(transform: Transform, level: Scale, high: &[i16], edges: &mut [i16])
+    requires high_len { length high.now ≡ high_size transform level }
+    requires edges_len { length edges.old ≡ low_size transform level + 1 }
+    requires high { AllWithin 6143 high.now }
+    ensures { (k : ℕ) → k < length edges.old → at edges.new k ≡ edged transform level (at high.now) (k - 1) }
+{
+    put_behind_first(high, edges);
+    let last = place_behind(transform, level, high[high.len() - 1]);
+    fill(&mut edges[high.len() + 1..], last);
+}
+
+/// Writes the even samples of a line, and the last of them again.
+#[inline(always)]
+fn put_evens(transform: Transform, low: &[i16], edges: &[i16], evens: &mut [i16])
+    requires some { 0 < length low.now }
+    requires edges_len { length edges.now ≡ length low.now + 1 }
+    requires evens_len { length evens.old ≡ length low.now + 1 }
+    requires low { AllWithin 10239 low.now }
+    requires edges { AllWithin 6143 edges.now }
+    ensures each { (k : ℕ) → k < length low.now → at evens.new k ≡ even_of transform (at low.now k) (at edges.now k) (at edges.now (k + 1)) }
+    ensures last { at evens.new (length low.now) ≡ at evens.new (length low.now - 1) }
+{
+    let end = low.len();
+    lower(
+        transform,
+        &mut evens[..end],
+        low,
+        &edges[..end],
+        &edges[1..end + 1],
+    );
+    evens[end] = evens[end - 1];
+}
+
+/// Writes the odd samples of a line.
+#[inline(always)]
+fn put_odds(transform: Transform, edges: &[i16], evens: &[i16], odds: &mut [i16])
+    requires edges_len { length odds.old + 1 ≤ length edges.now }
+    requires evens_len { length odds.old + 1 ≤ length evens.now }
+    requires edges { AllWithin 6143 edges.now }
+    requires evens { AllWithin 16382 evens.now }
+    ensures { (k : ℕ) → k < length odds.old → at odds.new k ≡ odd_of transform (at edges.now (k + 1)) (at evens.now k) (at evens.now (k + 1)) }
+{
+    let count = odds.len();
+    raise(
+        transform,
+        odds,
+        &edges[1..count + 1],
+        &evens[..count],
+        &evens[1..count + 1],
+    );
+}
+
+/// Writes pairs, each an even sample and the odd one behind it.
+#[inline(always)]
+pub fn put_pairs(evens: &[i16], odds: &[i16], out: &mut [i16])
+    requires evens_len { length odds.now ≤ length evens.now }
+    requires out_len { 2 * length odds.now ≤ length out.old }
+    ensures evens { (k : ℕ) → k < length odds.now → at out.new (2 * k) ≡ at evens.now k }
+    ensures odds { (k : ℕ) → k < length odds.now → at out.new (2 * k + 1) ≡ at odds.now k }
+{
+    for k in 0..odds.len() {
+        out[2 * k] = evens[k];
+        out[2 * k + 1] = odds[k];
+    }
+}
+
+/// Writes a number at a place, if there is one.
+#[inline(always)]
+pub fn put_last(out: &mut [i16], place: usize, value: i16)
+    ensures before { (k : ℕ) → k < place → at out.new k ≡ at out.old k }
+    ensures here { place < length out.old → at out.new place ≡ value }
+{
+    if place < out.len() {
+        out[place] = value;
+    }
+}
+
+/// Joins a line of its halves, in places for its high half with its edges, and for its even and its odd samples.
+#[inline(always)]
+fn join_line_in(
+    transform: Transform,
+    level: Scale,
+    low: &[i16],
+    high: &[i16],
+    edges: &mut [i16],
+    evens: &mut [i16],
+    odds: &mut [i16],
+    out: &mut [i16],
+)
+    requires low_len { length low.now ≡ low_size transform level }
+    requires high_len { length high.now ≡ high_size transform level }
+    requires edges_len { length edges.old ≡ low_size transform level + 1 }
+    requires evens_len { length evens.old ≡ low_size transform level + 1 }
+    requires odds_len { length odds.old ≡ line_size transform level / 2 }
+    requires out_len { length out.old ≡ line_size transform level }
     requires low { AllWithin 10239 low.now }
     requires high { AllWithin 6143 high.now }
-    ensures { (k : ℕ) → k < 64 → at out.new k ≡ joined transform First (at low.now) (at high.now) k }
+    ensures { (k : ℕ) → k < length out.old → at out.new k ≡ joined transform level (at low.now) (at high.now) k }
 {
-    match transform {
-        Transform::Plain => join_plain(low, high, out),
-        Transform::Reduced => join_first(low, high, out),
-    }
+    let count = odds.len();
+    put_edged(transform, level, high, edges);
+    put_evens(transform, low, edges, evens);
+    put_odds(transform, edges, evens, odds);
+    put_pairs(evens, odds, out);
+    put_last(out, 2 * count, evens[count]);
+}
+
+/// Joins a line of its halves. The even samples come first, then the odd ones, and then both are put together: so each
+/// is done on many numbers at a time.
+#[inline(always)]
+pub fn join_narrow_line(
+    transform: Transform,
+    level: Scale,
+    low: &[i16],
+    high: &[i16],
+    out: &mut [i16],
+)
+    requires low_len { length low.now ≡ low_size transform level }
+    requires high_len { length high.now ≡ high_size transform level }
+    requires out_len { length out.old ≡ line_size transform level }
+    requires low { AllWithin 10239 low.now }
+    requires high { AllWithin 6143 high.now }
+    ensures { (k : ℕ) → k < length out.old → at out.new k ≡ joined transform level (at low.now) (at high.now) k }
+{
+    let mut edges = [0; 34];
+    let mut evens = [0; 34];
+    let mut odds = [0; 32];
+    let size = level.low_size(transform) + 1;
+    let count = (level.low_size(transform) + level.high_size(transform)) / 2;
+    join_line_in(
+        transform,
+        level,
+        low,
+        high,
+        &mut edges[..size],
+        &mut evens[..size],
+        &mut odds[..count],
+        out,
+    );
 }

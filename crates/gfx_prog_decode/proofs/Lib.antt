@@ -6,6 +6,7 @@ mod Maps
 pub mod Pictures
 mod Undoing
 mod Areas
+mod Whole
 mod Bases
 mod Tiles
 mod Steps

@@ -1,15 +1,17 @@
 -- How records are kept, and what the calls between them hand on.
-use Rattle.std.specs.Prelude.{◌≡◌, ℕ, ◌+◌, ◌-◌, min, max, Bool, ◌&&◌, IsTrue, if◌then◌else◌, List, Option, Some, Result, Ok, Err}
+use Rattle.std.specs.Prelude.{◌≡◌, ◌<◌, ℕ, ◌+◌, ◌-◌, ◌*◌, ◌==◌, min, max, nat_le, Bool, ◌&&◌, IsTrue, if◌then◌else◌, List, Option, Some, Result, Ok, Err, slice_get}
 use Rattle.std.specs.FinMap as finmap
 use Rattle.std.specs.FinMap.{from_entries}
+use Rattle.std.specs.List.{list_any}
 use Rattle.std.specs.Option.{ok_or}
 use Rattle.gfx_base.specs.declared.answer.Cause.{Cause}
 use Rattle.gfx_base.specs.declared.answer.Cause.TheVariants.{Memory, Refused}
 use Rattle.gfx_base.specs.declared.format.Format.TheVariants.{Argb}
 use Rattle.gfx_base.specs.declared.geometry.Rect.{Rect}
+use Rattle.gfx_base.specs.declared.pixel.Pixel.{Pixel}
 use Rattle.gfx_base.specs.declared.refusal.Refusal.{Refusal}
 use Rattle.gfx_base.specs.declared.refusal.Refusal.TheVariants.{NoFirstPass}
-use Rattle.gfx_base.specs.Geometry.{holds}
+use Rattle.gfx_base.specs.Geometry.{holds, height_of, width_of}
 use Rattle.gfx_base.specs.Outcome.{Says}
 use Rattle.gfx_base.specs.Results.{◌>>=◌}
 use Rattle.gfx_prog_block.specs.declared.area.Area.{Area}
@@ -19,6 +21,7 @@ use Rattle.gfx_quant.specs.Quant.{is_base}
 use Rattle.gfx_surface.specs.Picture.{Picture, pixel_at, redrawn, shade}
 use Rattle.gfx_tile_state.specs.declared.shape.PassShape.{PassShape}
 use Rattle.gfx_tile_state.specs.declared.state.TileState.{TileState}
+use Rattle.gfx_tile_state.specs.Record.{pixel_of}
 use Rattle.gfx_prog_decode.specs.declared.key.Key.{Key}
 use Rattle.gfx_prog_decode.specs.declared.records.Records.TheInside.{Inside}
 use Rattle.gfx_prog_decode.specs.Coding.{Coding, Numbers}
@@ -64,6 +67,20 @@ abbrev pub improved_in : Coding → UpgradePass → Option TileState → Result 
 improved_in coding pass found = do
   before ← ok_or found NoFirstPass
   improved coding pass before
+
+-- these are the pixels of a record's tile, row by row
+abbrev pub ArePixels : TileState → List Pixel → Type 0
+ArePixels tile pixels = (y x : ℕ) → y < 64 → x < 64 → slice_get pixels (y * 64 + x) ≡ Some (pixel_of tile y x)
+
+-- an area has all of a cell; no cell reaches past 65,535
+abbrev pub has_all : Rect → Area → Bool
+has_all cell area =
+    nat_le area.x cell.left && nat_le cell.right (min (area.x + area.width) 65535)
+    && nat_le area.y cell.top && nat_le cell.bottom (min (area.y + area.height) 65535)
+
+-- a cell has all pixels of a tile, and one of these areas all of the cell
+abbrev pub is_whole : Rect → List Area → Bool
+is_whole cell areas = (width_of cell == 64) && (height_of cell == 64) && list_any (has_all cell) areas
 
 -- a surface of one tile
 pub record IsCanvas (picture : Picture) : Type 0 where

@@ -9,13 +9,14 @@ ghost use Rattle.gfx_prog_decode.specs.Scene.{in_turn, scene};
 ghost use Rattle.gfx_prog_decode.specs.Showing.{shown_in};
 ghost use Rattle.gfx_prog_decode.specs.Undo.{StaysUndoable};
 
+use crate::canvas::Canvas;
 use crate::coding::{check_bases, shape_of};
 use crate::improving::improve;
 use crate::key::{Key, Place};
 use crate::log::{Log, undo};
 use crate::passing::check_start;
 use crate::records::Records;
-use crate::showing::{canvas, show};
+use crate::showing::show;
 use crate::starting::start;
 use gfx_base::Fault;
 use gfx_prog_block::{
@@ -36,7 +37,7 @@ pub(crate) fn apply_data(
     ensures { Applies result (scene records.old surface.old) (scene records.new surface.new) (after_message place bytes.now (scene records.old surface.old)) }
 {
     let blocks = read_blocks(alloc, bytes)?;
-    let mut canvas = canvas(alloc)?;
+    let mut canvas = Canvas::new(alloc)?;
     apply_all(
         alloc,
         records,
@@ -52,7 +53,7 @@ fn apply_all(
     alloc: Global,
     records: &mut Records,
     surface: &mut Surface,
-    canvas: &mut Surface,
+    canvas: &mut Canvas,
     place: Place,
     blocks: &[Block<'_>],
 ) -> Result<(), Fault>
@@ -70,7 +71,7 @@ fn apply_whole(
     alloc: Global,
     records: &mut Records,
     surface: &mut Surface,
-    canvas: &mut Surface,
+    canvas: &mut Canvas,
     log: &mut Log,
     place: Place,
     blocks: &[Block<'_>],
@@ -93,7 +94,7 @@ fn apply_blocks(
     alloc: Global,
     records: &mut Records,
     surface: &mut Surface,
-    canvas: &mut Surface,
+    canvas: &mut Canvas,
     log: &mut Log,
     place: Place,
     blocks: &[Block<'_>],
@@ -113,7 +114,7 @@ fn apply_block(
     alloc: Global,
     records: &mut Records,
     surface: &mut Surface,
-    canvas: &mut Surface,
+    canvas: &mut Canvas,
     log: &mut Log,
     place: Place,
     block: &Block<'_>,
@@ -134,7 +135,7 @@ fn apply_region(
     alloc: Global,
     records: &mut Records,
     surface: &mut Surface,
-    canvas: &mut Surface,
+    canvas: &mut Canvas,
     log: &mut Log,
     place: Place,
     region: &Region<'_>,
@@ -162,7 +163,7 @@ fn apply_tiles(
     alloc: Global,
     records: &mut Records,
     surface: &mut Surface,
-    canvas: &mut Surface,
+    canvas: &mut Canvas,
     log: &mut Log,
     place: Place,
     region: &Region<'_>,
@@ -185,7 +186,7 @@ fn apply_tile(
     alloc: Global,
     records: &mut Records,
     surface: &mut Surface,
-    canvas: &mut Surface,
+    canvas: &mut Canvas,
     log: &mut Log,
     place: Place,
     region: &Region<'_>,
@@ -224,7 +225,7 @@ fn apply_first(
     alloc: Global,
     records: &mut Records,
     surface: &mut Surface,
-    canvas: &mut Surface,
+    canvas: &mut Canvas,
     log: &mut Log,
     place: Place,
     region: &Region<'_>,
@@ -248,7 +249,10 @@ fn apply_first(
         records.count(),
         shape.transform,
     )?;
-    start(alloc, log, records, surface, key, difference, &shape, pass)?;
+    let scratch = &mut canvas.scratch;
+    start(
+        alloc, log, records, surface, key, difference, &shape, pass, scratch,
+    )?;
     show_record(records, canvas, surface, key, region.rects.as_slice());
     Ok(())
 }
@@ -258,7 +262,7 @@ fn apply_upgrade(
     alloc: Global,
     records: &mut Records,
     surface: &mut Surface,
-    canvas: &mut Surface,
+    canvas: &mut Canvas,
     log: &mut Log,
     place: Place,
     region: &Region<'_>,
@@ -274,7 +278,8 @@ fn apply_upgrade(
 {
     let shape = shape_of(region, surface.size(), head, quality)?;
     let key = place.key(head);
-    improve(alloc, log, records, surface, key, &shape, pass)?;
+    let scratch = &mut canvas.scratch;
+    improve(alloc, log, records, surface, key, &shape, pass, scratch)?;
     show_record(records, canvas, surface, key, region.rects.as_slice());
     Ok(())
 }
@@ -282,7 +287,7 @@ fn apply_upgrade(
 /// Draws the tile of a key's record.
 fn show_record(
     records: &Records,
-    canvas: &mut Surface,
+    canvas: &mut Canvas,
     surface: &mut Surface,
     key: Key,
     areas: &[Area],

@@ -15,7 +15,7 @@ use crate::records::Records;
 use gfx_base::{Fault, Refusal};
 use gfx_prog_block::UpgradePass;
 use gfx_surface::Surface;
-use gfx_tile_state::{PassShape, TileState};
+use gfx_tile_state::{PassShape, Scratch, TileState};
 use std::alloc::Global;
 
 /// An upgrade of a key's record. What it makes is another record, which takes its place.
@@ -27,6 +27,7 @@ pub(crate) fn improve(
     key: Key,
     shape: &PassShape,
     pass: &UpgradePass<'_>,
+    scratch: &mut Scratch,
 ) -> Result<(), Fault>
     requires { IsTrue (begins_in surface.now.width surface.now.height key.x key.y) }
     ensures starts { Starts result (improved_in (coding_seen shape.now) pass.now (finmap.get records.old key)) key records.old records.new }
@@ -34,7 +35,7 @@ pub(crate) fn improve(
     ensures undo { OnErr result (StaysUndoable log.old.cells.items (scene records.old surface.now) log.new.cells.items (scene records.new surface.now)) }
 {
     let mut tile = log.tile(alloc)?;
-    improve_found(&mut tile, records.get(key), shape, pass)?;
+    improve_found(&mut tile, records.get(key), shape, pass, scratch)?;
     exchange(alloc, log, records, surface, key, tile)?;
     Ok(())
 }
@@ -46,11 +47,12 @@ fn improve_found(
     before: Option<&TileState>,
     shape: &PassShape,
     pass: &UpgradePass<'_>,
+    scratch: &mut Scratch,
 ) -> Result<(), Refusal>
     ensures { Says (λ _. tile.new) result (improved_in (coding_seen shape.now) pass.now (option_copied before.entry)) }
 {
     match before {
-        Some(before) => improve_tile(tile, before, shape, pass),
+        Some(before) => improve_tile(tile, before, shape, pass, scratch),
         None => Err(Refusal::NoFirstPass),
     }
 }

@@ -6,6 +6,7 @@
 #![tactic(auto)]
 
 mod applying;
+mod canvas;
 mod coding;
 mod improving;
 mod key;

@@ -11,7 +11,7 @@ use gfx_base::Refusal;
 use gfx_dwt::Transform;
 use gfx_prog_block::{FirstPass, UpgradePass};
 use gfx_quant::Component;
-use gfx_tile_state::{PassShape, TileState};
+use gfx_tile_state::{PassShape, Scratch, TileState};
 
 /// Whether a first pass may begin, of so many records.
 #[tactic(auto, unfolding(crate::specs::Passes::may_start, gfx_base::specs::Results::and_then))]
@@ -53,6 +53,7 @@ fn start_part(
     component: Component,
     bytes: &[u8],
     shape: &PassShape,
+    scratch: &mut Scratch,
 ) -> Result<(), Refusal>
     requires { difference ≡ true → fits_transform tile.old.transform shape.now.transform ≡ true }
     ensures part { StartsIn result component bytes.now shape.now (kept_of difference (part_of tile.old component)) tile.old tile.new }
@@ -61,7 +62,7 @@ fn start_part(
     if difference {
         tile.add(component, bytes, shape)
     } else {
-        tile.first(component, bytes, shape)
+        tile.first(component, bytes, shape, scratch)
     }
 }
 
@@ -71,13 +72,15 @@ pub(crate) fn start_tile(
     difference: bool,
     shape: &PassShape,
     pass: &FirstPass<'_>,
+    scratch: &mut Scratch,
 ) -> Result<(), Refusal>
     requires { difference ≡ true → fits_transform tile.old.transform shape.now.transform ≡ true }
     ensures { Says (λ _. tile.new) result (started difference (coding_seen shape.now) pass.now tile.old) }
 {
-    start_part(tile, difference, Component::Y, pass.y.as_slice(), shape)?;
-    start_part(tile, difference, Component::Cb, pass.cb.as_slice(), shape)?;
-    start_part(tile, difference, Component::Cr, pass.cr.as_slice(), shape)
+    let (y, cb, cr) = (pass.y.as_slice(), pass.cb.as_slice(), pass.cr.as_slice());
+    start_part(tile, difference, Component::Y, y, shape, scratch)?;
+    start_part(tile, difference, Component::Cb, cb, shape, scratch)?;
+    start_part(tile, difference, Component::Cr, cr, shape, scratch)
 }
 
 /// An upgrade of all components of a record, where one may follow. What it makes is another record.
@@ -86,14 +89,15 @@ pub(crate) fn improve_tile(
     before: &TileState,
     shape: &PassShape,
     pass: &UpgradePass<'_>,
+    scratch: &mut Scratch,
 ) -> Result<(), Refusal>
     ensures { Says (λ _. tile.new) result (improved (coding_seen shape.now) pass.now before.now) }
 {
     before.may_upgrade(shape)?;
     let (y_srl, y_raw) = (pass.y_srl.as_slice(), pass.y_raw.as_slice());
-    tile.upgrade_from(before, Component::Y, y_srl, y_raw, shape)?;
+    tile.upgrade_from(before, Component::Y, y_srl, y_raw, shape, scratch)?;
     let (cb_srl, cb_raw) = (pass.cb_srl.as_slice(), pass.cb_raw.as_slice());
-    tile.upgrade_from(before, Component::Cb, cb_srl, cb_raw, shape)?;
+    tile.upgrade_from(before, Component::Cb, cb_srl, cb_raw, shape, scratch)?;
     let (cr_srl, cr_raw) = (pass.cr_srl.as_slice(), pass.cr_raw.as_slice());
-    tile.upgrade_from(before, Component::Cr, cr_srl, cr_raw, shape)
+    tile.upgrade_from(before, Component::Cr, cr_srl, cr_raw, shape, scratch)
 }

@@ -1,26 +1,18 @@
 //! Tiles, drawn on a surface.
-ghost use Rattle.std.specs.Prelude.{◌≡◌, ◌≤◌, ◌+◌, IfOk, IsTrue};
+ghost use Rattle.std.specs.Prelude.{◌≡◌, ◌≤◌, ◌+◌, IsTrue};
+ghost use Rattle.std.specs.List.{list_any};
 ghost use Rattle.gfx_base.specs.Geometry.{lies_in};
 ghost use Rattle.gfx_prog_decode.specs.Coding.{begins_in};
 ghost use Rattle.gfx_prog_decode.specs.Showing.{cell_in, shown_in};
-ghost use Rattle.gfx_prog_decode.specs.Inside.{IsCanvas, area_shown, areas_shown, overlap};
+ghost use Rattle.gfx_prog_decode.specs.Inside.{ArePixels, IsCanvas, area_shown, areas_shown, has_all, is_whole, overlap};
+ghost use Rattle.gfx_tile_state.specs.declared.state.TileState.{TileState as Record};
 
+use crate::canvas::{Canvas, SIDE};
 use crate::key::Key;
-use gfx_base::{Format, NoMemory, Pixel, Point, Rect};
+use gfx_base::{Pixel, Point, Rect};
 use gfx_prog_block::Area;
 use gfx_surface::Surface;
 use gfx_tile_state::TileState;
-use std::alloc::Global;
-
-/// The side of a tile.
-const SIDE: u16 = 64;
-
-/// A surface of one tile, from which tiles are drawn.
-pub(crate) fn canvas(alloc: Global) -> Result<Surface, NoMemory>
-    ensures { IfOk result IsCanvas }
-{
-    Surface::new(alloc, SIDE, SIDE, Format::Argb)
-}
 
 /// What of a key's cell lies on a surface of these sides, where the cell begins on it.
 pub(crate) fn cell_in(size: (u16, u16), key: Key) -> Rect
@@ -41,7 +33,7 @@ pub(crate) fn cell_in(size: (u16, u16), key: Key) -> Rect
 /// Draws a record's tile where these rectangles have its cell.
 pub(crate) fn show(
     tile: &TileState,
-    canvas: &mut Surface,
+    canvas: &mut Canvas,
     surface: &mut Surface,
     key: Key,
     areas: &[Area],
@@ -51,10 +43,54 @@ pub(crate) fn show(
     ensures shown { surface.new ≡ shown_in surface.old key areas.now tile.now }
     ensures canvas { IsCanvas canvas.new }
 {
-    let mut pixels = [Pixel::default(); 4096];
-    tile.pixels(&mut pixels);
-    canvas.put(Rect::sized(SIDE, SIDE), &pixels);
+    tile.pixels(&mut canvas.pixels, &mut canvas.scratch);
+    show_pixels(&canvas.pixels, &mut canvas.surface, surface, key, areas);
+}
+
+/// Draws the pixels of a tile where these rectangles have a key's cell: by way of a canvas, if none has all of it.
+fn show_pixels(
+    pixels: &[Pixel; 4096],
+    canvas: &mut Surface,
+    surface: &mut Surface,
+    key: Key,
+    areas: &[Area],
+)
+    requires canvas { IsCanvas canvas.old }
+    requires begins { IsTrue (begins_in surface.old.width surface.old.height key.x key.y) }
+    ensures shown { (tile : Record) → ArePixels tile pixels.now → surface.new ≡ shown_in surface.old key areas.now tile }
+    ensures canvas { IsCanvas canvas.new }
+{
+    let cell = cell_in(surface.size(), key);
+    if is_whole(cell, areas) {
+        surface.put(cell, pixels);
+        return;
+    }
+    canvas.put(Rect::sized(SIDE, SIDE), pixels);
     show_areas(canvas, surface, key, areas);
+}
+
+/// Whether a cell has all pixels of a tile, and one of these areas all of the cell.
+fn is_whole(cell: Rect, areas: &[Area]) -> bool
+    ensures { result ≡ is_whole cell areas.now }
+{
+    cell.width() == SIDE && cell.height() == SIDE && is_in_one(cell, areas)
+}
+
+/// Whether one of these areas has all of a cell.
+fn is_in_one(cell: Rect, areas: &[Area]) -> bool
+    ensures { result ≡ list_any (has_all cell) areas.now }
+{
+    areas.iter().any(|area| has_all(cell, area))
+}
+
+/// Whether an area has all of a cell.
+fn has_all(cell: Rect, area: &Area) -> bool
+    ensures { result ≡ has_all cell area.now }
+{
+    area.x <= cell.left
+        && cell.right <= area.x.saturating_add(area.width)
+        && area.y <= cell.top
+        && cell.bottom <= area.y.saturating_add(area.height)
 }
 
 /// Draws the canvas where these rectangles have a key's cell.

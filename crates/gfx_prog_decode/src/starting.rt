@@ -16,7 +16,7 @@ use crate::records::Records;
 use gfx_base::{Fault, Refusal};
 use gfx_prog_block::FirstPass;
 use gfx_surface::Surface;
-use gfx_tile_state::PassShape;
+use gfx_tile_state::{PassShape, Scratch};
 use std::alloc::Global;
 
 /// A first pass of a key's record, plain or over what it shows.
@@ -29,6 +29,7 @@ pub(crate) fn start(
     difference: bool,
     shape: &PassShape,
     pass: &FirstPass<'_>,
+    scratch: &mut Scratch,
 ) -> Result<(), Fault>
     requires shape { IsPicture surface.now }
     requires begins { IsTrue (begins_in surface.now.width surface.now.height key.x key.y) }
@@ -38,9 +39,9 @@ pub(crate) fn start(
     ensures undo { OnErr result (StaysUndoable log.old.cells.items (scene records.old surface.now) log.new.cells.items (scene records.new surface.now)) }
 {
     if difference {
-        start_over(alloc, log, records, surface, key, shape, pass)
+        start_over(alloc, log, records, surface, key, shape, pass, scratch)
     } else {
-        start_anew(alloc, log, records, surface, key, shape, pass)
+        start_anew(alloc, log, records, surface, key, shape, pass, scratch)
     }
 }
 
@@ -53,6 +54,7 @@ fn start_over(
     key: Key,
     shape: &PassShape,
     pass: &FirstPass<'_>,
+    scratch: &mut Scratch,
 ) -> Result<(), Fault>
     requires shape { IsPicture surface.now }
     requires begins { IsTrue (begins_in surface.now.width surface.now.height key.x key.y) }
@@ -63,7 +65,7 @@ fn start_over(
 {
     keep(alloc, log, records, surface, key)?;
     records.begin(alloc, key)?;
-    start_record(records, key, shape, pass)?;
+    start_record(records, key, shape, pass, scratch)?;
     Ok(())
 }
 
@@ -76,6 +78,7 @@ fn start_anew(
     key: Key,
     shape: &PassShape,
     pass: &FirstPass<'_>,
+    scratch: &mut Scratch,
 ) -> Result<(), Fault>
     requires { IsTrue (begins_in surface.now.width surface.now.height key.x key.y) }
     ensures starts { Starts result (started false (coding_seen shape.now) pass.now (start_of (finmap.get records.old key))) key records.old records.new }
@@ -83,7 +86,7 @@ fn start_anew(
     ensures undo { OnErr result (StaysUndoable log.old.cells.items (scene records.old surface.now) log.new.cells.items (scene records.new surface.now)) }
 {
     let mut tile = log.tile(alloc)?;
-    start_tile(&mut tile, false, shape, pass)?;
+    start_tile(&mut tile, false, shape, pass, scratch)?;
     exchange(alloc, log, records, surface, key, tile)?;
     Ok(())
 }
@@ -94,12 +97,13 @@ fn start_record(
     key: Key,
     shape: &PassShape,
     pass: &FirstPass<'_>,
+    scratch: &mut Scratch,
 ) -> Result<(), Refusal>
     requires { IsSomeAnd (finmap.get records.old key) (λ tile. IsTrue (fits_transform tile.transform shape.now.transform)) }
     ensures { IfSome (finmap.get records.old key) (λ tile. Passes result (started true (coding_seen shape.now) pass.now tile) key records.old records.new) }
 {
     match records.get_mut(key) {
-        Some(tile) => start_tile(tile, true, shape, pass),
+        Some(tile) => start_tile(tile, true, shape, pass, scratch),
         None => Ok(()),
     }
 }

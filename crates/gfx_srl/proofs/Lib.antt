@@ -1,6 +1,8 @@
 pub mod Tokens
 pub mod Reading
 pub mod ReadingSteps
+pub mod Stepping
+pub mod Together
 pub mod Writing
 pub mod WritingSteps
 pub mod Unique

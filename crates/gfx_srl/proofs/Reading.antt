@@ -2,7 +2,6 @@
 use Rattle.std.proofs.Common.{◌≡◌, ◌≢◌, ℕ, zero, suc, ◌+◌, ◌-◌, ◌^◌, ◌<◌, Bool, true, false, cond, ℤ, pos, negsuc, List, [], ◌∷◌, ◌++◌, map, length, take, drop, refl, sym, ap, ◌∙◌, arith, append_assoc, replicate, min, subst, nat_lt}
 use Rattle.std.specs.Int.RustNames.{unsigned_abs}
 use Rattle.std.proofs.lemmas.List.{map-append, append-nil, take_at, length-map}
-use Rattle.std.proofs.lemmas.Nat.{pow_pos}
 use Rattle.gfx_bits.specs.Bits.{Spelled, first, number, digits, zeros_code}
 use Rattle.gfx_bits.proofs.Laws.{spelled-join, spelled-number, number_below}
 use Rattle.gfx_srl.specs.Code.{Token, Run, LastRun, Pair, nothing, k, is_negative, IsValue, code, after, IsToken, terms_of}
@@ -81,13 +80,10 @@ token-read all bits new kp zeros pairs pairs' token b fits spelled e = record {
 
 -- ---- a full run
 
-pub run-read : (all bits : List Bool) (kp width : ℕ) (pairs : List Pair) → first bits ≡ false → HasRead all pairs (standing bits kp 0 false)
-    → HasRead all (pairs ++ pair_of (pos 0) width ∷ []) (standing (drop 1 bits) (min 80 (kp + 4)) (2 ^ k kp - 1) false)
+pub run-read : (all bits : List Bool) (kp : ℕ) (pairs : List Pair) → first bits ≡ false → HasRead all pairs (standing bits kp 0 false)
+    → HasRead all pairs (standing (drop 1 bits) (min 80 (kp + 4)) (2 ^ k kp) false)
 unfolding code after IsToken terms_of
-run-read all bits kp width pairs zero-bit h =
-    token-read all bits (drop 1 bits) kp (2 ^ k kp - 1) pairs (pairs ++ pair_of (pos 0) width ∷ []) Run (between all bits kp pairs h) tt (zero-bit, refl)
-    (zero-gives (map plain pairs ++ replicate (2 ^ k kp) nothing) pairs (2 ^ k kp - 1) width
-    (ap (λ n. map plain pairs ++ replicate n nothing) {y = suc (2 ^ k kp - 1)} (omega (arith, pow_pos (k kp)))))
+run-read all bits kp pairs zero-bit h = token-read all bits (drop 1 bits) kp (2 ^ k kp) pairs pairs Run (between all bits kp pairs h) tt (zero-bit, refl) refl
 
 -- ---- a run that a value ends: its head and its value
 

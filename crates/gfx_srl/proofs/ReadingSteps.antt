@@ -1,24 +1,18 @@
 -- What the reader's calls leave, as they compute it.
-use Rattle.std.proofs.Common.{◌≡◌, ◌≢◌, ℕ, suc, ◌+◌, ◌-◌, ◌^◌, ◌<◌, ◌≤◌, ◌==◌, Bool, true, false, cond, ℤ, pos, negsuc, List, drop, refl, sym, ◌∙◌, arith, min, subst}
-use Rattle.std.specs.Prelude.{MatchBool, nat_lt}
+use Rattle.std.proofs.Common.{◌≡◌, ◌≢◌, ℕ, suc, ◌+◌, ◌-◌, ◌^◌, ◌<◌, ◌≤◌, ◌==◌, Bool, true, false, cond, ℤ, pos, negsuc, List, [], drop, refl, sym, ◌∙◌, arith, min, subst}
 use Rattle.std.specs.Int.RustNames.{unsigned_abs}
-use Rattle.std.proofs.lemmas.Bool.{ltb-true, ltb-false}
+use Rattle.std.proofs.lemmas.List.{append-nil}
 use Rattle.std.proofs.Math.Pow.{pow_mono}
 use Rattle.gfx_bits.specs.Bits.{Spelled, first, number, zeros_code}
 use Rattle.gfx_bits.proofs.Laws.{number_1}
 use Rattle.gfx_srl.specs.Code.{Pair, k, is_negative}
-use Rattle.gfx_srl.specs.Steps.{Reader, HasRead, ReadsNext, ReadsZero, ComesToValue}
-use Rattle.gfx_srl.proofs.Reading.{standing, zero-read, run-read, head-read, value-read}
+use Rattle.gfx_srl.specs.Steps.{Reader, HasRead, ReadsMany, ReadsNext}
+use Rattle.gfx_srl.proofs.Reading.{standing, run-read, head-read, value-read}
 
 at-zeros : (all : List Bool) (pairs : List Pair) (reader : Reader) (zeros : ℕ) (ends : Bool) → reader.zeros ≡ zeros → reader.ends ≡ ends
     → HasRead all pairs reader → HasRead all pairs (standing reader.bits reader.kp zeros ends)
 at-zeros all pairs reader zeros ends e f h =
     subst (λ b. HasRead all pairs (standing reader.bits reader.kp zeros b)) f (subst (λ n. HasRead all pairs (standing reader.bits reader.kp n reader.ends)) e h)
-
--- a zero that was still to give
-pub gives-zero : (reader : Reader) (zeros : ℕ) → reader.zeros ≡ suc zeros → ReadsZero reader (standing reader.bits reader.kp zeros reader.ends)
-gives-zero reader zeros e width all pairs h =
-    zero-read all reader.bits reader.kp zeros width reader.ends pairs (at-zeros all pairs reader (suc zeros) reader.ends e refl h)
 
 no-bit : (bits : List Bool) → number 1 bits ≡ 0 → first bits ≡ false
 no-bit bits e = go (first bits) (sym (number_1 bits) ∙ e)
@@ -34,34 +28,19 @@ one-bit bits h = go (first bits) (λ e. h (number_1 bits ∙ e))
     go true h = refl
     go false h = absurd (h refl)
 
--- a full run
-pub opens-run : (reader : Reader) (bits : List Bool) (kp zeros : ℕ) (ends : Bool) → reader.zeros ≡ 0 → reader.ends ≡ false → number 1 reader.bits ≡ 0
-    → bits ≡ drop 1 reader.bits → kp ≡ min 80 (reader.kp + 4) → zeros ≡ 2 ^ k reader.kp - 1 → ends ≡ false
-    → ReadsZero reader (standing bits kp zeros ends)
-opens-run reader bits kp zeros ends none begins bit on up run over width all pairs h =
-    rw (on, up, run, over) (run-read all reader.bits reader.kp width pairs (no-bit reader.bits bit) (at-zeros all pairs reader 0 false none begins h))
+-- a token begins: a full run, all of whose zeros are still to give
+pub begins-run : (reader : Reader) (bits : List Bool) (kp zeros : ℕ) (ends : Bool) → reader.zeros ≡ 0 → reader.ends ≡ false → number 1 reader.bits ≡ 0
+    → bits ≡ drop 1 reader.bits → kp ≡ min 80 (reader.kp + 4) → zeros ≡ 2 ^ k reader.kp → ends ≡ false
+    → ReadsMany 0 [] reader (standing bits kp zeros ends)
+begins-run reader bits kp zeros ends none begins bit on up run over all pairs h =
+    rw (append-nil pairs, on, up, run, over) (run-read all reader.bits reader.kp pairs (no-bit reader.bits bit) (at-zeros all pairs reader 0 false none begins h))
 
--- the head of a run that a value ends
-opened : (reader : Reader) (all : List Bool) (pairs : List Pair) → reader.zeros ≡ 0 → reader.ends ≡ false → (number 1 reader.bits ≡ 0 → ⊥)
-    → HasRead all pairs reader → HasRead all pairs (standing (drop (k reader.kp) (drop 1 reader.bits)) reader.kp (number (k reader.kp) (drop 1 reader.bits)) true)
-opened reader all pairs none begins bit h =
-    head-read all reader.bits reader.kp pairs (one-bit reader.bits bit) (at-zeros all pairs reader 0 false none begins h)
-
-pub opens-value : (reader : Reader) (bits : List Bool) (kp run zeros : ℕ) → reader.zeros ≡ 0 → reader.ends ≡ false → (number 1 reader.bits ≡ 0 → ⊥)
-    → run ≡ number (k reader.kp) (drop 1 reader.bits) → bits ≡ drop (k reader.kp) (drop 1 reader.bits) → kp ≡ reader.kp → zeros ≡ run - 1
-    → MatchBool (nat_lt 0 run) (ReadsZero reader (standing bits kp zeros true)) (ComesToValue reader (standing bits kp zeros true))
-opens-value reader bits kp run zeros none begins bit counted on same less = go (nat_lt 0 run) refl
-  where
-    here : (all : List Bool) (pairs : List Pair) → HasRead all pairs reader → HasRead all pairs (standing bits kp run true)
-    here all pairs h = rw (on, same, counted) (opened reader all pairs none begins bit h)
-
-    go : (b : Bool) → nat_lt 0 run ≡ b → MatchBool b (ReadsZero reader (standing bits kp zeros true)) (ComesToValue reader (standing bits kp zeros true))
-    go true e = λ width all pairs h.
-        zero-read all bits kp zeros width true pairs
-        (subst (λ n. HasRead all pairs (standing bits kp n true)) {x = run} {y = suc zeros} (let some : 0 < run = ltb-true 0 run e in omega arith) (here all pairs h))
-    go false e =
-        let empty : run ≡ 0 = let most : run ≤ 0 = ltb-false 0 run e in omega arith in
-        (refl, omega arith, λ all pairs h. subst (λ n. HasRead all pairs (standing bits kp n true)) {x = run} {y = zeros} (omega arith) (here all pairs h))
+-- or the head of a run that a value ends
+pub begins-value : (reader : Reader) (bits : List Bool) (kp zeros : ℕ) (ends : Bool) → reader.zeros ≡ 0 → reader.ends ≡ false → (number 1 reader.bits ≡ 0 → ⊥)
+    → bits ≡ drop (k reader.kp) (drop 1 reader.bits) → kp ≡ reader.kp → zeros ≡ number (k reader.kp) (drop 1 reader.bits) → ends ≡ true
+    → ReadsMany 0 [] reader (standing bits kp zeros ends)
+begins-value reader bits kp zeros ends none begins bit on same run stops all pairs h =
+    rw (append-nil pairs, on, same, run, stops) (head-read all reader.bits reader.kp pairs (one-bit reader.bits bit) (at-zeros all pairs reader 0 false none begins h))
 
 -- ---- a value
 

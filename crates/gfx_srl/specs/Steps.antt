@@ -38,6 +38,15 @@ abbrev pub ReadsNext : ℕ → ℤ → Reader → Reader → Type 0
 ReadsNext width value old new =
     (bits : List Bool) (pairs : List Pair) → HasRead bits pairs old → HasRead bits (pairs ++ (record { value = value; width = width }) ∷ []) new
 
+-- a value at a width
+abbrev pub at_width : ℕ → ℤ → Pair
+at_width width value = record { value = value; width = width }
+
+-- whatever was read before, the next pairs have these values, all at one width
+abbrev pub ReadsMany : ℕ → List ℤ → Reader → Reader → Type 0
+ReadsMany width values old new =
+    (bits : List Bool) (pairs : List Pair) → HasRead bits pairs old → HasRead bits (pairs ++ map (at_width width) values) new
+
 -- the next value is 0, whatever its width
 abbrev pub ReadsZero : Reader → Reader → Type 0
 ReadsZero old new = (width : ℕ) → ReadsNext width (pos 0) old new

@@ -1,11 +1,16 @@
-ghost use Rattle.std.specs.Prelude.{◌≡◌, ◌≤◌, ◌<◌, ◌-◌, ◌^◌, [], true, false, suc, pos, negsuc, MatchBool, if◌then◌else◌};
+ghost use Rattle.std.specs.Prelude.{◌≡◌, ◌≤◌, ◌<◌, ◌+◌, ◌-◌, ◌^◌, [], ◌∷◌, ◌++◌, drop, replicate, min, IsTrue, true, false, suc, pos, negsuc, MatchBool, if◌then◌else◌};
 ghost use Rattle.std.specs.Int.RustNames.{unsigned_abs};
-ghost use Rattle.gfx_bits.specs.Bits.{bits_of};
-ghost use Rattle.gfx_srl.specs.Steps.{ComesToValue, HasRead, ReadsNext, ReadsZero};
+ghost use Rattle.gfx_bits.specs.Ahead.{Shows};
+ghost use Rattle.gfx_bits.specs.Bits.{bits_of, number};
+ghost use Rattle.gfx_srl.specs.Code.{k};
+ghost use Rattle.gfx_srl.specs.Steps.{ComesToValue, HasRead, ReadsMany, ReadsNext, ReadsZero};
 
 use crate::params::{PARAMETER_MAX, PARAMETER_START, after_run, after_value, width_of};
-use gfx_bits::BitReader;
+use gfx_bits::{BitReader, number_in, zeros_in, zeros_size};
 use std::marker::Model;
+
+/// A token of a value of up to so many bits is looked at as a whole.
+const MOST_AHEAD: u8 = 5;
 
 /// Reads SRL: value after value, each at a width that the caller knows. Past the end bits are zero.
 /// It takes no memory.
@@ -56,21 +61,168 @@ impl<'a> SrlReader<'a> {
         }
     }
 
-    /// How many zeros are known to come next, whatever their widths.
+    /// Goes past zeros, at most so many as there is room for, and to the value behind them where there is room for it
+    /// too, which it reads: how many zeros, and the value, 0 for none. A token at most.
     #[inline(always)]
-    pub fn zeros_ahead(&self) -> u32
-        ensures { result ≡ self.now.zeros }
+    pub fn step(&mut self, n: u8, room: usize) -> (usize, i32)
+        requires some { 1 ≤ n }
+        requires few { n ≤ 24 }
+        requires room { 1 ≤ room }
+        ensures within { result.0 ≤ room }
+        ensures zeros { result.1 ≡ pos 0 → (1 ≤ result.0) × ReadsMany n (replicate result.0 (pos 0)) self.old self.new }
+        ensures value { (result.1 ≡ pos 0 → ⊥) → (result.0 < room) × ReadsMany n (replicate result.0 (pos 0) ++ result.1 ∷ []) self.old self.new }
+        ensures small { unsigned_abs result.1 < 2 ^ n }
     {
-        self.zeros
+        if self.begins() & (n <= MOST_AHEAD) {
+            return self.step_ahead(n, room);
+        }
+        self.step_by_parts(n, room)
     }
 
-    /// Goes past so many of the zeros that are known to come next.
+    // Whether a token comes next, of which nothing was read yet.
     #[inline(always)]
-    pub fn pass_zeros(&mut self, count: u32)
-        requires { count ≤ self.old.zeros }
-        ensures { self.new ≡ record self.old { zeros = self.old.zeros - count } }
+    fn begins(&self) -> bool
+        ensures { IsTrue result → (self.now.zeros ≡ 0) × (self.now.ends ≡ false) }
     {
-        self.zeros -= count;
+        (self.zeros == 0) & !self.ends
+    }
+
+    // What `step` says, a part of a token after another.
+    #[inline(always)]
+    fn step_by_parts(&mut self, n: u8, room: usize) -> (usize, i32)
+        requires some { 1 ≤ n }
+        requires few { n ≤ 24 }
+        requires room { 1 ≤ room }
+        ensures within { result.0 ≤ room }
+        ensures zeros { result.1 ≡ pos 0 → (1 ≤ result.0) × ReadsMany n (replicate result.0 (pos 0)) self.old self.new }
+        ensures value { (result.1 ≡ pos 0 → ⊥) → (result.0 < room) × ReadsMany n (replicate result.0 (pos 0) ++ result.1 ∷ []) self.old self.new }
+        ensures small { unsigned_abs result.1 < 2 ^ n }
+    {
+        self.open_token();
+        let passed = self.pass_run(room);
+        if (passed < room) & self.ends {
+            return (passed, self.read_value(n));
+        }
+        (passed, 0)
+    }
+
+    // What `step` says where a token begins, all of whose bits it looks at together.
+    #[inline(always)]
+    fn step_ahead(&mut self, n: u8, room: usize) -> (usize, i32)
+        requires zeros { self.old.zeros ≡ 0 }
+        requires begins { self.old.ends ≡ false }
+        requires some { 1 ≤ n }
+        requires few { n ≤ MOST_AHEAD }
+        requires room { 1 ≤ room }
+        ensures within { result.0 ≤ room }
+        ensures zeros { result.1 ≡ pos 0 → (1 ≤ result.0) × ReadsMany n (replicate result.0 (pos 0)) self.old self.new }
+        ensures value { (result.1 ≡ pos 0 → ⊥) → (result.0 < room) × ReadsMany n (replicate result.0 (pos 0) ++ result.1 ∷ []) self.old self.new }
+        ensures small { unsigned_abs result.1 < 2 ^ n }
+    {
+        let width = width_of(self.kp) as u32;
+        let word = self.bits.peek(2 + width + most_zeros(n));
+        if number_in(word, 0, 1) == 0 {
+            self.open_run();
+            return (self.pass_run(room), 0);
+        }
+        let run = number_in(word, 1, width);
+        if run as usize >= room {
+            self.open_last(run);
+            return (self.pass_run(room), 0);
+        }
+        (run as usize, self.read_last(word, n))
+    }
+
+    // Goes past a token whose run ends in a value, which the word shows, and says the value.
+    #[inline(always)]
+    fn read_last(&mut self, word: u64, n: u8) -> i32
+        requires zeros { self.old.zeros ≡ 0 }
+        requires begins { self.old.ends ≡ false }
+        requires last { number 1 self.old.bits ≡ 0 → ⊥ }
+        requires some { 1 ≤ n }
+        requires few { n ≤ MOST_AHEAD }
+        requires shows { Shows (2 + k self.old.kp + (2 ^ n - 2)) word self.old.bits }
+        ensures value { ReadsMany n (replicate (number (k self.old.kp) (drop 1 self.old.bits)) (pos 0) ++ result ∷ []) self.old self.new }
+        ensures some { result ≡ pos 0 → ⊥ }
+        ensures small { unsigned_abs result < 2 ^ n }
+    {
+        let width = width_of(self.kp) as u32;
+        let most = most_zeros(n);
+        let negative = number_in(word, 1 + width, 1) == 1;
+        let below = zeros_in(word, 2 + width, most);
+        self.bits.pass(2 + width + zeros_size(most, below));
+        self.kp = after_value(self.kp);
+        signed(negative, below)
+    }
+
+    // Where neither a zero nor a value is known to come next: reads a token, but for its value.
+    #[inline(always)]
+    fn open_token(&mut self)
+        ensures reads { ReadsMany 0 [] self.old self.new }
+        ensures known { self.new.zeros ≡ 0 → self.new.ends ≡ true }
+    {
+        if self.zeros > 0 || self.ends {
+            return;
+        }
+        self.begin_token();
+    }
+
+    // The same where a token begins.
+    #[inline(always)]
+    fn begin_token(&mut self)
+        requires zeros { self.old.zeros ≡ 0 }
+        requires begins { self.old.ends ≡ false }
+        ensures reads { ReadsMany 0 [] self.old self.new }
+        ensures known { self.new.zeros ≡ 0 → self.new.ends ≡ true }
+    {
+        let width = width_of(self.kp) as u32;
+        let word = self.bits.peek(1 + width);
+        if number_in(word, 0, 1) == 0 {
+            self.open_run();
+            return;
+        }
+        self.open_last(number_in(word, 1, width));
+    }
+
+    // Goes past a full run, all of whose zeros are then known to come next.
+    #[inline(always)]
+    fn open_run(&mut self)
+        requires zeros { self.old.zeros ≡ 0 }
+        requires begins { self.old.ends ≡ false }
+        requires full { number 1 self.old.bits ≡ 0 }
+        ensures reads { ReadsMany 0 [] self.old self.new }
+        ensures some { 1 ≤ self.new.zeros }
+    {
+        self.zeros = 1 << width_of(self.kp);
+        self.kp = after_run(self.kp);
+        self.bits.pass(1);
+    }
+
+    // Goes past the head of a token whose run ends in a value: its zeros and the value are then known to come next.
+    #[inline(always)]
+    fn open_last(&mut self, run: u32)
+        requires zeros { self.old.zeros ≡ 0 }
+        requires begins { self.old.ends ≡ false }
+        requires last { number 1 self.old.bits ≡ 0 → ⊥ }
+        requires run { run ≡ number (k self.old.kp) (drop 1 self.old.bits) }
+        ensures reads { ReadsMany 0 [] self.old self.new }
+        ensures zeros { self.new.zeros ≡ run }
+        ensures ends { self.new.ends ≡ true }
+    {
+        self.bits.pass(1 + width_of(self.kp) as u32);
+        self.zeros = run;
+        self.ends = true;
+    }
+
+    // Goes past zeros that are known to come next, at most that many, and says how many.
+    #[inline(always)]
+    fn pass_run(&mut self, most: usize) -> usize
+        ensures count { result ≡ min self.old.zeros most }
+        ensures rest { self.new ≡ record self.old { zeros = self.old.zeros - result } }
+    {
+        let passed = (self.zeros as usize).min(most);
+        self.zeros -= passed as u32;
+        passed
     }
 
     // Whether the next value is 0; it goes past it then, and else to the sign of the value.
@@ -78,30 +230,12 @@ impl<'a> SrlReader<'a> {
     fn passes_zero(&mut self) -> bool
         ensures { MatchBool result (ReadsZero self.old self.new) (ComesToValue self.old self.new) }
     {
+        self.open_token();
         if self.zeros > 0 {
             self.zeros -= 1;
             return true;
         }
-        if self.ends { false } else { self.opens_zeros() }
-    }
-
-    // The same where no zeros are left and a token begins.
-    #[inline(always)]
-    fn opens_zeros(&mut self) -> bool
-        requires zeros { self.old.zeros ≡ 0 }
-        requires begins { self.old.ends ≡ false }
-        ensures { MatchBool result (ReadsZero self.old self.new) (ComesToValue self.old self.new) }
-    {
-        let width = width_of(self.kp);
-        if self.bits.read(1) == 0 {
-            self.zeros = (1 << width) - 1;
-            self.kp = after_run(self.kp);
-            return true;
-        }
-        let run = self.bits.read(width);
-        self.ends = true;
-        self.zeros = run.saturating_sub(1);
-        run > 0
+        false
     }
 
     // Reads a value's sign and magnitude.
@@ -112,6 +246,7 @@ impl<'a> SrlReader<'a> {
         requires some { 1 ≤ n }
         requires few { n ≤ 24 }
         ensures value { ReadsNext n result self.old self.new }
+        ensures some { result ≡ pos 0 → ⊥ }
         ensures small { unsigned_abs result < 2 ^ n }
     {
         let negative = self.bits.read(1) == 1;
@@ -120,6 +255,17 @@ impl<'a> SrlReader<'a> {
         self.ends = false;
         signed(negative, below)
     }
+}
+
+// The most zeros that spell a magnitude.
+#[inline(always)]
+fn most_zeros(n: u8) -> u32
+    requires some { 1 ≤ n }
+    requires few { n ≤ 24 }
+    ensures most { result ≡ 2 ^ n - 2 }
+    ensures small { n ≤ MOST_AHEAD → result ≤ 30 }
+{
+    (1 << n) - 2
 }
 
 // The value of this sign whose magnitude is one more.

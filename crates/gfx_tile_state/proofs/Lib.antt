@@ -4,10 +4,11 @@ pub mod Sums
 pub mod Reading
 pub mod Bands
 pub mod Passing
+pub mod PlaceLists
+pub mod Sifting
 pub mod Values
 pub mod Positions
 pub mod Parts
 pub mod OneReading
 pub mod Making
 pub mod Said
-pub mod Blanks

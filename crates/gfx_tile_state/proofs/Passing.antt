@@ -4,14 +4,14 @@ use Rattle.std.specs.Prelude.{MatchBool}
 use Rattle.std.proofs.Math.IntN.{+ℤ_idr}
 use Rattle.std.proofs.lemmas.Bool.{lt-ltb}
 use Rattle.std.proofs.lemmas.Int.{ints}
-use Rattle.std.proofs.lemmas.List.{append-nil, set-get_or}
+use Rattle.std.proofs.lemmas.List.{append-nil}
 use Rattle.gfx_dwt.specs.Ranges.{IsCoefficient, at}
 use Rattle.gfx_quant.specs.Coefficient.{coefficient_of, cut, is_coefficient}
 use Rattle.gfx_tile_state.specs.declared.entries.Readers.{Readers}
 use Rattle.gfx_tile_state.specs.Entries.{Pass, Nothing, way, way_at, Fits, coded, raw, pairs_from, raw_from, sum_after, ReadsEntry, Upgraded, AreAlike}
 use Rattle.gfx_tile_state.proofs.Places.{more-fits}
 
-pairs-last : (pass : Pass) (k : ℕ) (es : List ℤ) (e : ℤ) → pairs_from pass k (es ++ e ∷ []) ≡ pairs_from pass k es ++ coded (way_at pass (k + length es)) (pass.falls (k + length es)) e
+pub pairs-last : (pass : Pass) (k : ℕ) (es : List ℤ) (e : ℤ) → pairs_from pass k (es ++ e ∷ []) ≡ pairs_from pass k es ++ coded (way_at pass (k + length es)) (pass.falls (k + length es)) e
 unfolding pairs_from
 pairs-last pass k [] e = append-nil (coded (way_at pass k) (pass.falls k) e) ∙ ap (λ j. coded (way_at pass j) (pass.falls j) e) {y = k + 0} (omega arith)
 pairs-last pass k (x ∷ es) e =
@@ -19,7 +19,7 @@ pairs-last pass k (x ∷ es) e =
     ∙ sym (append_assoc (coded (way_at pass k) (pass.falls k) x) (pairs_from pass (suc k) es) (coded (way_at pass (suc k + length es)) (pass.falls (suc k + length es)) e))
     ∙ ap (λ j. (coded (way_at pass k) (pass.falls k) x ++ pairs_from pass (suc k) es) ++ coded (way_at pass j) (pass.falls j) e) {y = k + suc (length es)} (omega arith)
 
-raw-last : (pass : Pass) (k : ℕ) (es : List ℤ) (e : ℤ) → raw_from pass k (es ++ e ∷ []) ≡ raw_from pass k es ++ raw (way_at pass (k + length es)) (pass.falls (k + length es)) e
+pub raw-last : (pass : Pass) (k : ℕ) (es : List ℤ) (e : ℤ) → raw_from pass k (es ++ e ∷ []) ≡ raw_from pass k es ++ raw (way_at pass (k + length es)) (pass.falls (k + length es)) e
 unfolding raw_from
 raw-last pass k [] e = append-nil (raw (way_at pass k) (pass.falls k) e) ∙ ap (λ j. raw (way_at pass j) (pass.falls j) e) {y = k + 0} (omega arith)
 raw-last pass k (x ∷ es) e =
@@ -39,7 +39,7 @@ the-last [] e (suc k) h = absurd (omega arith)
 the-last (x ∷ es) e zero h = absurd (omega arith)
 the-last (x ∷ es) e (suc k) h = the-last es e k (omega arith)
 
-same-range : (P Q : ℕ → Bool) (n : ℕ) (fits : Bool) → ((k : ℕ) → k < n → Q k ≡ P k)
+pub same-range : (P Q : ℕ → Bool) (n : ℕ) (fits : Bool) → ((k : ℕ) → k < n → Q k ≡ P k)
     → MatchBool fits ((k : ℕ) → k < n → P k ≡ true) ((k : ℕ) × (k < n) × (P k ≡ false))
     → MatchBool fits ((k : ℕ) → k < n → Q k ≡ true) ((k : ℕ) × (k < n) × (Q k ≡ false))
 same-range P Q n true same h = λ k less. same k less ∙ h k less
@@ -119,15 +119,6 @@ cut-small (negsuc n) h = (ap negsuc {x = min n 32767} {y = n} (omega (arith, int
 pub cut-within : (z : ℤ) → IsCoefficient (cut z)
 cut-within (pos n) = record { least = omega (arith, ints); most = omega (arith, ints) }
 cut-within (negsuc n) = record { least = omega (arith, ints); most = omega (arith, ints) }
-
--- an entry of zero changes nothing
-pub adds-nothing : (plane : List ℤ) (place position : ℕ) (entry : ℤ) → entry ≡ pos 0 → place < length plane
-    → ((k : ℕ) → k < length plane → IsCoefficient (at plane k))
-    → (plane ≡ set plane place (cut (at plane place +ℤ coefficient_of entry position))) × (true ≡ is_coefficient (at plane place +ℤ coefficient_of entry position))
-adds-nothing plane place position entry none inside small =
-    let here = cut-small (at plane place) (small place inside) in
-    let same : at plane place +ℤ coefficient_of entry position ≡ at plane place = ap (λ e. at plane place +ℤ coefficient_of e position) none ∙ stays (at plane place) position in
-    (sym (ap (set plane place) (ap cut same ∙ here.0) ∙ set-get_or plane place (pos 0)), sym (ap is_coefficient same ∙ here.1))
 
 pub and-true : (b : Bool) → (b && true) ≡ b
 and-true true = refl

@@ -142,7 +142,3 @@ pub record AreAlike (pass : Pass) (from to : ℕ) (fall position : ℕ) (low : B
   pub falls : (k : ℕ) → from ≤ k → k < to → pass.falls k ≡ fall
   pub positions : (k : ℕ) → from ≤ k → k < to → pass.positions k ≡ position
   pub lows : (k : ℕ) → from ≤ k → k < to → pass.low k ≡ low
-
--- the readers behind so many zeros that are known to come next
-abbrev pub past : Readers → ℕ → Readers
-past readers count = record readers { srl = record readers.srl { zeros = readers.srl.zeros - count } }

@@ -1,4 +1,5 @@
 pub mod Entries
+pub mod Sifting
 pub mod Inside
 pub mod Passes
 pub mod Record

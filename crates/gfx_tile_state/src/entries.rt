@@ -1,6 +1,5 @@
-ghost use Rattle.std.specs.Prelude.{◌≡◌, ◌≤◌, ◌^◌, ◌+◌, false, pos, neg_ℤ, ◌<ℤ◌, ◌≤ℤ◌, drop, MatchBool, if◌then◌else◌};
+ghost use Rattle.std.specs.Prelude.{◌≡◌, ◌≤◌, ◌^◌, false, pos, neg_ℤ, ◌<ℤ◌, ◌≤ℤ◌, drop, MatchBool, if◌then◌else◌};
 ghost use Rattle.gfx_bits.specs.Bits.{number};
-ghost use Rattle.gfx_srl.specs.Steps.{ReadsNext};
 ghost use Rattle.gfx_dwt.specs.Ranges.{Within};
 ghost use Rattle.gfx_tile_state.specs.Entries.{ReadsEntry, way};
 
@@ -14,57 +13,19 @@ pub struct Readers<'a> {
     pub bits: BitReader<'a>,
 }
 
-/// Reads the entry of a place whose position falls by `n`.
+/// Reads the entry of a place whose position falls by `n`, if it is a raw number: one of LL3, or of a sum that isn't
+/// zero.
 #[inline(always)]
-pub fn read_entry(readers: &mut Readers<'_>, sum: i16, n: u8, low: bool) -> i32
+pub fn read_raw(readers: &mut Readers<'_>, sum: i16, n: u8, low: bool) -> i32
     requires some { 1 ≤ n }
     requires few { n ≤ 24 }
-    ensures reads { ReadsEntry (way n low sum) n result readers.old readers.new }
+    ensures reads { (low ≡ false → sum ≡ pos 0 → ⊥) → ReadsEntry (way n low sum) n result readers.old readers.new }
     ensures small { Within (2 ^ 24) result }
 {
     if low {
         return read_number(&mut readers.bits, n);
     }
-    if sum == 0 {
-        return read_coded(&mut readers.srl, n);
-    }
     away(read_number(&mut readers.bits, n), is_below_zero(sum))
-}
-
-/// Reads the entry of a place with a sign; if its sum is zero, a zero must be known to come for it. One sum says little
-/// of the next, so this has no branch.
-#[inline(always)]
-pub fn read_known(readers: &mut Readers<'_>, sum: i16, n: u8) -> i32
-    requires some { 1 ≤ n }
-    requires few { n ≤ 24 }
-    requires known { 1 ≤ readers.old.srl.zeros }
-    ensures reads { ReadsEntry (way n false sum) n result readers.old readers.new }
-    ensures small { Within (2 ^ 24) result }
-    ensures known { readers.old.srl.zeros ≤ readers.new.srl.zeros + 1 }
-{
-    let magnitude = read_number(&mut readers.bits, raw_width(sum, n));
-    readers.srl.pass_zeros(coded_zeros(sum));
-    away(magnitude, is_below_zero(sum))
-}
-
-/// How many raw bits a place has.
-#[inline(always)]
-fn raw_width(sum: i16, n: u8) -> u8
-    ensures blank { sum ≡ pos 0 → result ≡ 0 }
-    ensures signed { (sum ≡ pos 0 → ⊥) → result ≡ n }
-    ensures most { result ≤ n }
-{
-    if sum != 0 { n } else { 0 }
-}
-
-/// How many zeros that are coded a place has.
-#[inline(always)]
-fn coded_zeros(sum: i16) -> u32
-    ensures blank { sum ≡ pos 0 → result ≡ 1 }
-    ensures signed { (sum ≡ pos 0 → ⊥) → result ≡ 0 }
-    ensures most { result ≤ 1 }
-{
-    u32::from(sum == 0)
 }
 
 #[inline(always)]
@@ -75,16 +36,6 @@ fn read_number(bits: &mut BitReader<'_>, n: u8) -> i32
     ensures small { Within (2 ^ 24) result }
 {
     bits.read(n) as i32
-}
-
-#[inline(always)]
-fn read_coded(srl: &mut SrlReader<'_>, n: u8) -> i32
-    requires some { 1 ≤ n }
-    requires few { n ≤ 24 }
-    ensures value { ReadsNext n result srl.old srl.new }
-    ensures small { Within (2 ^ 24) result }
-{
-    srl.read(n)
 }
 
 #[inline(always)]

@@ -29,12 +29,13 @@ pub fn read_first(
     }
 }
 
-/// Reads the sums of a first pass. An `Err` leaves those that were there.
+/// Reads the sums of a first pass by way of a plane. An `Err` leaves those that were there.
 pub fn read_sums(
     bytes: &[u8],
     transform: Transform,
     positions: &[u8; 10],
     sums: &mut Vec<i16>,
+    plane: &mut [i32; 4096],
 ) -> Result<(), Refusal>
     requires within { AreWithin 6 30 positions.now }
     requires whole { length sums.old.items ≡ 4096 }
@@ -43,10 +44,9 @@ pub fn read_sums(
     ensures coefficients { OnOk result (AllCoefficients sums.new.items) }
     ensures err { OnErr result (sums.new.items ≡ sums.old.items) }
 {
-    let mut plane = [0; 4096];
-    decode(bytes, &mut plane)?;
-    sum_low(&mut plane, transform);
-    if dequantise_narrow(&plane, transform, positions, sums) {
+    decode(bytes, plane)?;
+    sum_low(plane, transform);
+    if dequantise_narrow(plane, transform, positions, sums) {
         Ok(())
     } else {
         Err(Refusal::CoefficientRange)

@@ -10,6 +10,7 @@ mod kept;
 mod laws;
 mod part;
 mod planes;
+mod scratch;
 mod shape;
 mod state;
 mod upgrading;
@@ -18,5 +19,6 @@ pub use laws::{
     a_first_pass_is, an_upgrade_is, may_add_is, may_upgrade_is, one_reading, what_data_say,
 };
 pub use part::Part;
+pub use scratch::Scratch;
 pub use shape::PassShape;
 pub use state::TileState;

@@ -10,7 +10,7 @@ use crate::entries::Readers;
 use crate::first::{read_first, read_sums};
 use crate::kept::Kept;
 use crate::planes::{as_plane, fit_together, put, shorten, store};
-use crate::upgrading::upgrade_plane;
+use crate::upgrading::{Lists, upgrade_plane};
 use gfx_base::{NoMemory, Refusal};
 use gfx_bits::BitReader;
 use gfx_dwt::{Transform, Workspace, inverse_narrow, inverse_with};
@@ -83,17 +83,18 @@ impl Part {
         are_below(positions, &self.positions)
     }
 
-    /// A plain first pass.
+    /// A plain first pass, read by way of a plane.
     pub fn first(
         &mut self,
         bytes: &[u8],
         transform: Transform,
         positions: &[u8; 10],
+        plane: &mut [i32; 4096],
     ) -> Result<(), Refusal>
         requires { AreWithin 6 30 positions.now }
         ensures { TakesFirst result transform positions.now bytes.now blank self.old self.new }
     {
-        read_sums(bytes, transform, positions, &mut self.sums)?;
+        read_sums(bytes, transform, positions, &mut self.sums, plane)?;
         self.kept.clear();
         self.positions = *positions;
         Ok(())
@@ -135,6 +136,7 @@ impl Part {
         ensures { Upgrades result (pass_of transform self.old.positions positions.now self.old.sums (bits_of srl.now) (bits_of raw.now)) positions.now self.old self.new }
     {
         let mut sums = *as_plane(&self.sums);
+        let mut lists = Lists::new();
         upgrade_sums(
             &mut sums,
             &self.kept,
@@ -143,6 +145,7 @@ impl Part {
             transform,
             &self.positions,
             positions,
+            &mut lists,
         )?;
         self.sums.copy_from_slice(&sums);
         self.positions = *positions;
@@ -158,6 +161,7 @@ impl Part {
         raw: &[u8],
         transform: Transform,
         positions: &[u8; 10],
+        lists: &mut Lists,
     ) -> Result<(), Refusal>
         requires within { AreWithin 6 30 positions.now }
         requires below { AreBelow positions.now before.now.positions }
@@ -174,6 +178,7 @@ impl Part {
             transform,
             &before.positions,
             positions,
+            lists,
         )?;
         self.kept.copy_from(&before.kept);
         self.positions = *positions;
@@ -215,6 +220,20 @@ impl Part {
         if self.kept.is_blank() {
             return inverse_narrow(as_plane(&self.sums), transform, out, workspace);
         }
+        self.kept_samples(transform, out, workspace)
+    }
+
+    /// The same over any kept plane.
+    // Not inlined: so its planes take no stack where there is none.
+    #[inline(never)]
+    fn kept_samples(
+        &self,
+        transform: Transform,
+        out: &mut [i16; 4096],
+        workspace: &mut Workspace,
+    ) -> bool
+        ensures { IsTrue result → (y x : ℕ) → y < 64 → x < 64 → cell 64 out.new y x ≡ sample transform (coefficients self.now) y x }
+    {
         let mut plane = [0; 4096];
         self.coefficients(&mut plane);
         let mut numbers = [0; 4096];
@@ -223,6 +242,7 @@ impl Part {
     }
 
     /// Its samples by the transform in 32 bits, and whether each fits 16 bits.
+    #[inline(never)]
     fn wide_samples(&self, transform: Transform, out: &mut [i16; 4096]) -> bool
         ensures { IsTrue result → (y x : ℕ) → y < 64 → x < 64 → cell 64 out.new y x ≡ sample transform (coefficients self.now) y x }
     {
@@ -243,6 +263,7 @@ fn upgrade_sums(
     transform: Transform,
     before: &[u8; 10],
     behind: &[u8; 10],
+    lists: &mut Lists,
 ) -> Result<(), Refusal>
     requires coefficients { AllCoefficients sums.old }
     requires before { AreAtMost 30 before.now }
@@ -255,7 +276,7 @@ fn upgrade_sums(
         srl: SrlReader::new(srl),
         bits: BitReader::new(raw),
     };
-    let fits = upgrade_plane(sums, transform, before, behind, &mut readers);
+    let fits = upgrade_plane(sums, transform, before, behind, lists, &mut readers);
     if !fits {
         return Err(Refusal::CoefficientRange);
     }
@@ -274,6 +295,7 @@ fn upgrade_slice(
     transform: Transform,
     before: &[u8; 10],
     behind: &[u8; 10],
+    lists: &mut Lists,
 ) -> Result<(), Refusal>
     requires whole { length sums.old ≡ 4096 }
     requires coefficients { AllCoefficients sums.old }
@@ -287,7 +309,7 @@ fn upgrade_slice(
     let Some(plane) = sums.as_mut_array() else {
         unreachable!()
     };
-    upgrade_sums(plane, kept, srl, raw, transform, before, behind)
+    upgrade_sums(plane, kept, srl, raw, transform, before, behind, lists)
 }
 
 fn are_below(low: &[u8; 10], high: &[u8; 10]) -> bool

@@ -5,9 +5,10 @@ ghost use Rattle.gfx_tile_state.specs.Passes.{blank, coefficients};
 ghost use Rattle.gfx_tile_state.specs.Record.{MayAdd, MayBeUpgraded, MayUpgrade, StartsIn, UpgradesFrom, UpgradesIn, fits_transform, fresh_tile, part_of, pixel_of, transform_of};
 
 use crate::part::Part;
+use crate::scratch::Scratch;
 use crate::shape::PassShape;
 use gfx_base::{NoMemory, Pixel, Refusal};
-use gfx_dwt::{Transform, Workspace, inverse_with};
+use gfx_dwt::{Transform, inverse_with};
 use gfx_quant::{Component, to_colours, to_colours_narrow};
 use std::alloc::Global;
 
@@ -63,12 +64,13 @@ impl TileState {
         component: Component,
         bytes: &[u8],
         shape: &PassShape,
+        scratch: &mut Scratch,
     ) -> Result<(), Refusal>
         ensures part { StartsIn result component bytes.now shape.now blank self.old self.new }
         ensures ok { OnOk result (self.new.transform ≡ Some shape.now.transform) }
         ensures err { OnErr result (self.new.transform ≡ self.old.transform) }
     {
-        self.first_part(component, bytes, shape)?;
+        self.first_part(component, bytes, shape, scratch)?;
         self.transform = Some(shape.transform);
         Ok(())
     }
@@ -78,15 +80,17 @@ impl TileState {
         component: Component,
         bytes: &[u8],
         shape: &PassShape,
+        scratch: &mut Scratch,
     ) -> Result<(), Refusal>
         ensures part { StartsIn result component bytes.now shape.now blank self.old self.new }
         ensures transform { self.new.transform ≡ self.old.transform }
     {
         let positions = shape.positions(component);
+        let plane = &mut scratch.plane;
         match component {
-            Component::Y => self.y.first(bytes, shape.transform, &positions),
-            Component::Cb => self.cb.first(bytes, shape.transform, &positions),
-            Component::Cr => self.cr.first(bytes, shape.transform, &positions),
+            Component::Y => self.y.first(bytes, shape.transform, &positions, plane),
+            Component::Cb => self.cb.first(bytes, shape.transform, &positions, plane),
+            Component::Cr => self.cr.first(bytes, shape.transform, &positions, plane),
         }
     }
 
@@ -197,59 +201,63 @@ impl TileState {
         srl: &[u8],
         raw: &[u8],
         shape: &PassShape,
+        scratch: &mut Scratch,
     ) -> Result<(), Refusal>
         requires { MayBeUpgraded before.now shape.now }
         ensures part { UpgradesFrom result component srl.now raw.now shape.now before.now self.old self.new }
         ensures ok { OnOk result (self.new.transform ≡ before.now.transform) }
     {
         let positions = shape.positions(component);
+        let lists = &mut scratch.lists;
         match component {
-            Component::Y => self
-                .y
-                .upgrade_from(&before.y, srl, raw, shape.transform, &positions)?,
-            Component::Cb => self
-                .cb
-                .upgrade_from(&before.cb, srl, raw, shape.transform, &positions)?,
-            Component::Cr => self
-                .cr
-                .upgrade_from(&before.cr, srl, raw, shape.transform, &positions)?,
+            Component::Y => {
+                self.y
+                    .upgrade_from(&before.y, srl, raw, shape.transform, &positions, lists)?
+            }
+            Component::Cb => {
+                self.cb
+                    .upgrade_from(&before.cb, srl, raw, shape.transform, &positions, lists)?
+            }
+            Component::Cr => {
+                self.cr
+                    .upgrade_from(&before.cr, srl, raw, shape.transform, &positions, lists)?
+            }
         }
         self.transform = before.transform;
         Ok(())
     }
 
     /// The tile's pixels: the colours of the samples of its coefficients.
-    pub fn pixels(&self, out: &mut [Pixel; 4096])
+    pub fn pixels(&self, out: &mut [Pixel; 4096], scratch: &mut Scratch)
         ensures { (y x : ℕ) → y < 64 → x < 64 → slice_get out.new (y * 64 + x) ≡ Some (pixel_of self.now y x) }
     {
-        if !self.narrow_pixels(out) {
+        if !self.narrow_pixels(out, scratch) {
             self.wide_pixels(out);
         }
     }
 
     /// The tile's pixels where all samples fit 16 bits, and whether they do; if not, nothing is said of `out`.
-    fn narrow_pixels(&self, out: &mut [Pixel; 4096]) -> bool
+    fn narrow_pixels(&self, out: &mut [Pixel; 4096], scratch: &mut Scratch) -> bool
         ensures { IsTrue result → (y x : ℕ) → y < 64 → x < 64 → slice_get out.new (y * 64 + x) ≡ Some (pixel_of self.now y x) }
     {
         let transform = self.transform_or_plain();
-        let mut workspace = Workspace::new();
-        let mut y = [0; 4096];
-        if !self.y.samples(transform, &mut y, &mut workspace) {
+        let workspace = &mut scratch.workspace;
+        if !self.y.samples(transform, &mut scratch.y, workspace) {
             return false;
         }
-        let mut cb = [0; 4096];
-        if !self.cb.samples(transform, &mut cb, &mut workspace) {
+        if !self.cb.samples(transform, &mut scratch.cb, workspace) {
             return false;
         }
-        let mut cr = [0; 4096];
-        if !self.cr.samples(transform, &mut cr, &mut workspace) {
+        if !self.cr.samples(transform, &mut scratch.cr, workspace) {
             return false;
         }
-        to_colours_narrow(&y, &cb, &cr, out);
+        to_colours_narrow(&scratch.y, &scratch.cb, &scratch.cr, out);
         true
     }
 
     /// The tile's pixels, whatever its coefficients.
+    // Not inlined: so its planes take no stack where it isn't called.
+    #[inline(never)]
     fn wide_pixels(&self, out: &mut [Pixel; 4096])
         ensures { (y x : ℕ) → y < 64 → x < 64 → slice_get out.new (y * 64 + x) ≡ Some (pixel_of self.now y x) }
     {

@@ -1,10 +1,11 @@
-ghost use Rattle.std.specs.Prelude.{◌≡◌, ◌≤◌, ◌<◌, ◌+◌, ◌-◌, ◌^◌, pos, ◌+ℤ◌, ◌*ℤ◌, ℕ, ℤ, Bool, true, false, ◌&&◌, List, slice_set, IsTrue};
+ghost use Rattle.std.specs.Prelude.{◌≡◌, ◌≤◌, ◌<◌, ◌+◌, ◌-◌, ◌^◌, pos, ◌+ℤ◌, ◌*ℤ◌, ℕ, ℤ, Bool, true, false, ◌&&◌, List, slice_index, slice_set, take, IsTrue, if◌then◌else◌};
 ghost use Rattle.gfx_dwt.specs.Ranges.{AllCoefficients, Within, at};
 ghost use Rattle.gfx_quant.specs.Coefficient.{coefficient_of, cut, is_coefficient};
-ghost use Rattle.gfx_tile_state.specs.Entries.{AreAlike, Pass, Upgraded, pass_of, past};
+ghost use Rattle.gfx_tile_state.specs.Entries.{AreAlike, Pass, Upgraded, pass_of};
 ghost use Rattle.gfx_tile_state.specs.Shape.{AreAtMost, AreWithin, AreBelow};
+ghost use Rattle.gfx_tile_state.specs.Sifting.{Listed, Sifted, is_nought};
 
-use crate::entries::{Readers, read_entry, read_known};
+use crate::entries::{Readers, read_raw};
 use gfx_dwt::Transform;
 use gfx_quant::{band_size, band_start, nth_band};
 
@@ -66,7 +67,7 @@ fn cut_sum(sum: i64) -> i16
 }
 
 /// Adds to a sum what an entry adds to it at a bit position, cut to the range of a coefficient, and says whether it
-/// stays in that range. Most entries of sums that are zero are zero too, which is the quicker way.
+/// stays in that range.
 #[inline(always)]
 fn add_entry(plane: &mut [i16; 4096], place: usize, entry: i32, position: u8) -> bool
     requires inside { place < 4096 }
@@ -77,24 +78,20 @@ fn add_entry(plane: &mut [i16; 4096], place: usize, entry: i32, position: u8) ->
     ensures fits { result ≡ is_coefficient (at plane.old place +ℤ coefficient_of entry position) }
     ensures sum { plane.new ≡ slice_set plane.old place (cut (at plane.old place +ℤ coefficient_of entry position)) }
 {
-    if plane[place] == 0 && entry == 0 {
-        return true;
-    }
     let sum = sum_of(plane[place], entry, position);
     plane[place] = cut_sum(sum);
     is_small(sum)
 }
 
-/// Upgrades the places from one to before another, all of one band, and says whether all sums stay
-/// in the range of a coefficient.
+/// Upgrades the places from one to before another, all of LL3, and says whether all sums stay in the range of a
+/// coefficient.
 #[inline(always)]
-fn upgrade_places(
+fn upgrade_low(
     plane: &mut [i16; 4096],
     from: usize,
     to: usize,
     n: u8,
     position: u8,
-    low: bool,
     readers: &mut Readers<'_>,
 ) -> bool
     requires order { from ≤ to }
@@ -104,15 +101,23 @@ fn upgrade_places(
     requires least { 1 ≤ position }
     requires most { position ≤ 30 }
     requires coefficients { AllCoefficients plane.old }
-    ensures upgraded { (pass : Pass) (fits : Bool) → AreAlike pass from to n position low → Upgraded pass from plane.old fits readers.old → Upgraded pass to plane.new (fits && result) readers.new }
+    ensures upgraded { (pass : Pass) (fits : Bool) → AreAlike pass from to n position true → Upgraded pass from plane.old fits readers.old → Upgraded pass to plane.new (fits && result) readers.new }
     ensures coefficients { AllCoefficients plane.new }
 {
     let mut fits = true;
     for place in from..to {
-        let entry = read_entry(readers, plane[place], n, low);
+        let entry = read_raw(readers, plane[place], n, true);
         fits &= add_entry(plane, place, entry, position);
     }
     fits
+}
+
+/// One for a sum that is zero, and else none.
+#[inline(always)]
+fn nought(sum: i16) -> usize
+    ensures { result ≡ (if is_nought sum then 1 else 0) }
+{
+    usize::from(sum == 0)
 }
 
 #[inline(always)]
@@ -122,56 +127,180 @@ fn is_zero(number: i16) -> bool
     number == 0
 }
 
-/// Whether eight sums from a place on are zero.
-// No early return: so it is done on all of them at a time.
+/// Whether 64 sums from a place on are zero.
+// No early return: so it is done on many of them at a time.
 #[inline(always)]
 fn are_blank(plane: &[i16; 4096], from: usize) -> bool
-    requires { from + 8 ≤ 4096 }
-    ensures { IsTrue result → (k : ℕ) → from ≤ k → k < from + 8 → at plane.now k ≡ pos 0 }
+    requires { from + 64 ≤ 4096 }
+    ensures { IsTrue result → (k : ℕ) → from ≤ k → k < from + 64 → at plane.now k ≡ pos 0 }
 {
     let mut blank = true;
-    for place in from..from + 8 {
+    for place in from..from + 64 {
         blank &= is_zero(plane[place]);
     }
     blank
 }
 
-/// Upgrades eight places with signs for which as many zeros are known to come, and says whether all sums stay in the
-/// range of a coefficient.
+/// Where the places before one are listed, lists those up to another too: how many sums are zero.
+// One sum says little of the next: a place is written at the end of both lists, and counted in one, so this has no branch.
 #[inline(always)]
-fn upgrade_eight(
-    plane: &mut [i16; 4096],
+fn sift_places(
+    plane: &[i16; 4096],
     from: usize,
+    place: usize,
+    to: usize,
+    count: usize,
+    noughts: &mut [u16; 1024],
+    others: &mut [u16; 1024],
+) -> usize
+    requires begun { from ≤ place }
+    requires order { place ≤ to }
+    requires end { to ≤ 4096 }
+    requires room { to ≤ from + 1024 }
+    requires listed { Listed plane.now from place count noughts.old others.old }
+    ensures { Listed plane.now from to result noughts.new others.new }
+{
+    let mut count = count;
+    for at in place..to {
+        noughts[count] = at as u16;
+        others[at - from - count] = at as u16;
+        count += nought(plane[at]);
+    }
+    count
+}
+
+/// The same for 64 places, which are often all zero.
+#[inline(always)]
+fn sift_block(
+    plane: &[i16; 4096],
+    from: usize,
+    place: usize,
+    count: usize,
+    noughts: &mut [u16; 1024],
+    others: &mut [u16; 1024],
+) -> usize
+    requires begun { from ≤ place }
+    requires end { place + 64 ≤ 4096 }
+    requires room { place + 64 ≤ from + 1024 }
+    requires listed { Listed plane.now from place count noughts.old others.old }
+    ensures { Listed plane.now from (place + 64) result noughts.new others.new }
+{
+    if !are_blank(plane, place) {
+        return sift_places(plane, from, place, place + 64, count, noughts, others);
+    }
+    for ahead in 0..64 {
+        noughts[count + ahead] = (place + ahead) as u16;
+    }
+    count + 64
+}
+
+/// Lists the places from one to before another whose sum is zero, and the others, and says how many are zero.
+#[inline(always)]
+fn sift(
+    plane: &[i16; 4096],
+    from: usize,
+    to: usize,
+    noughts: &mut [u16; 1024],
+    others: &mut [u16; 1024],
+) -> usize
+    requires order { from ≤ to }
+    requires end { to ≤ 4096 }
+    requires room { to ≤ from + 1024 }
+    ensures { Listed plane.now from to result noughts.new others.new }
+{
+    let mut count = 0;
+    let mut place = from;
+    'fronts: while to - place >= 64 {
+        count = sift_block(plane, from, place, count, noughts, others);
+        place += 64;
+    }
+    sift_places(plane, from, place, to, count, noughts, others)
+}
+
+/// Upgrades places whose sum isn't zero, and says whether all their sums stay in the range of a coefficient.
+#[inline(always)]
+fn upgrade_others(
+    plane: &mut [i16; 4096],
+    others: &[u16; 1024],
+    count: usize,
     n: u8,
     position: u8,
     readers: &mut Readers<'_>,
 ) -> bool
-    requires end { from + 8 ≤ 4096 }
+    requires room { count ≤ 1024 }
+    requires inside { (j : ℕ) → j < count → slice_index others.now j < 4096 }
     requires some { 1 ≤ n }
     requires few { n ≤ 24 }
     requires least { 1 ≤ position }
     requires most { position ≤ 30 }
     requires coefficients { AllCoefficients plane.old }
-    requires known { 8 ≤ readers.old.srl.zeros }
-    ensures upgraded { (pass : Pass) (fits : Bool) → AreAlike pass from (from + 8) n position false → Upgraded pass from plane.old fits readers.old → Upgraded pass (from + 8) plane.new (fits && result) readers.new }
+    ensures sifted { (pass : Pass) (from to : ℕ) (noughts : List ℕ) (fits : Bool) → from ≤ to → to ≤ 4096 → AreAlike pass from to n position false → Sifted pass from to noughts (take count others.now) 0 0 plane.old fits readers.old
+        → Sifted pass from to noughts (take count others.now) 0 count plane.new (fits && result) readers.new }
     ensures coefficients { AllCoefficients plane.new }
 {
-    if are_blank(plane, from) {
-        readers.srl.pass_zeros(8);
-        return true;
-    }
     let mut fits = true;
-    for place in from..from + 8 {
-        let entry = read_known(readers, plane[place], n);
-        let total = sum_of(plane[place], entry, position);
-        plane[place] = cut_sum(total);
-        fits &= is_small(total);
+    for index in 0..count {
+        let place = usize::from(others[index]);
+        let entry = read_raw(readers, plane[place], n, false);
+        fits &= add_entry(plane, place, entry, position);
     }
     fits
 }
 
+/// Upgrades places whose sum is zero, and says whether all their sums stay in the range of a coefficient.
+#[inline(always)]
+fn upgrade_noughts(
+    plane: &mut [i16; 4096],
+    noughts: &[u16; 1024],
+    count: usize,
+    n: u8,
+    position: u8,
+    readers: &mut Readers<'_>,
+) -> bool
+    requires room { count ≤ 1024 }
+    requires inside { (j : ℕ) → j < count → slice_index noughts.now j < 4096 }
+    requires some { 1 ≤ n }
+    requires few { n ≤ 24 }
+    requires least { 1 ≤ position }
+    requires most { position ≤ 30 }
+    requires coefficients { AllCoefficients plane.old }
+    ensures sifted { (pass : Pass) (from to : ℕ) (others : List ℕ) (others_done : ℕ) (fits : Bool) → from ≤ to → to ≤ 4096 → AreAlike pass from to n position false → Sifted pass from to (take count noughts.now) others 0 others_done plane.old fits readers.old
+        → Sifted pass from to (take count noughts.now) others count others_done plane.new (fits && result) readers.new }
+    ensures coefficients { AllCoefficients plane.new }
+{
+    let mut fits = true;
+    let mut at = 0;
+    'tokens: while at < count {
+        let (passed, value) = readers.srl.step(n, count - at);
+        at += passed;
+        if value != 0 {
+            let place = usize::from(noughts[at]);
+            fits &= add_entry(plane, place, value, position);
+            at += 1;
+        }
+    }
+    fits
+}
+
+/// Two lists of places of a band.
+#[derive(Drop)]
+pub struct Lists {
+    noughts: [u16; 1024],
+    others: [u16; 1024],
+}
+
+impl Lists {
+    /// Lists, for any number of bands.
+    pub fn new() -> Self {
+        Lists {
+            noughts: [0; 1024],
+            others: [0; 1024],
+        }
+    }
+}
+
 /// Upgrades the places from one to before another, all of one band with signs, and says whether all sums stay in the
-/// range of a coefficient.
+/// range of a coefficient. The raw numbers and the values that are coded are read apart, each for a list of places.
 #[inline(always)]
 fn upgrade_signed(
     plane: &mut [i16; 4096],
@@ -179,10 +308,12 @@ fn upgrade_signed(
     to: usize,
     n: u8,
     position: u8,
+    lists: &mut Lists,
     readers: &mut Readers<'_>,
 ) -> bool
     requires order { from ≤ to }
     requires end { to ≤ 4096 }
+    requires room { to ≤ from + 1024 }
     requires some { 1 ≤ n }
     requires few { n ≤ 24 }
     requires least { 1 ≤ position }
@@ -191,19 +322,17 @@ fn upgrade_signed(
     ensures upgraded { (pass : Pass) (fits : Bool) → AreAlike pass from to n position false → Upgraded pass from plane.old fits readers.old → Upgraded pass to plane.new (fits && result) readers.new }
     ensures coefficients { AllCoefficients plane.new }
 {
-    let mut fits = true;
-    let mut place = from;
-    'places: while place < to {
-        if readers.srl.zeros_ahead() >= 8 && to - place >= 8 {
-            fits &= upgrade_eight(plane, place, n, position, readers);
-            place += 8;
-        } else {
-            let entry = read_entry(readers, plane[place], n, false);
-            fits &= add_entry(plane, place, entry, position);
-            place += 1;
-        }
-    }
-    fits
+    let count = sift(plane, from, to, &mut lists.noughts, &mut lists.others);
+    let others_fit = upgrade_others(
+        plane,
+        &lists.others,
+        to - from - count,
+        n,
+        position,
+        readers,
+    );
+    let noughts_fit = upgrade_noughts(plane, &lists.noughts, count, n, position, readers);
+    others_fit & noughts_fit
 }
 
 /// Upgrades the places of a band, whose position may also stay: nothing is read then.
@@ -215,10 +344,12 @@ fn upgrade_band(
     n: u8,
     position: u8,
     low: bool,
+    lists: &mut Lists,
     readers: &mut Readers<'_>,
 ) -> bool
     requires order { from ≤ to }
     requires end { to ≤ 4096 }
+    requires room { to ≤ from + 1024 }
     requires few { n ≤ 24 }
     requires least { 1 ≤ position }
     requires most { position ≤ 30 }
@@ -230,9 +361,9 @@ fn upgrade_band(
         return true;
     }
     if low {
-        return upgrade_places(plane, from, to, n, position, low, readers);
+        return upgrade_low(plane, from, to, n, position, readers);
     }
-    upgrade_signed(plane, from, to, n, position, readers)
+    upgrade_signed(plane, from, to, n, position, lists, readers)
 }
 
 /// Upgrades a component's sums from their positions to new ones, and says whether all stay in the
@@ -242,6 +373,7 @@ pub fn upgrade_plane(
     transform: Transform,
     before: &[u8; 10],
     behind: &[u8; 10],
+    lists: &mut Lists,
     readers: &mut Readers<'_>,
 ) -> bool
     requires before { AreAtMost 30 before.now }
@@ -263,6 +395,7 @@ pub fn upgrade_plane(
             before[index] - behind[index],
             behind[index],
             index == LOW,
+            lists,
             readers,
         );
     }

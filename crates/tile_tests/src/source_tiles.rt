@@ -7,7 +7,7 @@ use gfx_dwt::Transform;
 use gfx_quant::{Component, Level, Levels, Quant, Setting};
 use gfx_rlgr::encode;
 use gfx_tile_make::{Pass, SourceTile};
-use gfx_tile_state::{PassShape, TileState};
+use gfx_tile_state::{PassShape, Scratch, TileState};
 use std::alloc::Global;
 use std::test::Fail;
 
@@ -127,7 +127,7 @@ fn brightness(pixel: Pixel) -> u64 {
 // Three pixels, and all pixels as such a sum.
 fn shown(tile: &TileState) -> ([u8; 3], u64) {
     let mut pixels = [Pixel::default(); 4096];
-    tile.pixels(&mut pixels);
+    tile.pixels(&mut pixels, &mut Scratch::new());
     let mut total = 0u64;
     for place in 0..4096 {
         let weight = place as u64 % 251 + 1;
@@ -145,7 +145,7 @@ fn taken(
     shape: &PassShape,
 ) -> Result<(), Refusal> {
     if !source.is_difference() {
-        return tile.first(component, bytes, shape);
+        return tile.first(component, bytes, shape, &mut Scratch::new());
     }
     match tile.may_add(shape.transform) {
         Ok(()) => tile.add(component, bytes, shape),

@@ -2,7 +2,7 @@
 use gfx_base::{Pixel, Refusal};
 use gfx_dwt::Transform;
 use gfx_quant::Component;
-use gfx_tile_state::{PassShape, TileState};
+use gfx_tile_state::{PassShape, Scratch, TileState};
 use std::process::Abort;
 use std::test::Fail;
 
@@ -80,7 +80,7 @@ fn brightness(pixel: Pixel) -> u64 {
 // Three pixels, and all pixels as a sum that tells their places apart.
 fn shown(tile: &TileState) -> ([u8; 3], u64) {
     let mut pixels = [Pixel::default(); 4096];
-    tile.pixels(&mut pixels);
+    tile.pixels(&mut pixels, &mut Scratch::new());
     let mut total = 0u64;
     for place in 0..4096 {
         let pixel = pixels[place];
@@ -94,9 +94,19 @@ fn shown(tile: &TileState) -> ([u8; 3], u64) {
 #[test]
 fn seven_levels(rt: HostRuntime) -> Result<(), Fail> {
     let mut tile = TileState::new(rt.alloc()).ok().ok_or("no memory")?;
-    assert_eq!(rt; tile.first(Component::Y, &FIRST, &shape(6)), Ok(()));
-    assert_eq!(rt; tile.first(Component::Cb, &[], &shape(6)), Ok(()));
-    assert_eq!(rt; tile.first(Component::Cr, &[], &shape(6)), Ok(()));
+    let mut scratch = Scratch::new();
+    assert_eq!(rt;
+        tile.first(Component::Y, &FIRST, &shape(6), &mut scratch),
+        Ok(())
+    );
+    assert_eq!(rt;
+        tile.first(Component::Cb, &[], &shape(6), &mut scratch),
+        Ok(())
+    );
+    assert_eq!(rt;
+        tile.first(Component::Cr, &[], &shape(6), &mut scratch),
+        Ok(())
+    );
     assert_eq!(rt; shown(&tile), ([0, 54, 128], 196_121_601));
     let passes: [(&[u8], &[u8], [u8; 3], u64); 6] = [
         (
@@ -163,7 +173,7 @@ fn upgraded_from(
     shape: &PassShape,
 ) -> Result<(), Refusal> {
     match before.may_upgrade(shape) {
-        Ok(()) => tile.upgrade_from(before, component, srl, raw, shape),
+        Ok(()) => tile.upgrade_from(before, component, srl, raw, shape, &mut Scratch::new()),
         Err(refusal) => Err(refusal),
     }
 }
@@ -172,9 +182,19 @@ fn upgraded_from(
 #[test]
 fn a_level_in_another_record(rt: HostRuntime) -> Result<(), Fail> {
     let mut tile = TileState::new(rt.alloc()).ok().ok_or("no memory")?;
-    assert_eq!(rt; tile.first(Component::Y, &FIRST, &shape(6)), Ok(()));
-    assert_eq!(rt; tile.first(Component::Cb, &[], &shape(6)), Ok(()));
-    assert_eq!(rt; tile.first(Component::Cr, &[], &shape(6)), Ok(()));
+    let mut scratch = Scratch::new();
+    assert_eq!(rt;
+        tile.first(Component::Y, &FIRST, &shape(6), &mut scratch),
+        Ok(())
+    );
+    assert_eq!(rt;
+        tile.first(Component::Cb, &[], &shape(6), &mut scratch),
+        Ok(())
+    );
+    assert_eq!(rt;
+        tile.first(Component::Cr, &[], &shape(6), &mut scratch),
+        Ok(())
+    );
     let before = ([0, 54, 128], 196_121_601);
     let mut next = tile.copy().ok().ok_or("no memory")?;
     assert_eq!(rt; shown(&next), before);
@@ -200,10 +220,14 @@ fn a_level_in_another_record(rt: HostRuntime) -> Result<(), Fail> {
 #[test]
 fn grey_and_refusals(rt: HostRuntime) -> Result<(), Fail> {
     let mut tile = TileState::new(rt.alloc()).ok().ok_or("no memory")?;
+    let mut scratch = Scratch::new();
     let grey = [0; 3];
     assert_eq!(rt; tile.may_add(Transform::Reduced), Ok(()));
     assert_eq!(rt; tile.may_upgrade(&shape(0)), Err(Refusal::QualityWorse));
-    assert_eq!(rt; tile.first(Component::Y, &grey, &shape(4)), Ok(()));
+    assert_eq!(rt;
+        tile.first(Component::Y, &grey, &shape(4), &mut scratch),
+        Ok(())
+    );
     assert_eq!(rt; shown(&tile).0, [128, 128, 128]);
     assert_eq!(rt; tile.may_add(Transform::Plain), Ok(()));
     assert_eq!(rt;
@@ -211,8 +235,14 @@ fn grey_and_refusals(rt: HostRuntime) -> Result<(), Fail> {
         Err(Refusal::TransformChanged)
     );
     assert_eq!(rt; tile.may_upgrade(&shape(4)), Err(Refusal::QualityWorse));
-    assert_eq!(rt; tile.first(Component::Cb, &grey, &shape(4)), Ok(()));
-    assert_eq!(rt; tile.first(Component::Cr, &grey, &shape(4)), Ok(()));
+    assert_eq!(rt;
+        tile.first(Component::Cb, &grey, &shape(4), &mut scratch),
+        Ok(())
+    );
+    assert_eq!(rt;
+        tile.first(Component::Cr, &grey, &shape(4), &mut scratch),
+        Ok(())
+    );
     assert_eq!(rt; tile.may_upgrade(&shape(4)), Ok(()));
     assert_eq!(rt; tile.may_upgrade(&shape(5)), Err(Refusal::QualityWorse));
     let reduced = PassShape {
@@ -223,7 +253,7 @@ fn grey_and_refusals(rt: HostRuntime) -> Result<(), Fail> {
     };
     assert_eq!(rt; tile.may_upgrade(&reduced), Err(Refusal::TransformChanged));
     assert_eq!(rt;
-        tile.first(Component::Y, &[0x80], &reduced),
+        tile.first(Component::Y, &[0x80], &reduced, &mut scratch),
         Err(Refusal::CoefficientRange)
     );
     Ok(())

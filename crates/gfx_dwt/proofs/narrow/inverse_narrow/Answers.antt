@@ -1,9 +1,7 @@
-use Rattle.std.proofs.Common.{◌*◌, ◌+◌, ap, sym, refl, ◌∙◌, arith, FitsSigned, w16, rules}
+use Rattle.std.proofs.Common.{◌*◌, ◌+◌, sym, ◌∙◌, arith, FitsSigned, w16, rules}
 use Rattle.std.proofs.lemmas.Int.{to_z-of_z}
 use Rattle.gfx_dwt.specs.Ranges.{at}
-use Rattle.gfx_dwt.proofs.FirstLevel.{sample_of_rows}
 use Rattle.gfx_dwt.proofs.NoDetail.{sample_flat}
-use Rattle.gfx_dwt.proofs.Planes.{front_at, tail_at}
 use Rattle.gfx_dwt.proofs.narrow.inverse_narrow.Goals as goal
 
 pub returns-then-is_flat-clause-narrow : goal.returns-then-is_flat-clause-narrow
@@ -15,15 +13,3 @@ returns-then-is_flat-clause-narrow c = λ _ y x p q.
     c.fill.ensures (y * 64 + x) (omega arith)
     ∙ to_z-of_z w16 (at plane 4095) value
     ∙ sym (sample_flat t (at plane 4095) plane (λ k h. c.is_flat.ensures.before c.if-is_flat.true k (rw low_is h)) (λ k h i. c.is_flat.ensures.behind c.if-is_flat.true k (rw low_is h) i) y x p q)
-
-pub returns-clause-narrow : goal.returns-clause-narrow
-returns-clause-narrow c = λ _ y x p q.
-    let t = c.args.transform in
-    let plane = c.args.coefficients.now in
-    let rows = c.join_all_rows.new.workspace.rows in
-    let size = c.low_size-size.ensures in
-    c.join_narrow_columns.ensures y x p q
-    ∙ sample_of_rows t plane rows _ _ (c.if-not-join_all_rows.ensures.rows refl)
-    (λ k h. front_at _ rows _ c.split_at.ensures.front k (rw size h))
-    (λ k. tail_at _ rows _ c.split_at.ensures.back k ∙ ap (λ n. at rows (n * 64 + k)) size)
-    y x p q

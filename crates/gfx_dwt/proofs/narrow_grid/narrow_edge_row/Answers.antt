@@ -1,5 +1,4 @@
 use Rattle.std.proofs.Common.{◌∙◌, ap, sym, arith}
-use Rattle.gfx_dwt.specs.declared.layout.Scale.TheVariants.{First}
 use Rattle.gfx_dwt.specs.Joining.{behind}
 use Rattle.gfx_dwt.specs.Samples.{column}
 use Rattle.gfx_dwt.proofs.Edges.{edged_inside, edged_behind}
@@ -7,14 +6,14 @@ use Rattle.gfx_dwt.proofs.narrow_grid.narrow_edge_row.Goals as goal
 
 pub returns-then-index-size-clause-each : goal.returns-then-index-size-clause-each
 returns-then-index-size-clause-each c = λ k h.
-    c.narrow_row.ensures.each k h ∙ sym (edged_inside c.args.transform First (column 64 c.args.high.now k) c.args.index (omega arith))
+    c.narrow_row.ensures.each k h ∙ sym (edged_inside c.args.transform c.args.level (column c.args.width c.args.high.now k) c.args.index (omega arith))
 
 pub returns-else-index-size-clause-each : goal.returns-else-index-size-clause-each
 returns-else-index-size-clause-each c = λ k h.
     let e = c.high_size-size.ensures in
     let last = c.narrow_row-else-index-size.ensures.each k h in
-    c.row_behind.ensures.each k ∙ ap (behind c.args.transform First) (rw e at last)
-    ∙ sym (edged_behind c.args.transform First (column 64 c.args.high.now k) c.args.index (omega arith))
+    c.row_behind.ensures.each k ∙ ap (behind c.args.transform c.args.level) (rw e at last)
+    ∙ sym (edged_behind c.args.transform c.args.level (column c.args.width c.args.high.now k) c.args.index (omega arith))
 
 pub returns-else-index-size-clause-within : goal.returns-else-index-size-clause-within
 returns-else-index-size-clause-within c =

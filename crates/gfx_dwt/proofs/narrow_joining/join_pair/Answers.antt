@@ -1,5 +1,4 @@
-use Rattle.std.proofs.Common.{◌≡◌, ℕ, ◌+◌, ◌-◌, ◌++◌, length, ◌∙◌, refl, arith, min}
-use Rattle.gfx_dwt.specs.declared.layout.Scale.TheVariants.{First}
+use Rattle.std.proofs.Common.{◌≡◌, ◌+◌, ◌-◌, ◌++◌, length, ◌∙◌, refl, arith, min}
 use Rattle.gfx_dwt.specs.Joining.{even}
 use Rattle.gfx_dwt.specs.Lifting.{even_of}
 use Rattle.gfx_dwt.specs.Place.{high_size, low_size}
@@ -13,8 +12,8 @@ use Rattle.gfx_dwt.proofs.narrow_joining.join_pair.Goals as goal
 pub pair-requires-clause-above : goal.pair-requires-clause-above
 pair-requires-clause-above c = λ x h.
     let t = c.args.transform in
-    let l = First in
-    let w : ℕ = 64 in
+    let l = c.args.level in
+    let w = c.args.width in
     let low = column w c.args.low.now x in
     let high = column w c.args.high.now x in
     let n = c.args.place in
@@ -25,8 +24,8 @@ pair-requires-clause-above c = λ x h.
 pub returns-clause-odds : goal.returns-clause-odds
 returns-clause-odds c = λ x h.
     let t = c.args.transform in
-    let l = First in
-    let w : ℕ = 64 in
+    let l = c.args.level in
+    let w = c.args.width in
     let low = column w c.args.low.now x in
     let high = column w c.args.high.now x in
     let n = c.args.place in
@@ -43,8 +42,8 @@ returns-clause-odds c = λ x h.
 pub returns-clause-evens : goal.returns-clause-evens
 returns-clause-evens c = λ x h.
     let t = c.args.transform in
-    let l = First in
-    let w : ℕ = 64 in
+    let l = c.args.level in
+    let w = c.args.width in
     let low = column w c.args.low.now x in
     let high = column w c.args.high.now x in
     let n = c.args.place in

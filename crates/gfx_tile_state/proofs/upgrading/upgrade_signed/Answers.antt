@@ -1,33 +1,31 @@
-use Rattle.std.proofs.Common.{rules, ◌≡◌, ◌∙◌, ◌<◌, ◌+◌, ◌+ℤ◌, length, set, length-set, arith, subst, FitsSigned, w16, ◌&&◌, refl, false}
-use Rattle.std.proofs.lemmas.Int.{to_z-of_z}
-use Rattle.gfx_dwt.specs.Ranges.{at}
-use Rattle.gfx_quant.specs.Coefficient.{coefficient_of, cut}
+use Rattle.std.proofs.Common.{◌-◌, ◌&&◌, sym, take, arith, subst}
+use Rattle.std.proofs.lemmas.List.{length-take-le}
 use Rattle.gfx_tile_state.specs.Entries.{Upgraded}
-use Rattle.gfx_tile_state.proofs.Sums.{small-bits}
-use Rattle.gfx_tile_state.proofs.Passing.{place-read, and-more, cut-within}
-use Rattle.gfx_tile_state.proofs.Places.{set-coefficient}
+use Rattle.gfx_tile_state.specs.Sifting.{is_nought, is_other}
+use Rattle.gfx_tile_state.proofs.PlaceLists.{places-inside}
+use Rattle.gfx_tile_state.proofs.Passing.{and-more}
+use Rattle.gfx_tile_state.proofs.Sifting.{sifting-begins, sifting-ends}
 use Rattle.gfx_tile_state.proofs.upgrading.upgrade_signed.Goals as goal
 
-pub places-preserved : goal.places-preserved
-places-preserved c =
-    let i = c.places.place in
-    let plane = c.places.plane in
-    let held = c.places.invariant in
-    let inside : i < length plane = omega (arith, held.long) in
-    let was : FitsSigned w16 (at plane i) = search rules in
-    let entry = small-bits c.read_entry-entry.result c.read_entry-entry.ensures.small in
-    let sum = cut (at plane i +ℤ coefficient_of c.read_entry-entry.result c.args.position) in
-    let put : c.add_entry-fits.new.plane ≡ set plane i sum = rw entry at c.add_entry-fits.ensures.sum in
-    rw put (record {
-      long = length-set _ _ _ ∙ held.long;
-      from = omega (arith, held.from);
-      to = omega arith;
-      coefficients = set-coefficient plane i sum inside (cut-within _) held.coefficients;
-      upgraded = λ pass fits alike u.
-          subst (λ b. Upgraded pass (i + 1) (set plane i sum) b c.read_entry-entry.new.readers) (and-more fits c.places.fits c.add_entry-fits.result)
-          (place-read pass c.args.from c.args.to i c.args.n c.args.position false (fits && c.places.fits) c.add_entry-fits.result plane c.places.readers c.read_entry-entry.new.readers
-          c.read_entry-entry.result sum held.from c.places-test.true inside alike (held.upgraded pass fits alike u)
-          (rw (to_z-of_z w16 (at plane i) was) at c.read_entry-entry.ensures.reads)
-          refl
-          (rw entry at c.add_entry-fits.ensures.fits));
-    })
+pub upgrade_others-others_fit-requires-clause-inside : goal.upgrade_others-others_fit-requires-clause-inside
+upgrade_others-others_fit-requires-clause-inside c =
+    places-inside is_other c.args.plane.now c.args.from c.args.to (c.args.to - c.args.from - c.sift-count.result) c.sift-count.new.others c.requires.order c.requires.end (omega (arith, c.sift-count.ensures.others_long, c.requires.room)) c.sift-count.ensures.others_are
+
+pub upgrade_noughts-noughts_fit-requires-clause-inside : goal.upgrade_noughts-noughts_fit-requires-clause-inside
+upgrade_noughts-noughts_fit-requires-clause-inside c =
+    places-inside is_nought c.args.plane.now c.args.from c.args.to c.sift-count.result c.sift-count.new.noughts c.requires.order c.requires.end (omega (arith, c.sift-count.ensures.noughts_long, c.sift-count.ensures.most, c.requires.room)) c.sift-count.ensures.noughts_are
+
+pub returns-clause-upgraded : goal.returns-clause-upgraded
+returns-clause-upgraded c pass fits alike u =
+    let from = c.args.from in
+    let to = c.args.to in
+    let count = c.sift-count.result in
+    let rest = to - from - count in
+    let noughts = take count c.sift-count.new.noughts in
+    let others = take rest c.sift-count.new.others in
+    let begun = sifting-begins pass from to noughts others c.args.plane.now fits c.args.readers.now c.requires.order (omega (arith, c.told-plane)) c.requires.coefficients c.sift-count.ensures.noughts_are c.sift-count.ensures.others_are u in
+    let numbers = c.upgrade_others-others_fit.ensures.sifted pass from to noughts fits c.requires.order c.requires.end alike begun in
+    let values = c.upgrade_noughts-noughts_fit.ensures.sifted pass from to others rest (fits && c.upgrade_others-others_fit.result) c.requires.order c.requires.end alike numbers in
+    subst (λ b. Upgraded pass to c.upgrade_noughts-noughts_fit.new.plane b c.upgrade_noughts-noughts_fit.new.readers) (and-more fits c.upgrade_others-others_fit.result c.upgrade_noughts-noughts_fit.result)
+    (sifting-ends pass from to c.args.n c.args.position noughts others count rest c.upgrade_noughts-noughts_fit.new.plane ((fits && c.upgrade_others-others_fit.result) && c.upgrade_noughts-noughts_fit.result)
+    c.upgrade_noughts-noughts_fit.new.readers c.requires.order c.requires.some alike (sym (length-take-le count c.sift-count.new.noughts (omega (arith, c.sift-count.ensures.noughts_long, c.sift-count.ensures.most, c.requires.room)))) (sym (length-take-le rest c.sift-count.new.others (omega (arith, c.sift-count.ensures.others_long, c.requires.room)))) values)

@@ -1,22 +1,39 @@
-use Rattle.std.proofs.Common.{◌≡◌, ◌+◌, ◌∙◌, ap, sym, min, drop, suc, arith}
-use Rattle.std.proofs.lemmas.List.{drop-drop}
-use Rattle.gfx_bits.specs.Bits.{ones, number}
-use Rattle.gfx_bits.proofs.Laws.{masked_field}
+use Rattle.std.proofs.Common.{◌≤◌, ◌∙◌, ◌^◌, ap, drop, suc, arith}
+use Rattle.std.proofs.Math.Pow.{pow_mono}
+use Rattle.gfx_bits.specs.Bits.{number, ones}
+use Rattle.gfx_bits.specs.Ahead.{bits_ahead}
+use Rattle.gfx_bits.proofs.Laws.{number_below}
+use Rattle.gfx_bits.proofs.Ahead.{ones_then}
 use Rattle.gfx_bits.proofs.reader.BitReader.read_ones_then.Goals as goal
 
--- the window has the zero, so it has all the ones before it
-count : (c : goal.After-skip) → c.ones_of-count.result + 1 ≡ suc (ones c.args.self.now)
-count c =
-    let ahead : c.ones_of-count.result ≡ min 57 (ones c.args.self.now) = c.ones_of-count.ensures c.args.self.now c.window-window.ensures.bits in
-    omega arith
+pub overflow_cast-result : goal.overflow_cast-result
+overflow_cast-result c =
+    let most : 2 ^ c.args.n ≤ 2 ^ 32 = pow_mono c.requires in
+    let bits = bits_ahead c.self.inside.ahead c.self.inside.count c.self.inside.rest.now in
+    omega (
+      arith,
+      (ones_then c.self.inside.ahead c.self.inside.count c.args.n c.leading_ones-ones.result c.self.inside.rest.now (omega arith) c.self.invariant c.leading_ones-ones.ensures c.if-taken-self.true).1,
+      number_below c.args.n (drop (suc (ones bits)) bits),
+    )
 
-pub returns-then-taken-le-WINDOW-clause-value : goal.returns-then-taken-le-WINDOW-clause-value
-returns-then-taken-le-WINDOW-clause-value c =
-    masked_field (c.ones_of-count.result + 1) c.args.n c.window-window.result c.args.self.now c.if-taken-le-WINDOW.true c.window-window.ensures.bits
-    ∙ ap (λ k. number c.args.n (drop k c.args.self.now)) (count c)
+pub invariant_of-self : goal.invariant_of-self
+invariant_of-self c =
+    (ones_then c.self.inside.ahead c.self.inside.count c.args.n c.leading_ones-ones.result c.self.inside.rest.now (omega arith) c.self.invariant c.leading_ones-ones.ensures c.if-taken-self.true).3
 
-pub returns-then-taken-le-WINDOW-clause-rest : goal.returns-then-taken-le-WINDOW-clause-rest
-returns-then-taken-le-WINDOW-clause-rest c =
-    c.skip.ensures
-    ∙ sym (drop-drop c.args.n (c.ones_of-count.result + 1) c.args.self.now)
-    ∙ ap (λ k. drop c.args.n (drop k c.args.self.now)) (count c)
+pub returns-then-taken-self-clause-count : goal.returns-then-taken-self-clause-count
+returns-then-taken-self-clause-count c =
+    omega (
+      arith,
+      (ones_then c.self.inside.ahead c.self.inside.count c.args.n c.leading_ones-ones.result c.self.inside.rest.now (omega arith) c.self.invariant c.leading_ones-ones.ensures c.if-taken-self.true).0,
+      ap ones c.self.view_is,
+    )
+
+pub returns-then-taken-self-clause-value : goal.returns-then-taken-self-clause-value
+returns-then-taken-self-clause-value c =
+    (ones_then c.self.inside.ahead c.self.inside.count c.args.n c.leading_ones-ones.result c.self.inside.rest.now (omega arith) c.self.invariant c.leading_ones-ones.ensures c.if-taken-self.true).1
+    ∙ ap (λ bits. number c.args.n (drop (suc (ones bits)) bits)) c.self.view_is
+
+pub returns-then-taken-self-clause-rest : goal.returns-then-taken-self-clause-rest
+returns-then-taken-self-clause-rest c =
+    (ones_then c.self.inside.ahead c.self.inside.count c.args.n c.leading_ones-ones.result c.self.inside.rest.now (omega arith) c.self.invariant c.leading_ones-ones.ensures c.if-taken-self.true).2
+    ∙ ap (λ bits. drop c.args.n (drop (suc (ones bits)) bits)) c.self.view_is

@@ -1,25 +1,24 @@
-use Rattle.std.proofs.Common.{◌+◌, ◌∙◌, ap, arith, drop, sym, subst, false, replicate}
-use Rattle.std.proofs.lemmas.List.{drop-drop}
+use Rattle.std.proofs.Common.{◌%◌, ◌*◌, ◌-◌, ◌+◌, ◌^◌, subst, refl, arith}
+use Rattle.std.specs.Int.Count.{count_leading_zeros}
 use Rattle.gfx_bits.specs.Bits.{Spelled, zeros_code}
-use Rattle.gfx_bits.proofs.Zeros.{more-read, ends-read, most-read}
+use Rattle.gfx_bits.specs.Ahead.{bits_ahead}
+use Rattle.gfx_bits.proofs.Ahead.{past, past_one, zeros_then_one, all_zeros}
 use Rattle.gfx_bits.proofs.reader.BitReader.read_zeros.Goals as goal
 
-pub returns-then-ahead-room-clause-spelled : goal.returns-then-ahead-room-clause-spelled
-returns-then-ahead-room-clause-spelled c =
-    subst (Spelled c.args.self.now (zeros_code c.args.most (c.windows.count + c.zeros_of-ahead.result)))
-    (drop-drop 1 c.zeros_of-ahead.result c.windows.self ∙ ap (λ k. drop k c.windows.self) {y = c.zeros_of-ahead.result + 1} (omega arith) ∙ sym c.skip.ensures)
-    (ends-read c.args.self.now (drop c.zeros_of-ahead.result c.windows.self) c.args.most (c.windows.count + c.zeros_of-ahead.result) (omega arith)
-    (more-read c.args.self.now c.windows.self (drop c.zeros_of-ahead.result c.windows.self) c.windows.count c.zeros_of-ahead.result c.windows.invariant.1
-    (c.zeros_of-ahead.ensures.zeros c.windows.self c.window.ensures.bits c.zeros_of-ahead.result (omega arith)))
-    (c.zeros_of-ahead.ensures.ends c.windows.self c.window.ensures.bits (omega arith)))
+pub invariant_of-self : goal.invariant_of-self
+invariant_of-self c = (past_one c.self.inside.ahead c.self.inside.count (count_leading_zeros 64 c.self.inside.ahead) c.self.inside.rest.now (omega arith) c.self.invariant (omega arith)).1
 
-pub windows-preserved : goal.windows-preserved
-windows-preserved c = (
-  omega arith,
-  more-read c.args.self.now c.windows.self c.skip-in-windows.new.self c.windows.count c.min-room.result c.windows.invariant.1
-      (rw c.skip-in-windows.ensures
-      (c.zeros_of-ahead.ensures.zeros c.windows.self c.window.ensures.bits c.min-room.result (omega arith))),
-)
+pub returns-then-zeros-room-clause-spelled : goal.returns-then-zeros-room-clause-spelled
+returns-then-zeros-room-clause-spelled c =
+    subst (λ old. Spelled old (zeros_code c.args.most (count_leading_zeros 64 c.self.inside.ahead)) (bits_ahead (c.self.inside.ahead * 2 ^ (count_leading_zeros 64 c.self.inside.ahead) % 2 ^ 64 * 2 ^ 1 % 2 ^ 64) (c.self.inside.count - ((count_leading_zeros 64 c.self.inside.ahead) + 1)) c.self.inside.rest.now))
+    c.self.view_is
+    (zeros_then_one c.self.inside.ahead c.self.inside.count (count_leading_zeros 64 c.self.inside.ahead) c.args.most c.self.inside.rest.now (omega arith) c.self.invariant refl (omega arith) (omega arith))
 
-pub returns-clause-spelled : goal.returns-clause-spelled
-returns-clause-spelled c = most-read c.args.self.now c.windows.self c.args.most c.windows.count (omega arith) c.windows.invariant.1
+pub invariant_of-self-then-most-self : goal.invariant_of-self-then-most-self
+invariant_of-self-then-most-self c = (past c.self.inside.ahead c.self.inside.count c.args.most c.self.inside.rest.now (omega arith) c.self.invariant (omega arith)).1
+
+pub returns-then-most-self-clause-spelled : goal.returns-then-most-self-clause-spelled
+returns-then-most-self-clause-spelled c =
+    subst (λ old. Spelled old (zeros_code c.args.most c.args.most) (bits_ahead (c.self.inside.ahead * 2 ^ c.args.most % 2 ^ 64) (c.self.inside.count - c.args.most) c.self.inside.rest.now))
+    c.self.view_is
+    (all_zeros c.self.inside.ahead c.self.inside.count (count_leading_zeros 64 c.self.inside.ahead) c.args.most c.self.inside.rest.now (omega arith) c.self.invariant refl (omega arith) (omega arith))

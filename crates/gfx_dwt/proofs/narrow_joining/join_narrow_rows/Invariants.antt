@@ -1,8 +1,0 @@
-use Rattle.std.proofs.Common.{◌≡◌, ℕ, ◌<◌}
-use Rattle.gfx_dwt.specs.declared.layout.Scale.TheVariants.{First}
-use Rattle.gfx_dwt.specs.Joining.{joined}
-use Rattle.gfx_dwt.specs.Samples.{cell}
-use Rattle.gfx_dwt.proofs.narrow_joining.join_narrow_rows.Given as goal
-
-abbrev pub invariant-loop-r : goal.invariant-loop-r
-invariant-loop-r l = (i c : ℕ) → i < l.r → c < 64 → cell 64 l.out i c ≡ joined l.transform First (cell l.low_size l.low i) (cell l.high_size l.high i) c

@@ -1,0 +1,41 @@
+use Rattle.std.proofs.Common.{◌≡◌, ℕ, ◌+◌, ◌*◌, ◌<◌, ◌∙◌, ap, sym, zero-add, refl, arith}
+use Rattle.gfx_dwt.specs.Place.{high_size, low_size}
+use Rattle.gfx_dwt.specs.Ranges.{at}
+use Rattle.gfx_dwt.proofs.Planes.{front_at, tail_at, place_in}
+use Rattle.gfx_dwt.proofs.Same.{joined_same}
+use Rattle.gfx_dwt.proofs.narrow_levels.join_narrow_quarters.Goals as goal
+
+pub returns-clause-above : goal.returns-clause-above
+returns-clause-above c = λ r x p q.
+    let t = c.args.transform in
+    let l = c.args.level in
+    let n = low_size t l in
+    let m = high_size t l in
+    let bands = c.args.bands.now in
+    let e : c.low_size-low_size.result ≡ n = c.low_size-low_size.ensures in
+    let f : c.high_size-high_size.result ≡ m = c.high_size-high_size.ensures in
+    let a = c.low_size-low_size.result * c.high_size-high_size.result in
+    let hl : (k : ℕ) → k < n * m → at c.split_at.result.0.now k ≡ at bands (0 + k) = λ k h.
+    front_at a _ _ c.split_at.ensures.front k (rw (e, f) h) ∙ ap (at bands) (sym (zero-add k)) in
+    c.join_narrow_rows.ensures r x (rw e p) q
+    ∙ joined_same t l _ _ _ _ (λ k h. refl) (λ k h. hl (r * m + k) (place_in m n r k p h)) x q
+
+pub returns-clause-below : goal.returns-clause-below
+returns-clause-below c = λ r x p q.
+    let t = c.args.transform in
+    let l = c.args.level in
+    let n = low_size t l in
+    let m = high_size t l in
+    let bands = c.args.bands.now in
+    let e : c.low_size-low_size.result ≡ n = c.low_size-low_size.ensures in
+    let f : c.high_size-high_size.result ≡ m = c.high_size-high_size.ensures in
+    let a = c.low_size-low_size.result * c.high_size-high_size.result in
+    let b = c.high_size-high_size.result * c.low_size-low_size.result in
+    let lh : (k : ℕ) → k < m * n → at c.split_at-2.result.0.now k ≡ at bands (n * m + k) = λ k h.
+    front_at b _ _ c.split_at-2.ensures.front k (rw (e, f) h) ∙ tail_at a _ _ c.split_at.ensures.back k
+    ∙ ap (at bands) (rw (e, f) refl) in
+    let hh : (k : ℕ) → at c.split_at-2.result.1.now k ≡ at bands (n * m + m * n + k) = λ k.
+    tail_at b _ _ c.split_at-2.ensures.back k ∙ tail_at a _ _ c.split_at.ensures.back (b + k)
+    ∙ ap (at bands) (rw (e, f) (omega arith)) in
+    c.join_narrow_rows-2.ensures r x (rw f p) q
+    ∙ joined_same t l _ _ _ _ (λ k h. lh (r * n + k) (place_in n m r k p h)) (λ k h. hh (r * m + k)) x q

@@ -1,9 +1,10 @@
 -- What a word shows of the bits at its top.
-use Rattle.std.proofs.Common.{◌≡◌, ℕ, suc, ◌+◌, ◌-◌, ◌*◌, ◌/◌, ◌%◌, ◌^◌, ◌<◌, ◌≤◌, Bool, true, false, List, length, drop, sym, ap, ◌∙◌, arith, min, subst, replicate, inl, inr}
+use Rattle.std.proofs.Common.{◌≡◌, ℕ, suc, ◌+◌, ◌-◌, ◌*◌, ◌/◌, ◌%◌, ◌^◌, ◌<◌, ◌≤◌, Bool, true, false, cond, List, length, drop, nat_lt, sym, ap, ◌∙◌, arith, min, subst, replicate, inl, inr}
 use Rattle.std.proofs.Math.Nat.{add-mul, mul_assoc, mul_comm}
-use Rattle.std.proofs.lemmas.Nat.{pow_pos, pow-add, mod_low, mod_below, mul-add-lt, shr_below, shr_split, shr_high, shr-shr, shl_below, le-div, leading_top, or_shr, le_or_r}
+use Rattle.std.proofs.lemmas.Nat.{pow_pos, pow-add, mod_low, mod_below, mul-add-lt, shr_below, shr_split, shr_high, shr-shr, shl_below, le-div, leading_top, or_shr, pow_below, le_or_l, le_or_r}
 use Rattle.std.proofs.Math.Pow.{pow_mono, pow-lt}
 use Rattle.std.proofs.lemmas.Bool.Decides.{leb_tells, eqb_tells}
+use Rattle.std.proofs.lemmas.Bool.{lt-ltb, le-ltb}
 use Rattle.std.specs.Prelude.{bit_or}
 use Rattle.std.proofs.Math.Facts.{Fits-or, Fits-lt-pow}
 use Rattle.std.specs.Int.{w64}
@@ -11,8 +12,8 @@ use Rattle.std.specs.Int.Bits.{or_zero_r}
 use Rattle.std.specs.Int.Count.{count_leading_zeros, leading_of_zero}
 use Rattle.gfx_bits.specs.Bits.{first, number, Spelled, zeros_code}
 use Rattle.gfx_bits.specs.Ahead.{Shows}
-use Rattle.gfx_bits.proofs.Laws.{number_below, number-split, number_top, power-below, spelled-drop}
-use Rattle.gfx_bits.proofs.Zeros.{zeros-front, one-front, ends-read, most-read}
+use Rattle.gfx_bits.proofs.Laws.{number_below, number-split, number_top, power-below, leading_zeros-at, spelled-drop}
+use Rattle.gfx_bits.proofs.Zeros.{zeros-front, one-front, ends-read, most-read, code-size}
 
 -- fewer bits
 pub shows-fewer : (m n word : ℕ) (bits : List Bool) → n ≤ m → m ≤ 64 → Shows m word bits → Shows n word bits
@@ -154,3 +155,59 @@ ended-code m n word bits low few high below is =
     let same : min z n ≡ z = omega (arith, zeros-ended n word few below) in
     subst (λ count. Spelled bits (zeros_code n count) (drop (length (zeros_code n count)) bits)) same
     (shows-code n n (bit_or word (2 ^ (63 - n))) bits (omega arith) (ended-below n word below) (shows-ended m n word bits low few high is) (omega arith))
+
+-- a count that begins one bit further up is one more, up to the one that ends it
+pub ended-size : (n a : ℕ) → n ≤ 62 → a < 2 ^ 64
+    → count_leading_zeros 64 (bit_or (a / 2 ^ 1) (2 ^ (63 - n))) ≡ length (zeros_code n (count_leading_zeros 64 (bit_or a (2 ^ (63 - n)))))
+ended-size n a few below =
+    let g : ℕ = 63 - n in
+    let x : ℕ = bit_or a (2 ^ g) in
+    let y : ℕ = bit_or (a / 2 ^ 1) (2 ^ g) in
+    let top = leading_top 64 x (omega (arith, le_or_r a (2 ^ g), pow_pos g)) (ended-below n a below) in
+    let j : ℕ = top.0 in
+    let low : g ≤ j = power-below g j x (le_or_r a (2 ^ g)) top.3 in
+    let left : a ≤ x = le_or_l a (2 ^ g) in
+    let whole : y < 2 ^ 64 = ended-below n (a / 2 ^ 1) (omega (arith, halved a)) in
+    elim (leb_tells j g) [
+      | inl same ↦
+          let at : j ≡ g = omega (arith, same.1) in
+          let small : a < 2 ^ (g + 1) = subst (λ k. a < 2 ^ k) {x = suc j} {y = g + 1} (omega arith) (omega (arith, top.3)) in
+          let counted = leading_zeros-at g y (le_or_r (a / 2 ^ 1) (2 ^ g)) (or-below (suc g) (a / 2 ^ 1) (2 ^ g) (omega (arith, pow_below g (suc g) (omega arith), shr_below a g 1 small)) (pow_below g (suc g) (omega arith))) whole in
+          omega (arith, counted, top.1, code-size n (count_leading_zeros 64 x), ending n (count_leading_zeros 64 x) (omega (arith, top.1)))
+      | inr above ↦
+          let i : ℕ = j - 1 in
+          let big : 2 ^ j ≤ a = elim (leb_tells (2 ^ j) a) [
+            | inl h ↦ h.1
+            | inr h ↦ absurd (omega (arith, top.2, or-below j a (2 ^ g) h.1 (pow_below g j above.1)))
+          ] in
+          let half : 2 ^ i ≤ a / 2 ^ 1 = le-half i a (subst (λ k. 2 ^ k ≤ a) {x = j} {y = suc i} (omega (arith, above.1)) big) in
+          let counted = leading_zeros-at i y (omega (arith, half, le_or_l (a / 2 ^ 1) (2 ^ g)))
+          (or-below (suc i) (a / 2 ^ 1) (2 ^ g) (subst (λ k. a / 2 ^ 1 < 2 ^ k) {x = j} {y = suc i} (omega (arith, above.1)) (shr_below a j 1 (subst (λ k. a < 2 ^ k) {x = suc j} {y = j + 1} (omega arith) (omega (arith, top.3))))) (pow_below g (suc i) (omega (arith, above.1)))) whole in
+          omega (arith, counted, top.1, above.1, code-size n (count_leading_zeros 64 x), more n (count_leading_zeros 64 x) (omega (arith, top.1, above.1)))
+    ]
+  where
+    gone : (a k : ℕ) → a < 2 ^ k → a / 2 ^ k ≡ 0
+    gone a k h = omega (arith, shr_below a 0 k (subst (λ j. a < 2 ^ j) {x = k} {y = 0 + k} (omega arith) h))
+
+    halved : (a : ℕ) → a / 2 ^ 1 ≤ a
+    halved a = omega arith
+
+    or-below : (k a b : ℕ) → a < 2 ^ k → b < 2 ^ k → bit_or a b < 2 ^ k
+    or-below k a b p q =
+        let none : bit_or a b / 2 ^ k ≡ 0 =
+        or_shr a b k
+        ∙ ap (λ z. bit_or z (b / 2 ^ k)) (gone a k p)
+        ∙ ap (bit_or 0) (gone b k q) in
+        elim (leb_tells (2 ^ k) (bit_or a b)) [
+          | inl h ↦ let some : 1 ≤ bit_or a b / 2 ^ k = le-div 1 (bit_or a b) (2 ^ k) (pow_pos k) (omega (arith, h.1)) in absurd (omega (arith, none))
+          | inr h ↦ h.1
+        ]
+
+    le-half : (i a : ℕ) → 2 ^ suc i ≤ a → 2 ^ i ≤ a / 2 ^ 1
+    le-half i a h = omega (arith, h)
+
+    ending : (n z : ℕ) → n ≤ z → ◌≡◌ {A = ℕ} (cond (nat_lt z n) 1 0) 0
+    ending n z h = ap (λ b. cond b 1 0) (le-ltb z n h)
+
+    more : (n z : ℕ) → z < n → ◌≡◌ {A = ℕ} (cond (nat_lt z n) 1 0) 1
+    more n z h = ap (λ b. cond b 1 0) (lt-ltb z n h)

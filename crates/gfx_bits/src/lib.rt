@@ -10,5 +10,5 @@ mod writer;
 
 pub use filling::what_bits_fill;
 pub use reader::BitReader;
-pub use word::{number_in, zeros_in, zeros_size};
+pub use word::{number_in, word_behind, zeros_behind};
 pub use writer::{BitWriter, NoBits};

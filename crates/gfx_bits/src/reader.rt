@@ -47,6 +47,18 @@ impl<'a> BitReader<'a> {
         }
     }
 
+    /// Another reader of the same bits.
+    #[inline(always)]
+    pub fn copy(&self) -> Self
+        ensures { result ≡ self.now }
+    {
+        BitReader {
+            ahead: self.ahead,
+            count: self.count,
+            rest: self.rest,
+        }
+    }
+
     /// Reads the next `n` bits as a number.
     #[inline(always)]
     pub fn read(&mut self, n: u8) -> u32
@@ -132,7 +144,7 @@ impl<'a> BitReader<'a> {
             return self.ahead;
         }
         if self.rest.len() < WORD {
-            let (ahead, count, rest) = filled_by_bytes(self.ahead, self.count, self.rest);
+            let (ahead, count, rest) = last_bits(self.ahead, self.count, self.rest);
             self.ahead = ahead;
             self.count = count;
             self.rest = rest;
@@ -159,7 +171,7 @@ impl<'a> BitReader<'a> {
             self.count -= n;
             return;
         }
-        *self = behind(self.ahead, self.count, self.rest, n);
+        *self = last_behind(self.ahead, self.count, self.rest, n);
     }
 
     // What `read_ones_then` says, behind a fetch.
@@ -213,6 +225,31 @@ fn first_word(bytes: &[u8]) -> u64
         unreachable!();
     };
     u64::from_be_bytes([*a, *b, *c, *d, *e, *f, *g, *h])
+}
+
+// What `filled_by_bytes` gives, in parts. Inlined: so the memory that the call writes is blanked in this arm alone.
+#[inline(always)]
+fn last_bits<'a>(ahead: u64, count: u32, rest: &'a [u8]) -> (u64, u32, &'a [u8])
+    requires room { count ≤ 56 }
+    requires ahead { IsAhead ahead count }
+    ensures same { bits_ahead result.0 result.1 result.2.now ≡ bits_ahead ahead count rest.now }
+    ensures ahead { IsAhead result.0 result.1 }
+    ensures enough { result.1 < 57 → result.2.now ≡ [] }
+{
+    let (ahead, count, rest) = filled_by_bytes(ahead, count, rest);
+    (ahead, count, rest)
+}
+
+// What `behind` gives, in parts, for the same reason.
+#[inline(always)]
+fn last_behind<'a>(ahead: u64, count: u32, rest: &'a [u8], n: u32) -> BitReader<'a>
+    requires few { n ≤ 57 }
+    requires over { count < n }
+    requires ahead { IsAhead ahead count }
+    ensures { result ≡ drop n (bits_ahead ahead count rest.now) }
+{
+    let BitReader { ahead, count, rest } = behind(ahead, count, rest, n);
+    BitReader { ahead, count, rest }
 }
 
 // Fetches bytes behind fewer than 57 bits: then there are as many, or all that are left.

@@ -1,4 +1,4 @@
-ghost use Rattle.std.specs.Prelude.{◌≡◌, ◌+◌, ◌≤◌, ℕ, List, Bool, drop, length, nat_lt, if◌then◌else◌};
+ghost use Rattle.std.specs.Prelude.{◌≡◌, ◌+◌, ◌-◌, ◌≤◌, ℕ, List, Bool, drop, length};
 ghost use Rattle.gfx_bits.specs.Ahead.{Shows};
 ghost use Rattle.gfx_bits.specs.Bits.{number, Spelled, zeros_code};
 
@@ -12,31 +12,30 @@ pub fn number_in(word: u64, at: u32, n: u32) -> u32
     (((word << at) >> 1) >> (63 - n)) as u32
 }
 
-/// How many zeros stand in a word before the next one, behind its first `at` bits, at most that many.
+/// What a word shows behind its first `n` bits, as a word.
 #[inline(always)]
-pub fn zeros_in(word: u64, at: u32, most: u32) -> u32
-    requires inside { at + most ≤ 63 }
-    ensures most { result ≤ most }
-    ensures spelled { (shown : ℕ) (bits : List Bool) → at + most ≤ shown → shown ≤ 64 → Shows shown word bits → Spelled (drop at bits) (zeros_code most result) (drop (length (zeros_code most result)) (drop at bits)) }
+pub fn word_behind(word: u64, n: u32) -> u64
+    requires { n ≤ 63 }
+    ensures { (shown : ℕ) (bits : List Bool) → n ≤ shown → shown ≤ 64 → Shows shown word bits → Shows (shown - n) result (drop n bits) }
 {
-    // A one behind the most of them ends the count with no test.
-    ((word << at) | (1 << (63 - most))).leading_zeros()
+    word << n
 }
 
-/// How many bits spell a count of zeros of at most that many, with the one behind them where there is one.
+/// How many zeros stand in a word before the next one, behind its first bit, at most that many; and how many bits spell
+/// them, with that one where they are fewer.
 #[inline(always)]
-pub fn zeros_size(most: u32, count: u32) -> u32
-    requires { count ≤ most }
-    ensures size { result ≡ length (zeros_code most count) }
-    ensures within { result ≤ most }
+pub fn zeros_behind(word: u64, most: u32) -> (u32, u32)
+    requires few { most ≤ 62 }
+    ensures most { result.0 ≤ most }
+    ensures spelled { (shown : ℕ) (bits : List Bool) → 1 + most ≤ shown → shown ≤ 64 → Shows shown word bits → Spelled (drop 1 bits) (zeros_code most result.0) (drop result.1 (drop 1 bits)) }
+    ensures size { result.1 ≡ length (zeros_code most result.0) }
+    ensures within { result.1 ≤ most }
 {
-    count + ending(most, count)
-}
-
-// The one behind a count of zeros, or none behind the largest.
-#[inline(always)]
-fn ending(most: u32, count: u32) -> u32
-    ensures { result ≡ (if nat_lt count most then 1 else 0) }
-{
-    u32::from(count < most)
+    // A one behind the most of them ends a count with no test. What spells them is counted by itself: a reader waits for it.
+    let zeros = word << 1;
+    let end = 1 << (63 - most);
+    (
+        (zeros | end).leading_zeros(),
+        ((zeros >> 1) | end).leading_zeros(),
+    )
 }

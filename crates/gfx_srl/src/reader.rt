@@ -6,7 +6,7 @@ ghost use Rattle.gfx_srl.specs.Code.{k};
 ghost use Rattle.gfx_srl.specs.Steps.{ComesToValue, HasRead, ReadsMany, ReadsNext, ReadsZero};
 
 use crate::params::{PARAMETER_MAX, PARAMETER_START, after_run, after_value, width_of};
-use gfx_bits::{BitReader, number_in, zeros_in, zeros_size};
+use gfx_bits::{BitReader, number_in, word_behind, zeros_behind};
 use std::marker::Model;
 
 /// A token of a value of up to so many bits is looked at as a whole.
@@ -43,6 +43,19 @@ impl<'a> SrlReader<'a> {
             kp: PARAMETER_START,
             zeros: 0,
             ends: false,
+        }
+    }
+
+    /// Another reader of the same values.
+    #[inline(always)]
+    pub fn copy(&self) -> Self
+        ensures { result ≡ self.now }
+    {
+        SrlReader {
+            bits: self.bits.copy(),
+            kp: self.kp,
+            zeros: self.zeros,
+            ends: self.ends,
         }
     }
 
@@ -147,10 +160,10 @@ impl<'a> SrlReader<'a> {
         ensures small { unsigned_abs result < 2 ^ n }
     {
         let width = width_of(self.kp) as u32;
-        let most = most_zeros(n);
-        let negative = number_in(word, 1 + width, 1) == 1;
-        let below = zeros_in(word, 2 + width, most);
-        self.bits.pass(2 + width + zeros_size(most, below));
+        let value = word_behind(word, 1 + width);
+        let negative = number_in(value, 0, 1) == 1;
+        let (below, size) = zeros_behind(value, most_zeros(n));
+        self.bits.pass(2 + width + size);
         self.kp = after_value(self.kp);
         signed(negative, below)
     }

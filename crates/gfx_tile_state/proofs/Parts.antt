@@ -1,5 +1,5 @@
 -- What the passes of a component leave.
-use Rattle.std.proofs.Common.{Ok, Err, ◌≡◌, inl, inr, ℕ, ◌<◌, Bool, true, false, ℤ, pos, negsuc, ◌+ℤ◌, List, [], length, min, replicate, refl, sym, ap, subst, ◌∙◌, arith}
+use Rattle.std.proofs.Common.{Ok, Err, ◌≡◌, inl, inr, ℕ, ◌<◌, Bool, true, false, ℤ, pos, ◌+ℤ◌, List, [], length, replicate, refl, sym, ap, subst, ◌∙◌, arith}
 use Rattle.std.proofs.Math.IntN.{+ℤ_idl}
 use Rattle.std.proofs.lemmas.Int.{ints}
 use Rattle.std.proofs.lemmas.List.{length-replicate, get_or-replicate}
@@ -8,12 +8,13 @@ use Rattle.gfx_srl.specs.Steps.{HasRead}
 use Rattle.gfx_srl.proofs.Reading.{says}
 use Rattle.gfx_dwt.specs.declared.layout.Transform.{Transform}
 use Rattle.gfx_dwt.specs.Ranges.{IsCoefficient, at}
-use Rattle.gfx_quant.specs.Coefficient.{cut, is_coefficient}
+use Rattle.gfx_quant.specs.Coefficient.{is_coefficient}
 use Rattle.gfx_quant.specs.Planes.{Dequantises}
 use Rattle.gfx_tile_state.specs.declared.entries.Readers.{Readers}
-use Rattle.gfx_tile_state.specs.Entries.{Pass, AreEntries, Upgraded, pairs_from, raw_from, sum_after}
+use Rattle.gfx_tile_state.specs.Entries.{Pass, AreEntries, Upgraded, pairs_from, raw_from, sum_after, wrapped}
 use Rattle.gfx_tile_state.specs.Passes.{FitsOnto, LeavesKept, LeavesIt, StaysIn, IsSound, Part, ReadsFirst, TakesFirst, Upgrades, UpgradesSums, blank, added, summed}
 use Rattle.gfx_tile_state.specs.Shape.{AreAtMost, AreWithin}
+use Rattle.gfx_tile_state.proofs.Passing.{wrapped-small}
 use Rattle.gfx_tile_state.proofs.Places.{at-added, length-added, is-coefficient, same-plane, tests}
 
 pub fits-blank : (kept plane : List ℤ) → kept ≡ blank → ((k : ℕ) → k < 4096 → IsCoefficient (at plane k)) → FitsOnto kept plane
@@ -117,17 +118,12 @@ entries-are pass plane fits readers u = record {
   fit = u.fit;
 }
 
--- a number in range isn't cut
-uncut : (z : ℤ) → is_coefficient z ≡ true → cut z ≡ z
-uncut (pos n) e =
-    let h : IsCoefficient (pos n) = is-coefficient (pos n) e in
-    ap (λ k. pos k) {x = min n 32767} {y = n} (omega (arith, ints, h.most))
-uncut (negsuc n) e =
-    let h : IsCoefficient (negsuc n) = is-coefficient (negsuc n) e in
-    ap negsuc {x = min n 32767} {y = n} (omega (arith, ints, h.least))
+-- a number in range is left as it is
+unwrapped : (z : ℤ) → is_coefficient z ≡ true → wrapped z ≡ z
+unwrapped z e = (wrapped-small z (is-coefficient z e)).0
 
 pub sums-are : (pass : Pass) (plane : List ℤ) (readers : Readers) → (u : Upgraded pass 4096 plane true readers) → (k : ℕ) → k < 4096 → at plane k ≡ sum_after pass u.entries k
-sums-are pass plane readers u k h = u.sums k h ∙ uncut (sum_after pass u.entries k) (u.range k h)
+sums-are pass plane readers u k h = u.sums k h ∙ unwrapped (sum_after pass u.entries k) (u.range k h)
 
 pub leaves-sum : (pass : Pass) (plane kept : List ℤ) (fits : Bool) (readers : Readers) → fits ≡ false → Upgraded pass 4096 plane fits readers
     → (entries : List ℤ) × AreEntries pass entries × LeavesIt kept (sum_after pass entries)

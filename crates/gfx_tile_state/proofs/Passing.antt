@@ -1,14 +1,16 @@
 -- How an upgrade goes from place to place.
-use Rattle.std.proofs.Common.{◌≡◌, ◌≢◌, ℕ, zero, suc, ◌+◌, ◌<◌, ◌≤◌, Bool, true, false, ◌&&◌, ℤ, pos, negsuc, ◌+ℤ◌, List, [], ◌∷◌, ◌++◌, length, set, min, refl, sym, ap, subst, ◌∙◌, arith, below_more, append_assoc, length-append, length-set, get_or-set_same, get_or-set_other}
+use Rattle.std.proofs.Common.{◌≡◌, ◌≢◌, ℕ, zero, suc, ◌+◌, ◌<◌, ◌≤◌, Bool, true, false, ◌&&◌, ℤ, pos, negsuc, ◌+ℤ◌, List, [], ◌∷◌, ◌++◌, length, set, refl, sym, ap, subst, ◌∙◌, arith, below_more, append_assoc, length-append, length-set, get_or-set_same, get_or-set_other}
 use Rattle.std.specs.Prelude.{MatchBool}
 use Rattle.std.proofs.Math.IntN.{+ℤ_idr}
 use Rattle.std.proofs.lemmas.Bool.{lt-ltb}
-use Rattle.std.proofs.lemmas.Int.{ints}
+use Rattle.std.proofs.lemmas.Int.{ints, int_wrap_fits, SFits-int_wrap}
+use Rattle.std.specs.Int.{int_wrap, w16}
+use Rattle.std.specs.Prelude.{FitsSigned}
 use Rattle.std.proofs.lemmas.List.{append-nil}
 use Rattle.gfx_dwt.specs.Ranges.{IsCoefficient, at}
-use Rattle.gfx_quant.specs.Coefficient.{coefficient_of, cut, is_coefficient}
+use Rattle.gfx_quant.specs.Coefficient.{coefficient_of, is_coefficient}
 use Rattle.gfx_tile_state.specs.declared.entries.Readers.{Readers}
-use Rattle.gfx_tile_state.specs.Entries.{Pass, Nothing, way, way_at, Fits, coded, raw, pairs_from, raw_from, sum_after, ReadsEntry, Upgraded, AreAlike}
+use Rattle.gfx_tile_state.specs.Entries.{Pass, Nothing, way, way_at, Fits, coded, raw, pairs_from, raw_from, sum_after, ReadsEntry, Upgraded, AreAlike, wrapped}
 use Rattle.gfx_tile_state.proofs.Places.{more-fits}
 
 pub pairs-last : (pass : Pass) (k : ℕ) (es : List ℤ) (e : ℤ) → pairs_from pass k (es ++ e ∷ []) ≡ pairs_from pass k es ++ coded (way_at pass (k + length es)) (pass.falls (k + length es)) e
@@ -48,7 +50,7 @@ same-range P Q n false same h = (h.0, h.1, same h.0 h.1 ∙ h.2)
 -- one place more
 pub advances : (pass : Pass) (place : ℕ) (now now' : List ℤ) (fits here : Bool) (readers readers' : Readers) (entry : ℤ)
     → Upgraded pass place now fits readers → ReadsEntry (way_at pass place) (pass.falls place) entry readers readers'
-    → at now' place ≡ cut (at pass.sums place +ℤ coefficient_of entry (pass.positions place))
+    → at now' place ≡ wrapped (at pass.sums place +ℤ coefficient_of entry (pass.positions place))
     → ((k : ℕ) → k ≢ place → at now' k ≡ at now k) → length now' ≡ length now
     → here ≡ is_coefficient (at pass.sums place +ℤ coefficient_of entry (pass.positions place))
     → Upgraded pass (place + 1) now' (fits && here) readers'
@@ -67,9 +69,9 @@ advances pass place now now' fits here readers readers' entry u read sum others 
       fit = below_more (λ k. Fits (way_at pass k) (pass.falls k) (at (es ++ entry ∷ []) k)) place
           (λ k h. subst (Fits (way_at pass k) (pass.falls k)) (sym (older k h)) (u.fit k h))
           (subst (Fits (way_at pass place) (pass.falls place)) (sym last) read.fits);
-      sums = below_more (λ k. at now' k ≡ cut (sum_after pass (es ++ entry ∷ []) k)) place
-          (λ k h. others k (λ e. omega arith) ∙ u.sums k h ∙ ap (λ z. cut (at pass.sums k +ℤ coefficient_of z (pass.positions k))) (sym (older k h)))
-          (sum ∙ ap (λ z. cut (at pass.sums place +ℤ coefficient_of z (pass.positions place))) (sym last));
+      sums = below_more (λ k. at now' k ≡ wrapped (sum_after pass (es ++ entry ∷ []) k)) place
+          (λ k h. others k (λ e. omega arith) ∙ u.sums k h ∙ ap (λ z. wrapped (at pass.sums k +ℤ coefficient_of z (pass.positions k))) (sym (older k h)))
+          (sum ∙ ap (λ z. wrapped (at pass.sums place +ℤ coefficient_of z (pass.positions place))) (sym last));
       due = λ k h. others k (λ e. omega arith) ∙ u.due k (omega arith);
       range =
           more-fits (λ k. is_coefficient (sum_after pass (es ++ entry ∷ []) k)) place fits here
@@ -82,7 +84,7 @@ advances pass place now now' fits here readers readers' entry u read sum others 
 pub place-read : (pass : Pass) (from to place n position : ℕ) (low fits here : Bool) (now : List ℤ) (readers readers' : Readers) (entry sum : ℤ)
     → from ≤ place → place < to → place < length now → AreAlike pass from to n position low → Upgraded pass place now fits readers
     → ReadsEntry (way n low (at now place)) n entry readers readers'
-    → sum ≡ cut (at now place +ℤ coefficient_of entry position) → here ≡ is_coefficient (at now place +ℤ coefficient_of entry position)
+    → sum ≡ wrapped (at now place +ℤ coefficient_of entry position) → here ≡ is_coefficient (at now place +ℤ coefficient_of entry position)
     → Upgraded pass (place + 1) (set now place sum) (fits && here) readers'
 place-read pass from to place n position low fits here now readers readers' entry sum a b inside alike u read e is =
     let was : at now place ≡ at pass.sums place = u.due place (omega arith) in
@@ -90,7 +92,7 @@ place-read pass from to place n position low fits here now readers readers' entr
     (subst (λ w. ReadsEntry w (pass.falls place) entry readers readers')
     (ap (λ z. way n low z) was ∙ ap (λ m. way m low (at pass.sums place)) (sym (alike.falls place a b)) ∙ ap (λ l. way (pass.falls place) l (at pass.sums place)) (sym (alike.lows place a b)))
     (subst (λ m. ReadsEntry (way n low (at now place)) m entry readers readers') (sym (alike.falls place a b)) read))
-    (get_or-set_same now place sum (pos 0) inside ∙ e ∙ ap (λ z. cut (z +ℤ coefficient_of entry position)) was ∙ ap (λ s. cut (at pass.sums place +ℤ coefficient_of entry s)) (sym (alike.positions place a b)))
+    (get_or-set_same now place sum (pos 0) inside ∙ e ∙ ap (λ z. wrapped (z +ℤ coefficient_of entry position)) was ∙ ap (λ s. wrapped (at pass.sums place +ℤ coefficient_of entry s)) (sym (alike.positions place a b)))
     (λ k apart. get_or-set_other now place k sum (pos 0) apart)
     (length-set _ _ _)
     (is ∙ ap (λ z. is_coefficient (z +ℤ coefficient_of entry position)) was ∙ ap (λ s. is_coefficient (at pass.sums place +ℤ coefficient_of entry s)) (sym (alike.positions place a b)))
@@ -112,13 +114,20 @@ fits-pos n h = lt-ltb n 32768 h
 fits-neg : (n : ℕ) → n < 32768 → is_coefficient (negsuc n) ≡ true
 fits-neg n h = ap (λ b. b && true) (lt-ltb n 32768 h)
 
-pub cut-small : (z : ℤ) → IsCoefficient z → (cut z ≡ z) × (is_coefficient z ≡ true)
-cut-small (pos n) h = (ap (λ k. pos k) {x = min n 32767} {y = n} (omega (arith, ints, h.most)), fits-pos n (omega (arith, ints, h.most)))
-cut-small (negsuc n) h = (ap negsuc {x = min n 32767} {y = n} (omega (arith, ints, h.least)), fits-neg n (omega (arith, ints, h.least)))
+pub fits-sixteen : (z : ℤ) → IsCoefficient z → FitsSigned w16 z
+fits-sixteen (pos n) h = record { sfits = omega (arith, ints, h.most) }
+fits-sixteen (negsuc n) h = record { sfits = omega (arith, ints, h.least) }
 
-pub cut-within : (z : ℤ) → IsCoefficient (cut z)
-cut-within (pos n) = record { least = omega (arith, ints); most = omega (arith, ints) }
-cut-within (negsuc n) = record { least = omega (arith, ints); most = omega (arith, ints) }
+pub wrapped-small : (z : ℤ) → IsCoefficient z → (wrapped z ≡ z) × (is_coefficient z ≡ true)
+wrapped-small (pos n) h = (int_wrap_fits w16 (pos n) (fits-sixteen (pos n) h), fits-pos n (omega (arith, ints, h.most)))
+wrapped-small (negsuc n) h = (int_wrap_fits w16 (negsuc n) (fits-sixteen (negsuc n) h), fits-neg n (omega (arith, ints, h.least)))
+
+sixteen-within : (z : ℤ) → FitsSigned w16 z → IsCoefficient z
+sixteen-within (pos n) h = record { least = omega (arith, ints); most = omega (arith, ints, h.sfits) }
+sixteen-within (negsuc n) h = record { least = omega (arith, ints, h.sfits); most = omega (arith, ints) }
+
+pub wrapped-within : (z : ℤ) → IsCoefficient (wrapped z)
+wrapped-within z = sixteen-within (int_wrap w16 z) (SFits-int_wrap w16 z)
 
 pub and-true : (b : Bool) → (b && true) ≡ b
 and-true true = refl
@@ -130,12 +139,12 @@ passed-over zero pass place now fits readers small end none u = subst (λ n. Upg
 passed-over (suc d) pass place now fits readers small end none u =
     let was : at now place ≡ at pass.sums place = u.due place (omega arith) in
     let here : IsCoefficient (at pass.sums place) = subst IsCoefficient was (small place (omega arith)) in
-    let cuts = cut-small (at pass.sums place) here in
+    let cuts = wrapped-small (at pass.sums place) here in
     let same : at pass.sums place +ℤ coefficient_of (pos 0) (pass.positions place) ≡ at pass.sums place = stays (at pass.sums place) (pass.positions place) in
     let next : Upgraded pass (place + 1) now (fits && true) readers =
     advances pass place now now fits true readers readers (pos 0) u
     (subst (λ w. ReadsEntry w (pass.falls place) (pos 0) readers readers) (ap (λ m. way m (pass.low place) (at pass.sums place)) (sym (none place (omega arith) (omega arith)))) (nothing-read (pass.falls place) readers))
-    (was ∙ sym cuts.0 ∙ ap cut (sym same)) (λ k apart. refl) refl (sym cuts.1 ∙ ap is_coefficient (sym same)) in
+    (was ∙ sym cuts.0 ∙ ap wrapped (sym same)) (λ k apart. refl) refl (sym cuts.1 ∙ ap is_coefficient (sym same)) in
     subst (λ n. Upgraded pass n now fits readers) {x = place + 1 + d} {y = place + suc d} (omega arith)
     (passed-over d pass (place + 1) now fits readers small (omega arith) (λ k a b. none k (omega arith) (omega arith))
     (subst (λ b. Upgraded pass (place + 1) now b readers) (and-true fits) next))

@@ -8,12 +8,12 @@ use Rattle.std.proofs.Math.Seq.{take-length}
 use Rattle.gfx_bits.specs.Bits.{Spelled}
 use Rattle.gfx_srl.specs.Steps.{HasRead, ReadsMany, at_width}
 use Rattle.gfx_dwt.specs.Ranges.{IsCoefficient, at}
-use Rattle.gfx_quant.specs.Coefficient.{coefficient_of, cut, is_coefficient}
+use Rattle.gfx_quant.specs.Coefficient.{coefficient_of, is_coefficient}
 use Rattle.gfx_tile_state.specs.declared.entries.Readers.{Readers}
-use Rattle.gfx_tile_state.specs.Entries.{AreAlike, Coded, Counted, Down, Fits, Nothing, Pass, ReadsEntry, Stands, Up, Upgraded, Way, coded, pairs_from, raw, raw_from, sum_after, way, way_at}
+use Rattle.gfx_tile_state.specs.Entries.{AreAlike, Coded, Counted, Down, Fits, Nothing, Pass, ReadsEntry, Stands, Up, Upgraded, Way, coded, pairs_from, raw, raw_from, sum_after, way, way_at, wrapped}
 use Rattle.gfx_tile_state.specs.Sifting.{Sifted, is_nought, is_other, pairs_at, places, raw_at}
 use Rattle.gfx_tile_state.proofs.PlaceLists.{IsPlace, each-place, rises, same-places, is-nought, isnt-nought, nought-or-other, pairs-sifted, raw-sifted, pairs_at-apart, raw_at-apart, pairs_at-last, raw_at-last}
-use Rattle.gfx_tile_state.proofs.Passing.{cut-small, same-range, stays}
+use Rattle.gfx_tile_state.proofs.Passing.{wrapped-small, same-range, stays}
 
 -- ---- entries that aren't read yet are zero
 
@@ -25,11 +25,11 @@ zero-fits Down n = (refl, pow_pos n)
 zero-fits Coded n = tt
 
 -- what an entry of zero leaves
-zero-adds : (z : ℤ) (position : ℕ) → IsCoefficient z → (cut (z +ℤ coefficient_of (pos 0) position) ≡ z) × (is_coefficient (z +ℤ coefficient_of (pos 0) position) ≡ true)
+zero-adds : (z : ℤ) (position : ℕ) → IsCoefficient z → (wrapped (z +ℤ coefficient_of (pos 0) position) ≡ z) × (is_coefficient (z +ℤ coefficient_of (pos 0) position) ≡ true)
 zero-adds z position small =
     let same = stays z position in
-    let cuts = cut-small z small in
-    (ap cut same ∙ cuts.0, ap is_coefficient same ∙ cuts.1)
+    let cuts = wrapped-small z small in
+    (ap wrapped same ∙ cuts.0, ap is_coefficient same ∙ cuts.1)
 
 -- the way of a place of a band with signs
 pub way-alike : (pass : Pass) (from to n position k : ℕ) → AreAlike pass from to n position false → from ≤ k → k < to → way_at pass k ≡ way n false (at pass.sums k)
@@ -66,8 +66,8 @@ sifting-begins pass from to noughts others now fits readers order end coefficien
   sums = λ k h. elim (leb_tells from k) [
     | inl e ↦
         u.due k e.1 ∙ sym (zero-adds (at pass.sums k) (pass.positions k) (small k e.1 h)).0
-        ∙ ap (λ z. cut (at pass.sums k +ℤ coefficient_of z (pass.positions k))) (sym (new-at k e.1))
-    | inr e ↦ u.sums k e.1 ∙ ap (λ z. cut (at pass.sums k +ℤ coefficient_of z (pass.positions k))) (sym (old-at k e.1))
+        ∙ ap (λ z. wrapped (at pass.sums k +ℤ coefficient_of z (pass.positions k))) (sym (new-at k e.1))
+    | inr e ↦ u.sums k e.1 ∙ ap (λ z. wrapped (at pass.sums k +ℤ coefficient_of z (pass.positions k))) (sym (old-at k e.1))
   ];
   due = λ k h. u.due k (omega arith);
   range =
@@ -114,7 +114,7 @@ record Holds (pass : Pass) (from to : ℕ) (entries now : List ℤ) (fits : Bool
   long : length now ≡ length pass.sums
   small : (k : ℕ) → from ≤ k → k < to → IsCoefficient (at pass.sums k)
   fit : (k : ℕ) → k < to → Fits (way_at pass k) (pass.falls k) (at entries k)
-  sums : (k : ℕ) → k < to → at now k ≡ cut (sum_after pass entries k)
+  sums : (k : ℕ) → k < to → at now k ≡ wrapped (sum_after pass entries k)
   due : (k : ℕ) → to ≤ k → at now k ≡ at pass.sums k
   range : MatchBool fits ((k : ℕ) → k < to → is_coefficient (sum_after pass entries k) ≡ true)
       ((k : ℕ) × (k < to) × (is_coefficient (sum_after pass entries k) ≡ false))
@@ -136,11 +136,11 @@ put-range P Q to p false here inside same fine is before = (before.0, before.1, 
 -- the sum of a place whose entry isn't read yet
 still : (pass : Pass) (from to p : ℕ) (entries now : List ℤ) (fits : Bool) → Holds pass from to entries now fits → from ≤ p → p < to → at entries p ≡ pos 0 → at now p ≡ at pass.sums p
 still pass from to p entries now fits h a b none =
-    h.sums p b ∙ ap (λ z. cut (at pass.sums p +ℤ coefficient_of z (pass.positions p))) none ∙ (zero-adds (at pass.sums p) (pass.positions p) (h.small p a b)).0
+    h.sums p b ∙ ap (λ z. wrapped (at pass.sums p +ℤ coefficient_of z (pass.positions p))) none ∙ (zero-adds (at pass.sums p) (pass.positions p) (h.small p a b)).0
 
 puts : (pass : Pass) (from to p position : ℕ) (entries now now' : List ℤ) (entry : ℤ) (fits here : Bool) → Holds pass from to entries now fits → from ≤ p → p < to → p < length now
     → at entries p ≡ pos 0 → pass.positions p ≡ position → Fits (way_at pass p) (pass.falls p) entry
-    → now' ≡ set now p (cut (at now p +ℤ coefficient_of entry position)) → here ≡ is_coefficient (at now p +ℤ coefficient_of entry position)
+    → now' ≡ set now p (wrapped (at now p +ℤ coefficient_of entry position)) → here ≡ is_coefficient (at now p +ℤ coefficient_of entry position)
     → Holds pass from to (set entries p entry) now' (fits && here)
 puts pass from to p position entries now now' entry fits here h a b inside none at_position fit put is =
     let was : at now p ≡ at pass.sums p = still pass from to p entries now fits h a b none in
@@ -148,10 +148,10 @@ puts pass from to p position entries now now' entry fits here h a b inside none 
     let sum : at now p +ℤ coefficient_of entry position ≡ sum_after pass (set entries p entry) p =
     ap (λ z. z +ℤ coefficient_of entry position) was ∙ ap (λ s. at pass.sums p +ℤ coefficient_of entry s) (sym at_position) ∙ ap (λ z. at pass.sums p +ℤ coefficient_of z (pass.positions p)) (sym here-at) in
     let apart : (k : ℕ) → k ≢ p → at (set entries p entry) k ≡ at entries k = λ k ne. get_or-set_other entries p k entry (pos 0) ne in
-    let now-apart : (k : ℕ) → k ≢ p → at now' k ≡ at now k = λ k ne. ap (λ l. at l k) put ∙ get_or-set_other now p k (cut (at now p +ℤ coefficient_of entry position)) (pos 0) ne in
+    let now-apart : (k : ℕ) → k ≢ p → at now' k ≡ at now k = λ k ne. ap (λ l. at l k) put ∙ get_or-set_other now p k (wrapped (at now p +ℤ coefficient_of entry position)) (pos 0) ne in
     record {
       all = length-set entries p entry ∙ h.all;
-      long = ap length put ∙ length-set now p (cut (at now p +ℤ coefficient_of entry position)) ∙ h.long;
+      long = ap length put ∙ length-set now p (wrapped (at now p +ℤ coefficient_of entry position)) ∙ h.long;
       small = h.small;
       fit = λ k less. elim (eqb_tells k p) [
         | inl e ↦ subst (λ j. Fits (way_at pass j) (pass.falls j) (at (set entries p entry) j)) (sym e.1) (subst (Fits (way_at pass p) (pass.falls p)) (sym here-at) fit)
@@ -159,9 +159,9 @@ puts pass from to p position entries now now' entry fits here h a b inside none 
       ];
       sums = λ k less. elim (eqb_tells k p) [
         | inl e ↦
-            subst (λ j. at now' j ≡ cut (sum_after pass (set entries p entry) j)) (sym e.1)
-            (ap (λ l. at l p) put ∙ get_or-set_same now p (cut (at now p +ℤ coefficient_of entry position)) (pos 0) inside ∙ ap cut sum)
-        | inr e ↦ now-apart k e.1 ∙ h.sums k less ∙ ap (λ z. cut (at pass.sums k +ℤ coefficient_of z (pass.positions k))) (sym (apart k e.1))
+            subst (λ j. at now' j ≡ wrapped (sum_after pass (set entries p entry) j)) (sym e.1)
+            (ap (λ l. at l p) put ∙ get_or-set_same now p (wrapped (at now p +ℤ coefficient_of entry position)) (pos 0) inside ∙ ap wrapped sum)
+        | inr e ↦ now-apart k e.1 ∙ h.sums k less ∙ ap (λ z. wrapped (at pass.sums k +ℤ coefficient_of z (pass.positions k))) (sym (apart k e.1))
       ];
       due = λ k less. now-apart k (λ e. omega arith) ∙ h.due k less;
       range =
@@ -220,7 +220,7 @@ uncoded (suc n) (negsuc m) entry apart = refl
 pub other-read : (pass : Pass) (from to n position : ℕ) (noughts others : List ℕ) (z o p : ℕ) (now now' : List ℤ) (fits here : Bool) (readers readers' : Readers) (entry : ℤ)
     → from ≤ to → to ≤ length now → AreAlike pass from to n position false → o < length others → p ≡ slice_index others o → Sifted pass from to noughts others z o now fits readers
     → ((at now p ≡ pos 0 → ⊥) → ReadsEntry (way n false (at now p)) n entry readers readers')
-    → now' ≡ set now p (cut (at now p +ℤ coefficient_of entry position)) → here ≡ is_coefficient (at now p +ℤ coefficient_of entry position)
+    → now' ≡ set now p (wrapped (at now p +ℤ coefficient_of entry position)) → here ≡ is_coefficient (at now p +ℤ coefficient_of entry position)
     → Sifted pass from to noughts others z (o + 1) now' (fits && here) readers'
 other-read pass from to n position noughts others z o p now now' fits here readers readers' entry order end alike inside is_at s read put is =
     let place : IsPlace is_other pass.sums from to p = subst (IsPlace is_other pass.sums from to) (sym is_at) (listed-place is_other pass.sums from to others order s.others_are o inside) in
@@ -339,7 +339,7 @@ pub nought-read : (pass : Pass) (from to n position : ℕ) (noughts others : Lis
     → from ≤ to → to ≤ length now → 1 ≤ n → AreAlike pass from to n position false → z + passed < length noughts → p ≡ slice_index noughts (z + passed)
     → Sifted pass from to noughts others z o now fits readers
     → ReadsMany n (replicate passed (pos 0) ++ entry ∷ []) readers.srl readers'.srl → readers'.bits ≡ readers.bits
-    → now' ≡ set now p (cut (at now p +ℤ coefficient_of entry position)) → here ≡ is_coefficient (at now p +ℤ coefficient_of entry position)
+    → now' ≡ set now p (wrapped (at now p +ℤ coefficient_of entry position)) → here ≡ is_coefficient (at now p +ℤ coefficient_of entry position)
     → Sifted pass from to noughts others (z + passed + 1) o now' (fits && here) readers'
 nought-read pass from to n position noughts others z o passed p now now' fits here readers readers' entry order end some alike inside is_at s read same put is =
     let place : IsPlace is_nought pass.sums from to p = subst (IsPlace is_nought pass.sums from to) (sym is_at) (listed-place is_nought pass.sums from to noughts order s.noughts_are (z + passed) inside) in

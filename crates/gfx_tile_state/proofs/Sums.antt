@@ -1,10 +1,12 @@
 -- How large what a pass adds is.
-use Rattle.std.proofs.Common.{◌≡◌, ℕ, ◌^◌, ◌≤◌, ◌<◌, ◌-◌, to_z, of_z, w32, w64, ℤ, pos, negsuc, arith, lit<}
+use Rattle.std.proofs.Common.{◌≡◌, ℕ, ◌^◌, ◌≤◌, ◌<◌, ◌-◌, refl, to_z, of_z, w16, w32, w64, ℤ, pos, negsuc, arith, lit<}
 use Rattle.std.proofs.lemmas.Int.{ints, unsigned_abs-mul, to_z-of_z}
 use Rattle.std.proofs.Math.Nat.{mul-le-mul, pow-le-pow_right}
+use Rattle.std.specs.Int.{int_rem_euclid, int_wrap}
 use Rattle.std.specs.Int.RustNames.{unsigned_abs}
 use Rattle.gfx_dwt.specs.Ranges.{Within}
 use Rattle.gfx_quant.specs.Coefficient.{coefficient_of}
+use Rattle.gfx_tile_state.specs.Entries.{wrapped}
 
 within_of_abs : (b : ℕ) (z : ℤ) → unsigned_abs z ≤ b → Within b z
 within_of_abs b (pos n) h = record { low = omega (arith, ints); high = omega (arith, ints) }
@@ -33,3 +35,8 @@ small-bits (negsuc n) h = to_z-of_z w32 (negsuc n) (record { sfits = omega (arit
 pub large-bits : (z : ℤ) → Within (2 ^ 53) z → to_z w64 (of_z w64 z) ≡ z
 large-bits (pos n) h = to_z-of_z w64 (pos n) (record { sfits = omega (arith, ints, h.high) })
 large-bits (negsuc n) h = to_z-of_z w64 (negsuc n) (record { sfits = omega (arith, ints, h.low) })
+
+-- what 16 bits hold of a number
+pub sixteen-bits : (z : ℤ) → to_z w16 (unsigned_abs (int_rem_euclid z (pos 65536))) ≡ wrapped z
+unfolding int_wrap
+sixteen-bits z = refl

@@ -1,6 +1,7 @@
 -- What an upgrade reads for each place of a component ([MS-RDPEGFX], the progressive codec's upgrade tiles).
 use Prim.Native.Nat.{zero, suc}
 use Rattle.std.specs.Prelude.{ℕ, ◌+◌, ◌-◌, ◌^◌, ◌<◌, ◌≤◌, ◌≡◌, ℤ, pos, negsuc, neg_ℤ, ◌+ℤ◌, Bool, true, false, List, [], ◌∷◌, ◌++◌, length, nat_lt, MatchBool, if◌then◌else◌}
+use Rattle.std.specs.Int.{int_wrap, w16}
 use Rattle.std.specs.Int.RustNames.{unsigned_abs}
 use Rattle.gfx_bits.specs.Bits.{Spelled, digits}
 use Rattle.gfx_srl.specs.Code.{Pair}
@@ -13,7 +14,7 @@ use Rattle.gfx_dwt.specs.declared.layout.Band.TheVariants.{Ll3}
 use Rattle.gfx_dwt.specs.Place.{bands, size, start}
 use Rattle.gfx_dwt.specs.Ranges.{at}
 use Rattle.gfx_quant.specs.Quant.{value_of}
-use Rattle.gfx_quant.specs.Coefficient.{coefficient_of, cut, is_coefficient}
+use Rattle.gfx_quant.specs.Coefficient.{coefficient_of, is_coefficient}
 
 -- the first of some bands that ends behind a place
 abbrev pub band_among : Transform → ℕ → List Band → Band
@@ -103,6 +104,10 @@ pub record AreEntries (pass : Pass) (entries : List ℤ) : Type 0 where
 abbrev pub sum_after : Pass → List ℤ → ℕ → ℤ
 sum_after pass entries k = at pass.sums k +ℤ coefficient_of (at entries k) (pass.positions k)
 
+-- what 16 bits hold of a number
+abbrev pub wrapped : ℤ → ℤ
+wrapped z = int_wrap w16 z
+
 -- the upgrade of a component from its positions to new ones
 abbrev pub pass_of : Transform → List ℕ → List ℕ → List ℤ → List Bool → List Bool → Pass
 pass_of t before behind sums srl bits = record {
@@ -132,7 +137,7 @@ pub record Upgraded (pass : Pass) (place : ℕ) (now : List ℤ) (fits : Bool) (
   pub long : length now ≡ length pass.sums
   pub stands : Stands pass.srl pass.bits (pairs_from pass 0 entries) (raw_from pass 0 entries) readers
   pub fit : (k : ℕ) → k < place → Fits (way_at pass k) (pass.falls k) (at entries k)
-  pub sums : (k : ℕ) → k < place → at now k ≡ cut (sum_after pass entries k)
+  pub sums : (k : ℕ) → k < place → at now k ≡ wrapped (sum_after pass entries k)
   pub due : (k : ℕ) → place ≤ k → at now k ≡ at pass.sums k
   pub range : MatchBool fits ((k : ℕ) → k < place → is_coefficient (sum_after pass entries k) ≡ true)
       ((k : ℕ) × (k < place) × (is_coefficient (sum_after pass entries k) ≡ false))

@@ -3,9 +3,9 @@ use Prim.Native.Nat.{zero, suc}
 use Rattle.std.specs.Prelude.{ℕ, ◌+◌, ◌-◌, ◌<◌, ◌≤◌, ◌≡◌, ℤ, pos, negsuc, Bool, true, false, List, [], ◌∷◌, ◌++◌, length, take, MatchBool, slice_index}
 use Rattle.gfx_srl.specs.Code.{Pair}
 use Rattle.gfx_dwt.specs.Ranges.{IsCoefficient, at}
-use Rattle.gfx_quant.specs.Coefficient.{cut, is_coefficient}
+use Rattle.gfx_quant.specs.Coefficient.{is_coefficient}
 use Rattle.gfx_tile_state.specs.declared.entries.Readers.{Readers}
-use Rattle.gfx_tile_state.specs.Entries.{Pass, Fits, Stands, coded, pairs_from, raw, raw_from, sum_after, way_at}
+use Rattle.gfx_tile_state.specs.Entries.{Pass, Fits, Stands, coded, pairs_from, raw, raw_from, sum_after, way_at, wrapped}
 
 -- whether a sum is zero, and whether it is not
 abbrev pub is_nought : ℤ → Bool
@@ -57,7 +57,7 @@ pub record Sifted (pass : Pass) (from to : ℕ) (noughts others : List ℕ) (cod
   pub noughts_due : (j : ℕ) → coded_count ≤ j → j < length noughts → at entries (slice_index noughts j) ≡ pos 0
   pub others_due : (j : ℕ) → raw_count ≤ j → j < length others → at entries (slice_index others j) ≡ pos 0
   pub fit : (k : ℕ) → k < to → Fits (way_at pass k) (pass.falls k) (at entries k)
-  pub sums : (k : ℕ) → k < to → at now k ≡ cut (sum_after pass entries k)
+  pub sums : (k : ℕ) → k < to → at now k ≡ wrapped (sum_after pass entries k)
   pub due : (k : ℕ) → to ≤ k → at now k ≡ at pass.sums k
   pub range : MatchBool fits ((k : ℕ) → k < to → is_coefficient (sum_after pass entries k) ≡ true)
       ((k : ℕ) × (k < to) × (is_coefficient (sum_after pass entries k) ≡ false))

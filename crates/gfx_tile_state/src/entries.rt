@@ -13,6 +13,19 @@ pub struct Readers<'a> {
     pub bits: BitReader<'a>,
 }
 
+impl<'a> Readers<'a> {
+    /// Other readers of the same data.
+    #[inline(always)]
+    pub fn copy(&self) -> Self
+        ensures { result ≡ self.now }
+    {
+        Readers {
+            srl: self.srl.copy(),
+            bits: self.bits.copy(),
+        }
+    }
+}
+
 /// Reads the entry of a place whose position falls by `n`, if it is a raw number: one of LL3, or of a sum that isn't
 /// zero.
 #[inline(always)]

@@ -1,7 +1,7 @@
 ghost use Rattle.std.specs.Prelude.{◌≡◌, ◌≤◌, ◌<◌, ◌+◌, ◌-◌, ◌^◌, pos, ◌+ℤ◌, ◌*ℤ◌, ℕ, ℤ, Bool, true, false, ◌&&◌, List, slice_index, slice_set, take, IsTrue, if◌then◌else◌};
 ghost use Rattle.gfx_dwt.specs.Ranges.{AllCoefficients, Within, at};
-ghost use Rattle.gfx_quant.specs.Coefficient.{coefficient_of, cut, is_coefficient};
-ghost use Rattle.gfx_tile_state.specs.Entries.{AreAlike, Pass, Upgraded, pass_of};
+ghost use Rattle.gfx_quant.specs.Coefficient.{coefficient_of, is_coefficient};
+ghost use Rattle.gfx_tile_state.specs.Entries.{AreAlike, Pass, Upgraded, pass_of, wrapped};
 ghost use Rattle.gfx_tile_state.specs.Shape.{AreAtMost, AreWithin, AreBelow};
 ghost use Rattle.gfx_tile_state.specs.Sifting.{Listed, Sifted, is_nought};
 
@@ -60,14 +60,14 @@ fn is_small(sum: i64) -> bool
 }
 
 #[inline(always)]
-fn cut_sum(sum: i64) -> i16
-    ensures { result ≡ cut sum }
+fn low_bits(sum: i64) -> i16
+    ensures { result ≡ wrapped sum }
 {
-    sum.clamp(-32768, 32767) as i16
+    (sum.rem_euclid(65_536) as u16).cast_signed()
 }
 
-/// Adds to a sum what an entry adds to it at a bit position, cut to the range of a coefficient, and says whether it
-/// stays in that range.
+/// Adds to a sum what an entry adds to it at a bit position, as 16 bits hold it, and says whether it stays in the range
+/// of a coefficient.
 #[inline(always)]
 fn add_entry(plane: &mut [i16; 4096], place: usize, entry: i32, position: u8) -> bool
     requires inside { place < 4096 }
@@ -76,10 +76,10 @@ fn add_entry(plane: &mut [i16; 4096], place: usize, entry: i32, position: u8) ->
     requires least { 1 ≤ position }
     requires most { position ≤ 30 }
     ensures fits { result ≡ is_coefficient (at plane.old place +ℤ coefficient_of entry position) }
-    ensures sum { plane.new ≡ slice_set plane.old place (cut (at plane.old place +ℤ coefficient_of entry position)) }
+    ensures sum { plane.new ≡ slice_set plane.old place (wrapped (at plane.old place +ℤ coefficient_of entry position)) }
 {
     let sum = sum_of(plane[place], entry, position);
-    plane[place] = cut_sum(sum);
+    plane[place] = low_bits(sum);
     is_small(sum)
 }
 
@@ -219,7 +219,7 @@ fn sift(
 
 /// Upgrades places whose sum isn't zero, and says whether all their sums stay in the range of a coefficient.
 #[inline(always)]
-fn upgrade_others(
+fn pass_others(
     plane: &mut [i16; 4096],
     others: &[u16; 1024],
     count: usize,
@@ -247,9 +247,37 @@ fn upgrade_others(
     fits
 }
 
+/// The same with readers of its own.
+// They stay in registers, and nothing else does: a reader behind a reference, or in a larger function, is kept in memory.
+#[inline(never)]
+fn upgrade_others(
+    plane: &mut [i16; 4096],
+    others: &[u16; 1024],
+    count: usize,
+    n: u8,
+    position: u8,
+    readers: &mut Readers<'_>,
+) -> bool
+    requires room { count ≤ 1024 }
+    requires inside { (j : ℕ) → j < count → slice_index others.now j < 4096 }
+    requires some { 1 ≤ n }
+    requires few { n ≤ 24 }
+    requires least { 1 ≤ position }
+    requires most { position ≤ 30 }
+    requires coefficients { AllCoefficients plane.old }
+    ensures sifted { (pass : Pass) (from to : ℕ) (noughts : List ℕ) (fits : Bool) → from ≤ to → to ≤ 4096 → AreAlike pass from to n position false → Sifted pass from to noughts (take count others.now) 0 0 plane.old fits readers.old
+        → Sifted pass from to noughts (take count others.now) 0 count plane.new (fits && result) readers.new }
+    ensures coefficients { AllCoefficients plane.new }
+{
+    let mut own = readers.copy();
+    let fits = pass_others(plane, others, count, n, position, &mut own);
+    *readers = own;
+    fits
+}
+
 /// Upgrades places whose sum is zero, and says whether all their sums stay in the range of a coefficient.
 #[inline(always)]
-fn upgrade_noughts(
+fn pass_noughts(
     plane: &mut [i16; 4096],
     noughts: &[u16; 1024],
     count: usize,
@@ -279,6 +307,34 @@ fn upgrade_noughts(
             at += 1;
         }
     }
+    fits
+}
+
+/// The same with readers of its own.
+// They stay in registers, and nothing else does: a reader behind a reference, or in a larger function, is kept in memory.
+#[inline(never)]
+fn upgrade_noughts(
+    plane: &mut [i16; 4096],
+    noughts: &[u16; 1024],
+    count: usize,
+    n: u8,
+    position: u8,
+    readers: &mut Readers<'_>,
+) -> bool
+    requires room { count ≤ 1024 }
+    requires inside { (j : ℕ) → j < count → slice_index noughts.now j < 4096 }
+    requires some { 1 ≤ n }
+    requires few { n ≤ 24 }
+    requires least { 1 ≤ position }
+    requires most { position ≤ 30 }
+    requires coefficients { AllCoefficients plane.old }
+    ensures sifted { (pass : Pass) (from to : ℕ) (others : List ℕ) (others_done : ℕ) (fits : Bool) → from ≤ to → to ≤ 4096 → AreAlike pass from to n position false → Sifted pass from to (take count noughts.now) others 0 others_done plane.old fits readers.old
+        → Sifted pass from to (take count noughts.now) others count others_done plane.new (fits && result) readers.new }
+    ensures coefficients { AllCoefficients plane.new }
+{
+    let mut own = readers.copy();
+    let fits = pass_noughts(plane, noughts, count, n, position, &mut own);
+    *readers = own;
     fits
 }
 

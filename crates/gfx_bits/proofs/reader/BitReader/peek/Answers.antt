@@ -10,8 +10,8 @@ returns-then-self-n-clause-shows c =
 
 pub returns-then-self-lt-WORD-clause-shows : goal.returns-then-self-lt-WORD-clause-shows
 returns-then-self-lt-WORD-clause-shows c =
-    ahead-shows c.filled_by_bytes-ahead.result.0 c.filled_by_bytes-ahead.result.1 c.args.n c.filled_by_bytes-ahead.result.2.now (omega arith) c.filled_by_bytes-ahead.ensures.ahead c.requires (λ h. c.filled_by_bytes-ahead.ensures.enough (omega arith))
-    ∙ ap (number c.args.n) (c.filled_by_bytes-ahead.ensures.same ∙ c.self.view_is)
+    ahead-shows c.last_bits-ahead.result.0 c.last_bits-ahead.result.1 c.args.n c.last_bits-ahead.result.2.now (omega arith) c.last_bits-ahead.ensures.ahead c.requires (λ h. c.last_bits-ahead.ensures.enough (omega arith))
+    ∙ ap (number c.args.n) (c.last_bits-ahead.ensures.same ∙ c.self.view_is)
 
 pub invariant_of-self-2 : goal.invariant_of-self-2
 invariant_of-self-2 c = (eight_bytes c.self.inside.ahead c.self.inside.count c.first_word-word.result c.self.inside.rest.now (omega arith) c.self.invariant (omega arith) c.first_word-word.ensures).1

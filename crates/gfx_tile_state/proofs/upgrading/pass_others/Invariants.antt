@@ -2,7 +2,7 @@ use Rattle.std.proofs.Common.{◌≡◌, ◌≤◌, ℕ, Bool, List, false, ◌&
 use Rattle.gfx_dwt.specs.Ranges.{AllCoefficients}
 use Rattle.gfx_tile_state.specs.Entries.{Pass, AreAlike}
 use Rattle.gfx_tile_state.specs.Sifting.{Sifted}
-use Rattle.gfx_tile_state.proofs.upgrading.upgrade_others.Given as goal
+use Rattle.gfx_tile_state.proofs.upgrading.pass_others.Given as goal
 
 abbrev pub invariant-loop-index : goal.invariant-loop-index
 invariant-loop-index l = record {

@@ -2,13 +2,14 @@ use Rattle.std.proofs.Common.{◌≡◌, ◌∙◌, ◌<◌, ◌≤◌, ◌+◌,
 use Rattle.std.specs.Prelude.{slice_index}
 use Rattle.std.proofs.lemmas.List.{get_or-take, length-take-le}
 use Rattle.gfx_dwt.specs.Ranges.{at}
-use Rattle.gfx_quant.specs.Coefficient.{coefficient_of, cut}
+use Rattle.gfx_quant.specs.Coefficient.{coefficient_of}
+use Rattle.gfx_tile_state.specs.Entries.{wrapped}
 use Rattle.gfx_tile_state.specs.Sifting.{Sifted}
 use Rattle.gfx_tile_state.proofs.Sums.{small-bits, within_bits}
-use Rattle.gfx_tile_state.proofs.Passing.{and-more, cut-within}
+use Rattle.gfx_tile_state.proofs.Passing.{and-more, wrapped-within}
 use Rattle.gfx_tile_state.proofs.Places.{set-coefficient}
 use Rattle.gfx_tile_state.proofs.Sifting.{nought-read, zeros-passed}
-use Rattle.gfx_tile_state.proofs.upgrading.upgrade_noughts.Goals as goal
+use Rattle.gfx_tile_state.proofs.upgrading.pass_noughts.Goals as goal
 
 pub tokens-preserved : goal.tokens-preserved
 tokens-preserved c =
@@ -43,12 +44,12 @@ tokens-preserved-then-value-ne0 c =
     let inside : p < length plane = omega (arith, held.long, below, c.from-place.ensures) in
     let long : length (take c.args.count c.args.noughts.now) ≡ c.args.count = length-take-le c.args.count c.args.noughts.now (omega (arith, c.told-noughts, c.requires.room)) in
     let listed : few < length (take c.args.count c.args.noughts.now) = omega (arith, long, held.most, read.0) in
-    let sum = cut (at plane p +ℤ coefficient_of c.step-passed.result.1 c.args.position) in
+    let sum = wrapped (at plane p +ℤ coefficient_of c.step-passed.result.1 c.args.position) in
     let put : c.add_entry-fits.new.plane ≡ set plane p sum = rw value at c.add_entry-fits.ensures.sum in
     rw put (record {
       most = omega (arith, held.most, read.0);
       long = length-set _ _ _ ∙ held.long;
-      coefficients = set-coefficient plane p sum inside (cut-within _) held.coefficients;
+      coefficients = set-coefficient plane p sum inside (wrapped-within _) held.coefficients;
       sifted = λ pass from to others done fits order end alike s.
           subst (λ b. Sifted pass from to (take c.args.count c.args.noughts.now) others (few + 1) done (set plane p sum) b (record { srl = c.step-passed.new.self; bits = c.tokens.readers.bits }))
           (and-more fits c.tokens.fits c.add_entry-fits.result)

@@ -2,7 +2,7 @@ use Rattle.std.proofs.Common.{◌≡◌, ◌≤◌, ◌-◌, ℕ, Bool, List, fa
 use Rattle.gfx_dwt.specs.Ranges.{AllCoefficients}
 use Rattle.gfx_tile_state.specs.Entries.{Pass, AreAlike}
 use Rattle.gfx_tile_state.specs.Sifting.{Sifted}
-use Rattle.gfx_tile_state.proofs.upgrading.upgrade_noughts.Given as goal
+use Rattle.gfx_tile_state.proofs.upgrading.pass_noughts.Given as goal
 
 abbrev pub invariant-tokens : goal.invariant-tokens
 invariant-tokens l = record {

@@ -186,9 +186,17 @@ fn inverse_of_small_patterns_in_16_bits(rt: HostRuntime) -> Result<(), Fail> {
             Some(-8812141201024874735),
             Some(70894763801099417),
         ),
-        SmallCase(Pattern::Ramp, None, Some(7014011954067292392)),
+        SmallCase(
+            Pattern::Ramp,
+            Some(5051081215984516320),
+            Some(7014011954067292392),
+        ),
         SmallCase(Pattern::Extremes, None, None),
-        SmallCase(Pattern::RampFrom(3072), None, Some(-6539889198971355668)),
+        SmallCase(
+            Pattern::RampFrom(3072),
+            Some(-8599872013058977440),
+            Some(-6539889198971355668),
+        ),
         SmallCase(
             Pattern::RampFrom(3840),
             Some(-6022962387228101857),
@@ -197,7 +205,7 @@ fn inverse_of_small_patterns_in_16_bits(rt: HostRuntime) -> Result<(), Fail> {
         SmallCase(
             Pattern::ExtremesFrom(3840),
             Some(-8508967097365626683),
-            None,
+            Some(8518770096231899295),
         ),
     ] {
         let mut plane = [0; 4096];

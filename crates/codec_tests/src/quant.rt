@@ -2,9 +2,9 @@
 use gfx_base::{Pixel, Refusal};
 use gfx_dwt::{Band, Transform};
 use gfx_quant::{
-    Quant, band_of, band_size, band_start, check_base, cut_plane, dequantise, dequantise_band,
-    dequantise_plane, from_colour, from_colours, nth_band, quant_from, quant_to, quantise,
-    quantise_plane, to_colour, to_colours, to_colours_narrow, truncate, truncate_plane,
+    Quant, band_of, band_size, band_start, check_base, cut_plane, dequantise, dequantise_plane,
+    from_colour, from_colours, nth_band, quant_from, quant_to, quantise, quantise_plane, to_colour,
+    to_colours, to_colours_narrow, truncate, truncate_plane,
 };
 
 fn opaque(b: u8, g: u8, r: u8) -> Pixel {
@@ -164,29 +164,35 @@ fn quants_have_the_order_of_the_wire(rt: HostRuntime) {
     assert_eq!(rt; quant_to(&quant), bytes);
 }
 
+// -1 has a coefficient up to position 16, and nought at all positions.
 #[test]
-fn planes_go_place_by_place(rt: HostRuntime) {
-    let mut plane = [1023; 4096];
+fn values_become_coefficients(rt: HostRuntime) {
+    let mut values = [1023; 4096];
+    values[1] = -1023;
+    let mut out = [7; 4096];
+    let positions = [6, 6, 6, 6, 6, 6, 6, 6, 6, 1];
+    assert!(rt; dequantise_plane(&values, Transform::Reduced, &positions, &mut out));
+    assert_eq!(rt; (out[0], out[1]), (32736, -32736));
+    assert_eq!(rt; (out[4014], out[4015]), (32736, 1023));
+
+    let mut ones = [0; 4096];
+    ones[0] = -1;
     assert!(rt;
         dequantise_plane(
-            &mut plane,
-            Transform::Reduced,
-            &[6, 6, 6, 6, 6, 6, 6, 6, 6, 1]
+            &ones,
+            Transform::Plain,
+            &[16, 30, 30, 30, 30, 30, 30, 30, 30, 30],
+            &mut out
         )
     );
-    assert_eq!(rt; (plane[0], plane[4014], plane[4015]), (32736, 32736, 1023));
-    assert!(rt;
-        !dequantise_plane(
-            &mut plane,
-            Transform::Reduced,
-            &[1, 1, 1, 1, 1, 1, 1, 1, 2, 1]
-        )
-    );
-    assert_eq!(rt; plane[0], 32736);
-    let mut band = [1, -2, 3];
-    assert!(rt; dequantise_band(&mut band, 3));
-    assert_eq!(rt; band, [4, -8, 12]);
+    assert_eq!(rt; (out[0], out[1], out[4095]), (-32768, 0, 0));
+    assert!(rt; !dequantise_plane(&ones, Transform::Plain, &[17; 10], &mut out));
+    assert_eq!(rt; out[0], -32768);
+}
 
+#[test]
+fn planes_go_place_by_place(rt: HostRuntime) {
+    let mut plane = [32736; 4096];
     plane[4095] = -40000;
     cut_plane(&mut plane);
     assert_eq!(rt; plane[4095], -32768);

@@ -40,7 +40,7 @@ fn says(rt: &impl Abort, bytes: &[u8], sparse: &[(usize, i32)]) {
     assert!(rt; decode(bytes, &mut out).is_ok());
     let due = placed(sparse);
     for (place, value) in out.iter().enumerate() {
-        assert_eq!(rt; *value, due[place], "at {place}");
+        assert_eq!(rt; i32::from(*value), due[place], "at {place}");
     }
 }
 

@@ -8,6 +8,7 @@ pub mod NoDetail
 pub mod Pairs
 pub mod Planes
 pub mod Same
+pub mod Small
 pub mod Smooth
 pub mod Spans
 pub mod SplitBounds

@@ -1,6 +1,5 @@
 -- What a level in 16 bits is joined from.
-use Rattle.std.proofs.Common.{◌≡◌, ℕ, ◌+◌, ◌-◌, ◌*◌, ◌<◌, ◌≤◌, lit≤, ℤ, List, length, take, drop, length-take, length-drop, arith, sym, refl, ap, ◌∙◌, Bool, true, false, subst}
-use Rattle.std.specs.Prelude.{MatchBool, ◌&&◌}
+use Rattle.std.proofs.Common.{◌≡◌, ℕ, ◌+◌, ◌-◌, ◌*◌, ◌<◌, ◌≤◌, lit≤, ℤ, List, length, take, drop, length-take, length-drop, arith, sym, refl, ap, ◌∙◌, subst}
 use Rattle.gfx_dwt.specs.declared.layout.Transform.{Transform}
 use Rattle.gfx_dwt.specs.declared.layout.Transform.TheVariants.{Plain, Reduced}
 use Rattle.gfx_dwt.specs.declared.layout.Scale.{Scale}
@@ -11,7 +10,7 @@ use Rattle.gfx_dwt.specs.Narrow.{AreSmall, IsNarrow, hl_of, hh_of, lh_of, level_
 use Rattle.gfx_dwt.specs.Place.{coefficient, high_size, line_size, low_size, low_start, part_start}
 use Rattle.gfx_dwt.specs.Ranges.{AllWithin, Within, at}
 use Rattle.gfx_dwt.specs.Samples.{cell, column, level_joined, quarter, sample, second_level, third_level}
-use Rattle.gfx_dwt.proofs.Planes.{cells_within, level_joined_same, place_in}
+use Rattle.gfx_dwt.proofs.Planes.{all_more, cells_within, level_joined_same, place_in}
 use Rattle.gfx_dwt.proofs.Same.{joined_same}
 use Rattle.gfx_dwt.proofs.Strips.{strip_at}
 
@@ -43,20 +42,29 @@ rows_of_bands t l plane bands low above below same one two =
 -- what a level is joined from is small, if it stays narrow
 pub bands_small : (t : Transform) (l : Scale) (plane bands low : List ℤ) → length low ≡ low_size t l * low_size t l → length bands ≡ low_start t l → AreBands t l plane bands → IsNarrow t l plane (cell (low_size t l) low) → AreSmall low bands
 bands_small t l plane bands low e f same narrow = record {
-  low_half = cells_within (low_size t l) (low_size t l) 10239 low e narrow.low;
-  high_half = λ k h. let i : k < low_start t l = omega (arith, f) in rw (same k i) (narrow.bands k i);
+  low_most = narrow.quarters.low_most;
+  high_most = narrow.quarters.high_most;
+  high_fits = narrow.quarters.high_fits;
+  both_fit = narrow.quarters.both_fit;
+  low_half = cells_within (low_size t l) (low_size t l) narrow.quarters.low_most low e narrow.quarters.low_half;
+  high_half = λ k h. let i : k < low_start t l = omega (arith, f) in rw (same k i) (narrow.quarters.high_half k i);
 }
 
 pub rows_small : (t : Transform) (l : Scale) (plane : List ℤ) (ll : ℕ → ℕ → ℤ) (above below : List ℤ) → length above ≡ low_size t l * line_size t l → length below ≡ high_size t l * line_size t l → AreRows t l plane ll above below → IsNarrow t l plane ll → AreSmall above below
 rows_small t l plane ll above below e f are narrow = record {
-  low_half = cells_within (line_size t l) (low_size t l) 10239 above e (λ r x p q. rw (are.low_rows r x p q) (narrow.low_rows r x p q));
-  high_half = cells_within (line_size t l) (high_size t l) 6143 below f (λ r x p q. rw (are.high_rows r x p q) (narrow.high_rows r x p q));
+  low_most = narrow.rows.low_most;
+  high_most = narrow.rows.high_most;
+  high_fits = narrow.rows.high_fits;
+  both_fit = narrow.rows.both_fit;
+  low_half = cells_within (line_size t l) (low_size t l) narrow.rows.low_most above e (λ r x p q. rw (are.low_rows r x p q) (narrow.rows.low_half r x p q));
+  high_half = cells_within (line_size t l) (high_size t l) narrow.rows.high_most below f (λ r x p q. rw (are.high_rows r x p q) (narrow.rows.high_half r x p q));
 }
 
-pub small_decide : (low high : List ℤ) (one two : Bool) → MatchBool one (AllWithin 10239 low) (AllWithin 10239 low → ⊥) → MatchBool two (AllWithin 6143 high) (AllWithin 6143 high → ⊥) → MatchBool (one && two) (AreSmall low high) (AreSmall low high → ⊥)
-small_decide low high true true a b = record { low_half = a; high_half = b }
-small_decide low high true false a b = λ small. b small.high_half
-small_decide low high false two a b = λ small. a small.low_half
+-- the low quarter alone
+pub low_small : (t : Transform) (l : Scale) (plane low : List ℤ) → length low ≡ low_size t l * low_size t l → IsNarrow t l plane (cell (low_size t l) low) → AllWithin 16382 low
+low_small t l plane low e narrow =
+    let both = narrow.quarters.both_fit in
+    all_more narrow.quarters.low_most 16382 low (omega (arith, both)) (cells_within (low_size t l) (low_size t l) narrow.quarters.low_most low e narrow.quarters.low_half)
 
 -- a level is what its columns are joined to
 pub level_of_rows : (t : Transform) (l : Scale) (plane : List ℤ) (ll : ℕ → ℕ → ℤ) (above below : List ℤ) → AreRows t l plane ll above below → (y x : ℕ) → y < line_size t l → x < line_size t l → joined t l (column (line_size t l) above x) (column (line_size t l) below x) y ≡ level_of t l plane ll y x
@@ -71,10 +79,22 @@ level_same t l plane ll other same = level_joined_same t l _ _ _ _ _ _ _ _ same 
 
 pub narrow_same : (t : Transform) (l : Scale) (plane : List ℤ) (ll other : ℕ → ℕ → ℤ) → ((r c : ℕ) → r < low_size t l → c < low_size t l → ll r c ≡ other r c) → IsNarrow t l plane other → IsNarrow t l plane ll
 narrow_same t l plane ll other same narrow = record {
-  low = λ r c p q. rw (same r c p q) (narrow.low r c p q);
-  bands = narrow.bands;
-  low_rows = λ r x p q. subst (Within 10239) (sym (joined_same t l _ _ _ _ (λ k h. same r k p h) (λ _ _. refl) x q)) (narrow.low_rows r x p q);
-  high_rows = narrow.high_rows;
+  quarters = record {
+    low_most = narrow.quarters.low_most;
+    high_most = narrow.quarters.high_most;
+    high_fits = narrow.quarters.high_fits;
+    both_fit = narrow.quarters.both_fit;
+    low_half = λ r c p q. rw (same r c p q) (narrow.quarters.low_half r c p q);
+    high_half = narrow.quarters.high_half;
+  };
+  rows = record {
+    low_most = narrow.rows.low_most;
+    high_most = narrow.rows.high_most;
+    high_fits = narrow.rows.high_fits;
+    both_fit = narrow.rows.both_fit;
+    low_half = λ r x p q. subst (Within narrow.rows.low_most) (sym (joined_same t l _ _ _ _ (λ k h. same r k p h) (λ _ _. refl) x q)) (narrow.rows.low_half r x p q);
+    high_half = narrow.rows.high_half;
+  };
 }
 
 -- the three levels are such levels

@@ -70,6 +70,10 @@ pub all_at : (bound : ℕ) (xs : List ℤ) → AllWithin bound xs → (k : ℕ) 
 all_at bound xs all k =
     ⊎_elim (λ h. all k h) (λ h. rw (get_or-eq_default xs (pos 0) {n = k} h) (record { low = omega (arith, ints); high = omega (arith, ints) })) (inside_or_not k (length xs))
 
+-- a list whose numbers all stand in another
+pub places_within : (bound : ℕ) (xs ys : List ℤ) (place : ℕ → ℕ) → ((k : ℕ) → k < length ys → at ys k ≡ at xs (place k)) → AllWithin bound xs → AllWithin bound ys
+places_within bound xs ys place same all k h = rw (same k h) (all_at bound xs all (place k))
+
 -- a part of a list is overwritten up to its end
 pub put_within : (a k bound most : ℕ) (xs ys : List ℤ) → a ≤ length xs → length ys + a ≡ length xs → length xs ≤ a + k → bound ≤ most → AllWithin bound xs → AllWithin most ys → AllWithin most (put_mid a k xs ys)
 put_within a k bound most xs ys l e f h p q i b =

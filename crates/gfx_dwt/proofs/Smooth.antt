@@ -1,5 +1,5 @@
 -- Lines and levels whose high half is nought, as they are written.
-use Rattle.std.proofs.Common.{◌≡◌, ℕ, ◌+◌, ◌-◌, ◌*◌, ◌/◌, ◌<◌, ◌≤◌, ℤ, pos, ◌+ℤ◌, List, [], length, arith, lit≤, sym, refl, ap, ◌∙◌, ⊎_elim, below_more}
+use Rattle.std.proofs.Common.{◌≡◌, ℕ, ◌+◌, ◌-◌, ◌*◌, ◌/◌, ◌<◌, ◌≤◌, ℤ, pos, ◌+ℤ◌, List, length, arith, lit≤, sym, refl, ap, ◌∙◌, ⊎_elim, below_more}
 use borrow.Rule.Slice.PartMut.{put_mid}
 use Rattle.gfx_dwt.specs.declared.layout.Transform.{Transform}
 use Rattle.gfx_dwt.specs.declared.layout.Transform.TheVariants.{Plain, Reduced}
@@ -15,7 +15,7 @@ use Rattle.gfx_dwt.proofs.Edges.{high_le_low, high_some, joined_even, joined_odd
 use Rattle.gfx_dwt.proofs.NarrowLines.{AreEvens, line_is}
 use Rattle.gfx_dwt.proofs.NoDetail.{edged_nought, even_smooth, halved_twice, joined_nought, nought, odd_of_nought, odd_smooth}
 use Rattle.gfx_dwt.proofs.Planes.{place_in}
-use Rattle.gfx_dwt.proofs.Same.{inside_or_not, joined_same, within_more}
+use Rattle.gfx_dwt.proofs.Same.{inside_or_not, joined_same}
 use Rattle.gfx_dwt.proofs.Strips.{mid_below, mid_within, earlier_row}
 
 -- behind the pairs of a line stands its last even sample
@@ -57,13 +57,13 @@ low_le_high Reduced Second = lit≤ tt
 low_le_high Reduced Third = lit≤ tt
 
 -- places and the last of them again are small
-pub copies_within : (low evens : List ℤ) → 0 < length low → length evens ≡ length low + 1 → AllWithin 10239 low → ((k : ℕ) → k < length low → at evens k ≡ at low k) → at evens (length low) ≡ at low (length low - 1) → AllWithin 16382 evens
+pub copies_within : (low evens : List ℤ) → 0 < length low → length evens ≡ length low + 1 → AllWithin 16382 low → ((k : ℕ) → k < length low → at evens k ≡ at low k) → at evens (length low) ≡ at low (length low - 1) → AllWithin 16382 evens
 copies_within low evens some e all each last k h =
     ⊎_elim
-    (λ p. rw (each k p) (within_more 10239 16382 _ (lit≤ tt) (all k p)))
+    (λ p. rw (each k p) (all k p))
     (λ p.
     let i : k ≡ length low = omega (arith, e) in
-    let small : Within 16382 (at low (length low - 1)) = within_more 10239 16382 (at low (length low - 1)) (lit≤ tt) (all (length low - 1) (omega (arith, some))) in
+    let small : Within 16382 (at low (length low - 1)) = all (length low - 1) (omega (arith, some)) in
     rw i (rw last small))
     (inside_or_not k (length low))
 
@@ -72,11 +72,11 @@ pub smooth_is : (t : Transform) (l : Scale) (low evens odds pairs out : List ℤ
 smooth_is t l low evens odds pairs out count e f each last half two three kept end =
     let some = high_some t l in
     let le = high_le_low t l in
-    let are : AreEvens t l (at low) nought evens = record {
+    let are : AreEvens t l (at low) nought (at evens) = record {
       each = λ k h. each k (omega (arith, e)) ∙ sym (even_smooth t l (at low) k);
       last = (rw e at last) ∙ sym (even_smooth t l (at low) (low_size t l - 1));
     } in
-    line_is t l (at low) nought [] evens odds pairs out count f
+    line_is t l (at low) nought nought evens odds pairs out count f
     (λ k h. sym (edged_nought t l (k - 1)))
     are
     (λ k h. half k h ∙ sym (odd_of_nought t (at evens k) (at evens (k + 1))))

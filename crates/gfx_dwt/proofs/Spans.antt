@@ -1,6 +1,6 @@
 -- The lowest and the highest number of a list.
-use Rattle.std.proofs.Common.{Bool, true, false, ◌≡◌, ℕ, ◌+◌, ◌<◌, ℤ, pos, ◌≤ℤ◌, List, length, arith, below_more}
-use Rattle.std.specs.Prelude.{MatchBool, ◌&&◌}
+use Rattle.std.proofs.Common.{◌≡◌, ℕ, ◌+◌, ◌<◌, ◌≤◌, max, ℤ, pos, negsuc, neg_ℤ, ◌≤ℤ◌, List, length, arith, below_more}
+use Rattle.std.specs.Int.RustNames.{unsigned_abs}
 use Rattle.std.proofs.lemmas.Int.{ints}
 use Rattle.gfx_dwt.specs.Ranges.{AllWithin, Within, at}
 
@@ -27,7 +27,29 @@ spans_more values i v lowest highest low high e a b kept_a d f kept_d s = record
   kept_high = λ bound all. kept_d bound (s.kept_high bound (λ k h. all k (omega arith))) (rw e (all i (omega arith)));
 }
 
-pub spans_decide : (bound : ℕ) (values : List ℤ) (lowest highest : ℤ) (one two : Bool) → Spans values (length values) lowest highest → MatchBool one (Within bound lowest) (Within bound lowest → ⊥) → MatchBool two (Within bound highest) (Within bound highest → ⊥) → MatchBool (one && two) (AllWithin bound values) (AllWithin bound values → ⊥)
-spans_decide bound values lowest highest true true s a b = λ k h. let low = s.low k h in let high = s.high k h in record { low = omega (arith, ints, low, a.low); high = omega (arith, ints, high, b.high) }
-spans_decide bound values lowest highest true false s a b = λ all. b (s.kept_high bound all)
-spans_decide bound values lowest highest false two s a b = λ all. a (s.kept_low bound all)
+abs_below : (z : ℤ) → neg_ℤ (pos (unsigned_abs z)) ≤ℤ z
+abs_below (pos n) = omega (arith, ints)
+abs_below (negsuc n) = omega (arith, ints)
+
+abs_above : (z : ℤ) → z ≤ℤ pos (unsigned_abs z)
+abs_above (pos n) = omega (arith, ints)
+abs_above (negsuc n) = omega (arith, ints)
+
+abs_least : (bound : ℕ) (z : ℤ) → Within bound z → unsigned_abs z ≤ bound
+abs_least bound (pos n) w = omega (arith, ints)
+abs_least bound (negsuc n) w = omega (arith, ints)
+
+-- the greater magnitude of the two is the greatest of all
+pub spans_all : (values : List ℤ) (lowest highest : ℤ) → Spans values (length values) lowest highest → AllWithin (max (unsigned_abs lowest) (unsigned_abs highest)) values
+spans_all values lowest highest s k h =
+    let low = s.low k h in
+    let high = s.high k h in
+    let below = abs_below lowest in
+    let above = abs_above highest in
+    record { low = omega (arith, ints, low, below); high = omega (arith, ints, high, above) }
+
+pub spans_least : (values : List ℤ) (lowest highest : ℤ) → Spans values (length values) lowest highest → (bound : ℕ) → AllWithin bound values → max (unsigned_abs lowest) (unsigned_abs highest) ≤ bound
+spans_least values lowest highest s bound all =
+    let low = abs_least bound lowest (s.kept_low bound all) in
+    let high = abs_least bound highest (s.kept_high bound all) in
+    omega (arith, low, high)

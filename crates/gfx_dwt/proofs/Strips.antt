@@ -1,5 +1,5 @@
 -- A plane that is written row by row.
-use Rattle.std.proofs.Common.{◌≡◌, ℕ, zero, suc, ◌+◌, ◌-◌, ◌*◌, ◌<◌, ◌≤◌, ℤ, pos, List, ◌++◌, length, take, drop, arith, ap, refl, ◌∙◌, below_more, inl, inr, length-append, length-drop, length-take}
+use Rattle.std.proofs.Common.{◌≡◌, ℕ, zero, suc, ◌+◌, ◌-◌, ◌*◌, ◌<◌, ◌≤◌, ℤ, pos, List, ◌++◌, length, take, drop, arith, ap, sym, refl, ◌∙◌, below_more, inl, inr, length-append, length-drop, length-take}
 use Rattle.std.proofs.lemmas.List.{get_or_append_left, get_or-append_right, get_or-take, get_or-drop}
 use Rattle.std.proofs.lemmas.Nat.{row_fits}
 use borrow.Rule.Slice.PartMut.{put_mid}
@@ -27,13 +27,36 @@ put_long a k xs ys h e = omega (arith, h, e, length-append {A = ℤ}, length-tak
 pub earlier_row : (w i r c : ℕ) → i < r → c < w → i * w + c < r * w
 earlier_row w i r c h k = omega (arith, row_fits i w r w h (omega arith))
 
+-- rows before the one that is written stay
+pub row_kept : (w r k : ℕ) (xs ys : List ℤ) → r * w + w ≤ length xs → (i c : ℕ) → i < r → c < w → cell w (put_mid (r * w) k xs ys) i c ≡ cell w xs i c
+row_kept w r k xs ys fits i c h l = mid_below (r * w) k xs ys (i * w + c) (earlier_row w i r c h l) (omega arith)
+
+-- the row that is written
+pub row_new : (w r k : ℕ) (xs ys : List ℤ) → r * w + w ≤ length xs → length ys ≡ w → (c : ℕ) → c < w → cell w (put_mid (r * w) k xs ys) r c ≡ at ys c
+row_new w r k xs ys fits len c l = mid_within (r * w) k xs ys c (omega arith) (omega arith)
+
 -- one row more is written
 pub row_put : (w r k : ℕ) (xs ys : List ℤ) (f : ℕ → ℕ → ℤ) → r * w + w ≤ length xs → length ys ≡ w → ((i c : ℕ) → i < r → c < w → cell w xs i c ≡ f i c) → ((c : ℕ) → c < w → at ys c ≡ f r c) → (i c : ℕ) → i < r + 1 → c < w → cell w (put_mid (r * w) k xs ys) i c ≡ f i c
 row_put w r k xs ys f fits len before here i c h l =
     below_more (λ j. cell w (put_mid (r * w) k xs ys) j c ≡ f j c) r
-    (λ j p. mid_below (r * w) k xs ys (j * w + c) (earlier_row w j r c p l) (omega arith) ∙ before j c p l)
-    (mid_within (r * w) k xs ys c (omega arith) (omega arith) ∙ here c l)
+    (λ j p. row_kept w r k xs ys fits j c p l ∙ before j c p l)
+    (row_new w r k xs ys fits len c l ∙ here c l)
     i h
+
+-- the same of some places of each row, by number
+pub row_put_at : (w r k : ℕ) (xs ys : List ℤ) (Some : ℕ → Type 0) (place : ℕ → ℕ) (f : ℕ → ℕ → ℤ) → r * w + w ≤ length xs → length ys ≡ w → ((n : ℕ) → Some n → place n < w) → ((i n : ℕ) → i < r → Some n → cell w xs i (place n) ≡ f i n) → ((n : ℕ) → Some n → at ys (place n) ≡ f r n) → (i n : ℕ) → i < r + 1 → Some n → cell w (put_mid (r * w) k xs ys) i (place n) ≡ f i n
+row_put_at w r k xs ys Some place f fits len inside before here i n h s =
+    below_more (λ j. cell w (put_mid (r * w) k xs ys) j (place n) ≡ f j n) r
+    (λ j p. row_kept w r k xs ys fits j (place n) p (inside n s) ∙ before j n p s)
+    (row_new w r k xs ys fits len (place n) (inside n s) ∙ here n s)
+    i h
+
+-- two places of each row have the same number
+pub row_put_twice : (w r k : ℕ) (xs ys : List ℤ) (a b : ℕ) → r * w + w ≤ length xs → length ys ≡ w → a < w → b < w → ((i : ℕ) → i < r → cell w xs i a ≡ cell w xs i b) → at ys a ≡ at ys b → (i : ℕ) → i < r + 1 → cell w (put_mid (r * w) k xs ys) i a ≡ cell w (put_mid (r * w) k xs ys) i b
+row_put_twice w r k xs ys a b fits len p q before here =
+    below_more (λ j. cell w (put_mid (r * w) k xs ys) j a ≡ cell w (put_mid (r * w) k xs ys) j b) r
+    (λ j h. row_kept w r k xs ys fits j a h p ∙ before j h ∙ sym (row_kept w r k xs ys fits j b h q))
+    (row_new w r k xs ys fits len a p ∙ here ∙ sym (row_new w r k xs ys fits len b q))
 
 pub nought_at : (n k : ℕ) → at (replicate n (pos 0)) k ≡ pos 0
 nought_at zero k = refl

@@ -18,6 +18,7 @@ mod narrow_kernels;
 mod narrow_levels;
 mod narrow_lines;
 mod narrow_range;
+mod narrow_rows;
 mod narrow_smooth;
 mod noughts;
 mod splitting;

@@ -39,9 +39,10 @@ fn is_flat(plane: &[i16; 4096], start: usize) -> bool
     all_are(&plane[..start], 0)
 }
 
-/// Turns coefficients in band order into samples row by row, as `inverse` does, in 16 bits. This is exact where at each
-/// level of the halves from which its lines are joined no low number is beyond 10,239, and no high one beyond 6,143.
-/// Else the answer is false, and nothing is said of `out`.
+/// Turns coefficients in band order into samples row by row, as `inverse` does, in 16 bits. The answer is true at least
+/// where at each level no number of its three bands is beyond 8,191, and the greatest magnitude among them and that of
+/// its low quarter are at most 16,382 together, and where the same is so of the high and of the low rows of which its
+/// columns are joined. Where it is false nothing is said of `out`.
 pub fn inverse_narrow(
     coefficients: &[i16; 4096],
     transform: Transform,

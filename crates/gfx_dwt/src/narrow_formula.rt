@@ -36,7 +36,7 @@ fn sum(left: i16, right: i16) -> i16
 
 #[inline]
 fn double(high: i16) -> i16
-    requires { Within 6143 high }
+    requires { Within 8191 high }
     ensures value { result ≡ pos 2 *ℤ high }
     ensures small { Within 16382 result }
 {
@@ -46,10 +46,10 @@ fn double(high: i16) -> i16
 #[inline]
 #[tactic(auto, using(crate::proofs::Bounds::mean_within))]
 fn plain_mean(before: i16, here: i16) -> i16
-    requires before { Within 6143 before }
-    requires here { Within 6143 here }
+    requires before { Within 8191 before }
+    requires here { Within 8191 here }
     ensures value { result ≡ mean Plain before here }
-    ensures small { Within 6143 result }
+    ensures small { Within 8191 result }
 {
     floor_half(sum(before, here) + 1)
 }
@@ -57,10 +57,10 @@ fn plain_mean(before: i16, here: i16) -> i16
 #[inline]
 #[tactic(auto, using(crate::proofs::Bounds::mean_within))]
 fn reduced_mean(before: i16, here: i16) -> i16
-    requires before { Within 6143 before }
-    requires here { Within 6143 here }
+    requires before { Within 8191 before }
+    requires here { Within 8191 here }
     ensures value { result ≡ mean Reduced before here }
-    ensures small { Within 6143 result }
+    ensures small { Within 8191 result }
 {
     zero_half(sum(before, here))
 }
@@ -77,10 +77,10 @@ pub trait NarrowLifting {
 
     /// The mean of two neighbours of a high half.
     fn mean(before: i16, here: i16) -> i16
-        requires before { Within 6143 before }
-        requires here { Within 6143 here }
+        requires before { Within 8191 before }
+        requires here { Within 8191 here }
         ensures value { result ≡ mean transform before here }
-        ensures small { Within 6143 result };
+        ensures small { Within 8191 result };
 }
 
 /// The lifting of the plain transform in 16 bits.
@@ -119,9 +119,10 @@ impl NarrowLifting for ReducedNarrow {
 
 #[inline]
 pub fn even_sample<L: NarrowLifting>(low: i16, before: i16, here: i16) -> i16
-    requires low { Within 10239 low }
-    requires before { Within 6143 before }
-    requires here { Within 6143 here }
+    requires low { Within 16382 low }
+    requires before { Within 8191 before }
+    requires here { Within 8191 here }
+    requires small { Within 16382 (even_of L.transform low before here) }
     ensures value { result ≡ even_of L.transform low before here }
     ensures small { Within 16382 result }
 {
@@ -130,7 +131,7 @@ pub fn even_sample<L: NarrowLifting>(low: i16, before: i16, here: i16) -> i16
 
 #[inline]
 pub fn odd_sample<L: NarrowLifting>(high: i16, left: i16, right: i16) -> i16
-    requires high { Within 6143 high }
+    requires high { Within 8191 high }
     requires left { Within 16382 left }
     requires right { Within 16382 right }
     ensures { result ≡ odd_of L.transform high left right }

@@ -61,10 +61,10 @@ pub fn narrow_edge_row<'a>(
 ) -> &'a [i16]
     requires width { width ≤ 64 }
     requires high_len { length high.now ≡ high_size transform level * width }
-    requires high { AllWithin 6143 high.now }
+    requires high { AllWithin 8191 high.now }
     ensures len { length result.now ≡ width }
     ensures each { (k : ℕ) → k < width → at result.now k ≡ edged transform level (column width high.now k) index }
-    ensures within { AllWithin 6143 result.now }
+    ensures within { AllWithin 8191 result.now }
 {
     let size = level.high_size(transform);
     if index < size {

@@ -1,15 +1,18 @@
 ghost use Rattle.std.specs.Prelude.{◌≡◌, ℕ, ◌+◌, ◌-◌, ◌*◌, ◌/◌, ◌%◌, ◌<◌, ◌≤◌, ◌==◌, if◌then◌else◌, length};
 ghost use Rattle.gfx_dwt.specs.Joining.{even, joined, odd};
+ghost use Rattle.gfx_dwt.specs.Narrow.{AreSmall};
 ghost use Rattle.gfx_dwt.specs.Place.{high_size, line_size, low_size};
-ghost use Rattle.gfx_dwt.specs.Ranges.{AllWithin, at};
+ghost use Rattle.gfx_dwt.specs.Ranges.{at};
 ghost use Rattle.gfx_dwt.specs.Samples.{cell, column};
 
 use crate::layout::{Scale, Transform};
 use crate::narrow_grid::{narrow_edge_row, narrow_row};
 use crate::narrow_kernels::{lower, pair, raise};
-use crate::narrow_lines::join_narrow_line;
+use crate::narrow_rows::{edge_rows, even_rows, line_rows};
 
-/// Joins each row of a low and of a high quarter.
+/// Joins each row of a low and of a high quarter, with room in spare memory. Each step is done for all rows before the
+/// next one, so that what it reads was written long before: the processor waits for a number that it reads across two
+/// writes just made.
 #[inline(always)]
 fn join_rows_of(
     transform: Transform,
@@ -18,27 +21,26 @@ fn join_rows_of(
     high: &[i16],
     out: &mut [i16],
     rows: usize,
+    spare: &mut [i16],
 )
     requires rows { rows ≤ 64 }
     requires low_len { length low.now ≡ rows * low_size transform level }
     requires high_len { length high.now ≡ rows * high_size transform level }
     requires out_len { length out.old ≡ rows * line_size transform level }
-    requires low { AllWithin 10239 low.now }
-    requires high { AllWithin 6143 high.now }
+    requires spare_len { 2 * (rows * (low_size transform level + 1)) ≤ length spare.old }
+    requires small { AreSmall low.now high.now }
     ensures { (r c : ℕ) → r < rows → c < line_size transform level → cell (line_size transform level) out.new r c ≡ joined transform level (cell (low_size transform level) low.now r) (cell (high_size transform level) high.now r) c }
 {
-    let low_size = level.low_size(transform);
-    let high_size = level.high_size(transform);
-    let size = low_size + high_size;
-    for r in 0..rows {
-        let low = narrow_row(low, low_size, r);
-        let high = narrow_row(high, high_size, r);
-        let start = r * size;
-        join_narrow_line(transform, level, low, high, &mut out[start..start + size]);
-    }
+    let count = rows * (level.low_size(transform) + 1);
+    let (edges, rest) = spare.split_at_mut(count);
+    let (evens, _) = rest.split_at_mut(count);
+    edge_rows(transform, level, high, edges, rows);
+    even_rows(transform, level, low, edges, evens, rows);
+    line_rows(transform, level, edges, evens, out, rows);
 }
 
-/// The same. Sizes are known in each of the cases, so that each has loops of its own.
+/// The same. The sizes of the first level are known, so that it has loops of its own; those of the others aren't, since
+/// the compiler unrolls short loops and then does one number at a time.
 pub fn join_narrow_rows(
     transform: Transform,
     level: Scale,
@@ -46,33 +48,36 @@ pub fn join_narrow_rows(
     high: &[i16],
     out: &mut [i16],
     rows: usize,
+    spare: &mut [i16],
 )
     requires rows { rows ≤ 64 }
     requires low_len { length low.now ≡ rows * low_size transform level }
     requires high_len { length high.now ≡ rows * high_size transform level }
     requires out_len { length out.old ≡ rows * line_size transform level }
-    requires low { AllWithin 10239 low.now }
-    requires high { AllWithin 6143 high.now }
+    requires spare_len { 2 * (rows * (low_size transform level + 1)) ≤ length spare.old }
+    requires small { AreSmall low.now high.now }
     ensures { (r c : ℕ) → r < rows → c < line_size transform level → cell (line_size transform level) out.new r c ≡ joined transform level (cell (low_size transform level) low.now r) (cell (high_size transform level) high.now r) c }
 {
     match (transform, level) {
         (Transform::Plain, Scale::First) => {
-            join_rows_of(Transform::Plain, Scale::First, low, high, out, rows)
+            join_rows_of(Transform::Plain, Scale::First, low, high, out, rows, spare)
         }
-        (Transform::Plain, Scale::Second) => {
-            join_rows_of(Transform::Plain, Scale::Second, low, high, out, rows)
-        }
-        (Transform::Plain, Scale::Third) => {
-            join_rows_of(Transform::Plain, Scale::Third, low, high, out, rows)
+        (Transform::Plain, _) => {
+            join_rows_of(Transform::Plain, level, low, high, out, rows, spare)
         }
         (Transform::Reduced, Scale::First) => {
-            join_rows_of(Transform::Reduced, Scale::First, low, high, out, rows)
+            join_rows_of(
+                Transform::Reduced,
+                Scale::First,
+                low,
+                high,
+                out,
+                rows,
+                spare,
+            )
         }
-        (Transform::Reduced, Scale::Second) => {
-            join_rows_of(Transform::Reduced, Scale::Second, low, high, out, rows)
-        }
-        (Transform::Reduced, Scale::Third) => {
-            join_rows_of(Transform::Reduced, Scale::Third, low, high, out, rows)
+        (Transform::Reduced, _) => {
+            join_rows_of(Transform::Reduced, level, low, high, out, rows, spare)
         }
     }
 }
@@ -93,8 +98,7 @@ fn join_pair(
     requires low_len { length low.now ≡ low_size transform level * width }
     requires high_len { length high.now ≡ high_size transform level * width }
     requires rows_len { length rows.old ≡ 3 * width }
-    requires low { AllWithin 10239 low.now }
-    requires high { AllWithin 6143 high.now }
+    requires small { AreSmall low.now high.now }
     requires above { (c : ℕ) → c < width → at rows.old c ≡ even transform level (column width low.now c) (column width high.now c) place }
     ensures above { (c : ℕ) → c < width → at rows.new c ≡ at rows.old c }
     ensures odds { (c : ℕ) → c < width → at rows.new (width + c) ≡ odd transform level (column width low.now c) (column width high.now c) place }
@@ -131,8 +135,7 @@ fn join_last(
     requires low_len { length low.now ≡ low_size transform level * width }
     requires high_len { length high.now ≡ high_size transform level * width }
     requires rows_len { length rows.old ≡ 2 * width }
-    requires low { AllWithin 10239 low.now }
-    requires high { AllWithin 6143 high.now }
+    requires small { AreSmall low.now high.now }
     requires above { (c : ℕ) → c < width → at rows.old c ≡ even transform level (column width low.now c) (column width high.now c) place }
     ensures above { (c : ℕ) → c < width → at rows.new c ≡ at rows.old c }
     ensures odds { (c : ℕ) → c < width → at rows.new (width + c) ≡ odd transform level (column width low.now c) (column width high.now c) place }
@@ -165,8 +168,7 @@ fn join_columns_of(
     requires low_len { length low.now ≡ low_size transform level * width }
     requires high_len { length high.now ≡ high_size transform level * width }
     requires out_len { length out.old ≡ width * width }
-    requires low { AllWithin 10239 low.now }
-    requires high { AllWithin 6143 high.now }
+    requires small { AreSmall low.now high.now }
     ensures { (y x : ℕ) → y < width → x < width → cell width out.new y x ≡ joined transform level (column width low.now x) (column width high.now x) y }
 {
     let first = narrow_row(high, width, 0);
@@ -216,8 +218,7 @@ pub fn join_narrow_columns(
     requires low_len { length low.now ≡ low_size transform level * width }
     requires high_len { length high.now ≡ high_size transform level * width }
     requires out_len { length out.old ≡ width * width }
-    requires low { AllWithin 10239 low.now }
-    requires high { AllWithin 6143 high.now }
+    requires small { AreSmall low.now high.now }
     ensures { (y x : ℕ) → y < width → x < width → cell width out.new y x ≡ joined transform level (column width low.now x) (column width high.now x) y }
 {
     match (transform, level) {

@@ -1,6 +1,6 @@
 ghost use Rattle.std.specs.Prelude.{◌≡◌, ℕ, ◌<◌, ◌+ℤ◌, length};
 ghost use Rattle.gfx_dwt.specs.Lifting.{even_of, halved, odd_of};
-ghost use Rattle.gfx_dwt.specs.Ranges.{AllWithin, at};
+ghost use Rattle.gfx_dwt.specs.Ranges.{AllWithin, Within, at};
 
 use crate::layout::Transform;
 use crate::narrow_formula::{
@@ -13,9 +13,10 @@ fn lower_by<L: NarrowLifting>(out: &mut [i16], low: &[i16], before: &[i16], here
     requires low_len { length low.now ≡ length out.old }
     requires before_len { length before.now ≡ length out.old }
     requires here_len { length here.now ≡ length out.old }
-    requires low { AllWithin 10239 low.now }
-    requires before { AllWithin 6143 before.now }
-    requires here { AllWithin 6143 here.now }
+    requires low { AllWithin 16382 low.now }
+    requires before { AllWithin 8191 before.now }
+    requires here { AllWithin 8191 here.now }
+    requires evens { (k : ℕ) → k < length out.old → Within 16382 (even_of L.transform (at low.now k) (at before.now k) (at here.now k)) }
     ensures { (k : ℕ) → k < length out.old → at out.new k ≡ even_of L.transform (at low.now k) (at before.now k) (at here.now k) }
 {
     for k in 0..out.len() {
@@ -39,9 +40,10 @@ fn pair_by<L: NarrowLifting>(
     requires high_len { length high.now ≡ length odds.old }
     requires next_len { length next.now ≡ length odds.old }
     requires above { AllWithin 16382 above.now }
-    requires low { AllWithin 10239 low.now }
-    requires high { AllWithin 6143 high.now }
-    requires next { AllWithin 6143 next.now }
+    requires low { AllWithin 16382 low.now }
+    requires high { AllWithin 8191 high.now }
+    requires next { AllWithin 8191 next.now }
+    requires evens { (k : ℕ) → k < length odds.old → Within 16382 (even_of L.transform (at low.now k) (at high.now k) (at next.now k)) }
     ensures evens { (k : ℕ) → k < length odds.old → at evens.new k ≡ even_of L.transform (at low.now k) (at high.now k) (at next.now k) }
     ensures odds { (k : ℕ) → k < length odds.old → at odds.new k ≡ odd_of L.transform (at high.now k) (at above.now k) (even_of L.transform (at low.now k) (at high.now k) (at next.now k)) }
 {
@@ -58,7 +60,7 @@ fn raise_by<L: NarrowLifting>(out: &mut [i16], high: &[i16], left: &[i16], right
     requires high_len { length high.now ≡ length out.old }
     requires left_len { length left.now ≡ length out.old }
     requires right_len { length right.now ≡ length out.old }
-    requires high { AllWithin 6143 high.now }
+    requires high { AllWithin 8191 high.now }
     requires left { AllWithin 16382 left.now }
     requires right { AllWithin 16382 right.now }
     ensures { (k : ℕ) → k < length out.old → at out.new k ≡ odd_of L.transform (at high.now k) (at left.now k) (at right.now k) }
@@ -87,9 +89,10 @@ pub fn lower(transform: Transform, out: &mut [i16], low: &[i16], before: &[i16],
     requires low_len { length low.now ≡ length out.old }
     requires before_len { length before.now ≡ length out.old }
     requires here_len { length here.now ≡ length out.old }
-    requires low { AllWithin 10239 low.now }
-    requires before { AllWithin 6143 before.now }
-    requires here { AllWithin 6143 here.now }
+    requires low { AllWithin 16382 low.now }
+    requires before { AllWithin 8191 before.now }
+    requires here { AllWithin 8191 here.now }
+    requires evens { (k : ℕ) → k < length out.old → Within 16382 (even_of transform (at low.now k) (at before.now k) (at here.now k)) }
     ensures { (k : ℕ) → k < length out.old → at out.new k ≡ even_of transform (at low.now k) (at before.now k) (at here.now k) }
 {
     match transform {
@@ -114,9 +117,10 @@ pub fn pair(
     requires high_len { length high.now ≡ length odds.old }
     requires next_len { length next.now ≡ length odds.old }
     requires above { AllWithin 16382 above.now }
-    requires low { AllWithin 10239 low.now }
-    requires high { AllWithin 6143 high.now }
-    requires next { AllWithin 6143 next.now }
+    requires low { AllWithin 16382 low.now }
+    requires high { AllWithin 8191 high.now }
+    requires next { AllWithin 8191 next.now }
+    requires evens { (k : ℕ) → k < length odds.old → Within 16382 (even_of transform (at low.now k) (at high.now k) (at next.now k)) }
     ensures evens { (k : ℕ) → k < length odds.old → at evens.new k ≡ even_of transform (at low.now k) (at high.now k) (at next.now k) }
     ensures odds { (k : ℕ) → k < length odds.old → at odds.new k ≡ odd_of transform (at high.now k) (at above.now k) (even_of transform (at low.now k) (at high.now k) (at next.now k)) }
 {
@@ -131,7 +135,7 @@ pub fn raise(transform: Transform, out: &mut [i16], high: &[i16], left: &[i16], 
     requires high_len { length high.now ≡ length out.old }
     requires left_len { length left.now ≡ length out.old }
     requires right_len { length right.now ≡ length out.old }
-    requires high { AllWithin 6143 high.now }
+    requires high { AllWithin 8191 high.now }
     requires left { AllWithin 16382 left.now }
     requires right { AllWithin 16382 right.now }
     ensures { (k : ℕ) → k < length out.old → at out.new k ≡ odd_of transform (at high.now k) (at left.now k) (at right.now k) }

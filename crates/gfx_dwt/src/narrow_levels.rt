@@ -1,8 +1,8 @@
-ghost use Rattle.std.specs.Prelude.{◌≡◌, ℕ, ◌+◌, ◌*◌, ◌<◌, ℤ, List, length, pos, false, IsTrue};
+ghost use Rattle.std.specs.Prelude.{◌≡◌, ℕ, ◌+◌, ◌*◌, ◌<◌, ◌≤◌, ℤ, List, length, pos, false, IsTrue};
 ghost use Rattle.gfx_dwt.specs.declared.layout.Band.TheVariants.{Ll3};
 ghost use Rattle.gfx_dwt.specs.declared.layout.Scale.TheVariants.{First, Second, Third};
 ghost use Rattle.gfx_dwt.specs.Joining.{joined};
-ghost use Rattle.gfx_dwt.specs.Narrow.{IsNarrow, StaysNarrow, level_of};
+ghost use Rattle.gfx_dwt.specs.Narrow.{AreSmall, IsNarrow, StaysNarrow, level_of};
 ghost use Rattle.gfx_dwt.specs.Place.{coefficient, high_size, line_size, low_size, low_start, part_start};
 ghost use Rattle.gfx_dwt.specs.Ranges.{AllWithin, at};
 ghost use Rattle.gfx_dwt.specs.Samples.{cell, quarter, sample, second_level, third_level};
@@ -13,7 +13,7 @@ use crate::narrow_range::{are_small, is_low};
 use crate::narrow_smooth::{smooth_columns, smooth_rows};
 use crate::noughts::all_are;
 
-/// Joins the rows of a level's quarters: those of its low half, and those of its high half.
+/// Joins the rows of a level's quarters, with room in spare memory: those of its low half, and those of its high half.
 fn join_narrow_quarters(
     transform: Transform,
     level: Scale,
@@ -21,13 +21,14 @@ fn join_narrow_quarters(
     bands: &[i16],
     above: &mut [i16],
     below: &mut [i16],
+    spare: &mut [i16],
 )
     requires low_len { length low.now ≡ low_size transform level * low_size transform level }
     requires bands_len { length bands.now ≡ low_start transform level }
     requires above_len { length above.old ≡ low_size transform level * line_size transform level }
     requires below_len { length below.old ≡ high_size transform level * line_size transform level }
-    requires low { AllWithin 10239 low.now }
-    requires bands { AllWithin 6143 bands.now }
+    requires spare_len { 2 * (low_size transform level * (low_size transform level + 1)) ≤ length spare.old }
+    requires small { AreSmall low.now bands.now }
     ensures above { (r x : ℕ) → r < low_size transform level → x < line_size transform level → cell (line_size transform level) above.new r x ≡ joined transform level (cell (low_size transform level) low.now r) (quarter 0 (high_size transform level) bands.now r) x }
     ensures below { (r x : ℕ) → r < high_size transform level → x < line_size transform level → cell (line_size transform level) below.new r x ≡ joined transform level (quarter (low_size transform level * high_size transform level) (low_size transform level) bands.now r) (quarter (low_size transform level * high_size transform level + high_size transform level * low_size transform level) (high_size transform level) bands.now r) x }
 {
@@ -35,12 +36,12 @@ fn join_narrow_quarters(
     let high_size = level.high_size(transform);
     let (hl, rest) = bands.split_at(low_size * high_size);
     let (lh, hh) = rest.split_at(high_size * low_size);
-    join_narrow_rows(transform, level, low, hl, above, low_size);
-    join_narrow_rows(transform, level, lh, hh, below, high_size);
+    join_narrow_rows(transform, level, low, hl, above, low_size, spare);
+    join_narrow_rows(transform, level, lh, hh, below, high_size, spare);
 }
 
 /// Joins a level of its low quarter and its bands in a plane, where all numbers are small enough. HL, LH and HH stand
-/// one behind the other.
+/// one behind the other. The plane that the columns are joined into is the room for joining the rows.
 fn join_detailed(
     transform: Transform,
     level: Scale,
@@ -62,7 +63,7 @@ fn join_detailed(
     }
     let (above, rest) = rows.split_at_mut(low_size * width);
     let (below, _) = rest.split_at_mut((width - low_size) * width);
-    join_narrow_quarters(transform, level, low, bands, above, below);
+    join_narrow_quarters(transform, level, low, bands, above, below, out);
     if !are_small(above, below) {
         return false;
     }
@@ -81,7 +82,7 @@ fn join_smooth(
     requires low_len { length low.now ≡ low_size transform level * low_size transform level }
     requires out_len { length out.old ≡ line_size transform level * line_size transform level }
     ensures joined { IsTrue result → (plane : List ℤ) → ((k : ℕ) → k < low_start transform level → at plane (part_start transform level + k) ≡ pos 0) → (y x : ℕ) → y < line_size transform level → x < line_size transform level → cell (line_size transform level) out.new y x ≡ level_of transform level plane (cell (low_size transform level) low.now) y x }
-    ensures wide { result ≡ false → AllWithin 10239 low.now → ⊥ }
+    ensures wide { result ≡ false → AllWithin 16382 low.now → ⊥ }
 {
     if !is_low(low) {
         return false;

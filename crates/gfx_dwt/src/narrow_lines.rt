@@ -1,23 +1,23 @@
 ghost use Rattle.std.specs.Prelude.{◌≡◌, ℕ, ◌+◌, ◌-◌, ◌*◌, ◌/◌, ◌<◌, ◌≤◌, length};
-ghost use Rattle.gfx_dwt.specs.Place.{high_size, line_size, low_size};
-ghost use Rattle.gfx_dwt.specs.Joining.{behind, edged, joined};
+ghost use Rattle.gfx_dwt.specs.Place.{high_size, low_size};
+ghost use Rattle.gfx_dwt.specs.Joining.{behind, edged};
 ghost use Rattle.gfx_dwt.specs.Lifting.{even_of, odd_of};
-ghost use Rattle.gfx_dwt.specs.Ranges.{AllWithin, at};
+ghost use Rattle.gfx_dwt.specs.Ranges.{AllWithin, Within, at};
 
 use crate::layout::{Scale, Transform};
-use crate::narrow_kernels::{fill, lower, raise};
+use crate::narrow_formula::{NarrowLifting, PlainNarrow, ReducedNarrow, odd_sample};
+use crate::narrow_kernels::{fill, lower};
 
 /// Writes places with the first one twice.
 #[inline(always)]
 fn put_behind_first(places: &[i16], out: &mut [i16])
     requires some { 0 < length places.now }
     requires out_len { length places.now < length out.old }
+    requires places { AllWithin 8191 places.now }
     ensures { (k : ℕ) → k < length places.now + 1 → at out.new k ≡ at places.now (k - 1) }
 {
     out[0] = places[0];
-    for k in 0..places.len() {
-        out[k + 1] = places[k];
-    }
+    out[1..places.len() + 1].copy_from_slice(places);
 }
 
 /// What stands behind the end of a high half with this last place.
@@ -36,10 +36,10 @@ fn place_behind(transform: Transform, level: Scale, last: i16) -> i16
 
 /// Writes a high half with what stands in front of it and behind its end.
 #[inline(always)]
-fn put_edged(transform: Transform, level: Scale, high: &[i16], edges: &mut [i16])
+pub fn put_edged(transform: Transform, level: Scale, high: &[i16], edges: &mut [i16])
     requires high_len { length high.now ≡ high_size transform level }
     requires edges_len { length edges.old ≡ low_size transform level + 1 }
-    requires high { AllWithin 6143 high.now }
+    requires high { AllWithin 8191 high.now }
     ensures { (k : ℕ) → k < length edges.old → at edges.new k ≡ edged transform level (at high.now) (k - 1) }
 {
     put_behind_first(high, edges);
@@ -49,12 +49,13 @@ fn put_edged(transform: Transform, level: Scale, high: &[i16], edges: &mut [i16]
 
 /// Writes the even samples of a line, and the last of them again.
 #[inline(always)]
-fn put_evens(transform: Transform, low: &[i16], edges: &[i16], evens: &mut [i16])
+pub fn put_evens(transform: Transform, low: &[i16], edges: &[i16], evens: &mut [i16])
     requires some { 0 < length low.now }
     requires edges_len { length edges.now ≡ length low.now + 1 }
     requires evens_len { length evens.old ≡ length low.now + 1 }
-    requires low { AllWithin 10239 low.now }
-    requires edges { AllWithin 6143 edges.now }
+    requires low { AllWithin 16382 low.now }
+    requires edges { AllWithin 8191 edges.now }
+    requires evens { (k : ℕ) → k < length low.now → Within 16382 (even_of transform (at low.now k) (at edges.now k) (at edges.now (k + 1))) }
     ensures each { (k : ℕ) → k < length low.now → at evens.new k ≡ even_of transform (at low.now k) (at edges.now k) (at edges.now (k + 1)) }
     ensures last { at evens.new (length low.now) ≡ at evens.new (length low.now - 1) }
 {
@@ -67,25 +68,6 @@ fn put_evens(transform: Transform, low: &[i16], edges: &[i16], evens: &mut [i16]
         &edges[1..end + 1],
     );
     evens[end] = evens[end - 1];
-}
-
-/// Writes the odd samples of a line.
-#[inline(always)]
-fn put_odds(transform: Transform, edges: &[i16], evens: &[i16], odds: &mut [i16])
-    requires edges_len { length odds.old + 1 ≤ length edges.now }
-    requires evens_len { length odds.old + 1 ≤ length evens.now }
-    requires edges { AllWithin 6143 edges.now }
-    requires evens { AllWithin 16382 evens.now }
-    ensures { (k : ℕ) → k < length odds.old → at odds.new k ≡ odd_of transform (at edges.now (k + 1)) (at evens.now k) (at evens.now (k + 1)) }
-{
-    let count = odds.len();
-    raise(
-        transform,
-        odds,
-        &edges[1..count + 1],
-        &evens[..count],
-        &evens[1..count + 1],
-    );
 }
 
 /// Writes pairs, each an even sample and the odd one behind it.
@@ -113,66 +95,37 @@ pub fn put_last(out: &mut [i16], place: usize, value: i16)
     }
 }
 
-/// Joins a line of its halves, in places for its high half with its edges, and for its even and its odd samples.
+/// Writes the pairs of a line. Both numbers go straight to their places: the compiler does many of them at a time, and
+/// wouldn't with an array of odd samples in between.
 #[inline(always)]
-fn join_line_in(
-    transform: Transform,
-    level: Scale,
-    low: &[i16],
-    high: &[i16],
-    edges: &mut [i16],
-    evens: &mut [i16],
-    odds: &mut [i16],
-    out: &mut [i16],
-)
-    requires low_len { length low.now ≡ low_size transform level }
-    requires high_len { length high.now ≡ high_size transform level }
-    requires edges_len { length edges.old ≡ low_size transform level + 1 }
-    requires evens_len { length evens.old ≡ low_size transform level + 1 }
-    requires odds_len { length odds.old ≡ line_size transform level / 2 }
-    requires out_len { length out.old ≡ line_size transform level }
-    requires low { AllWithin 10239 low.now }
-    requires high { AllWithin 6143 high.now }
-    ensures { (k : ℕ) → k < length out.old → at out.new k ≡ joined transform level (at low.now) (at high.now) k }
+fn pairs_by<L: NarrowLifting>(edges: &[i16], evens: &[i16], out: &mut [i16])
+    requires edges_len { length out.old / 2 + 1 ≤ length edges.now }
+    requires evens_len { length out.old / 2 + 1 ≤ length evens.now }
+    requires edges { AllWithin 8191 edges.now }
+    requires evens { AllWithin 16382 evens.now }
+    ensures evens { (k : ℕ) → k < length out.old / 2 → at out.new (2 * k) ≡ at evens.now k }
+    ensures odds { (k : ℕ) → k < length out.old / 2 → at out.new (2 * k + 1) ≡ odd_of L.transform (at edges.now (k + 1)) (at evens.now k) (at evens.now (k + 1)) }
 {
-    let count = odds.len();
-    put_edged(transform, level, high, edges);
-    put_evens(transform, low, edges, evens);
-    put_odds(transform, edges, evens, odds);
-    put_pairs(evens, odds, out);
-    put_last(out, 2 * count, evens[count]);
+    for k in 0..out.len() / 2 {
+        out[2 * k] = evens[k];
+        out[2 * k + 1] = odd_sample::<L>(edges[k + 1], evens[k], evens[k + 1]);
+    }
 }
 
-/// Joins a line of its halves. The even samples come first, then the odd ones, and then both are put together: so each
-/// is done on many numbers at a time.
+/// Writes a line, from its high half with its edges and from its even samples with the last of them again.
 #[inline(always)]
-pub fn join_narrow_line(
-    transform: Transform,
-    level: Scale,
-    low: &[i16],
-    high: &[i16],
-    out: &mut [i16],
-)
-    requires low_len { length low.now ≡ low_size transform level }
-    requires high_len { length high.now ≡ high_size transform level }
-    requires out_len { length out.old ≡ line_size transform level }
-    requires low { AllWithin 10239 low.now }
-    requires high { AllWithin 6143 high.now }
-    ensures { (k : ℕ) → k < length out.old → at out.new k ≡ joined transform level (at low.now) (at high.now) k }
+pub fn put_line(transform: Transform, edges: &[i16], evens: &[i16], out: &mut [i16])
+    requires edges_len { length out.old / 2 + 1 ≤ length edges.now }
+    requires evens_len { length out.old / 2 + 1 ≤ length evens.now }
+    requires edges { AllWithin 8191 edges.now }
+    requires evens { AllWithin 16382 evens.now }
+    ensures evens { (k : ℕ) → 2 * k < length out.old → at out.new (2 * k) ≡ at evens.now k }
+    ensures odds { (k : ℕ) → 2 * k + 1 < length out.old → at out.new (2 * k + 1) ≡ odd_of transform (at edges.now (k + 1)) (at evens.now k) (at evens.now (k + 1)) }
 {
-    let mut edges = [0; 34];
-    let mut evens = [0; 34];
-    let mut odds = [0; 32];
-    let size = level.low_size(transform) + 1;
-    let count = (level.low_size(transform) + level.high_size(transform)) / 2;
-    join_line_in(
-        transform,
-        level,
-        low,
-        high,
-        &mut edges[..size],
-        &mut evens[..size],
-        &mut odds[..count],
-        out,
-    );
+    let count = out.len() / 2;
+    match transform {
+        Transform::Plain => pairs_by::<PlainNarrow>(edges, evens, out),
+        Transform::Reduced => pairs_by::<ReducedNarrow>(edges, evens, out),
+    }
+    put_last(out, 2 * count, evens[count]);
 }

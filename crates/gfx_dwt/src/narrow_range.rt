@@ -1,19 +1,13 @@
-ghost use Rattle.std.specs.Prelude.{◌≡◌, ℕ, pos, MatchBool, ◌≤ℤ◌};
+ghost use Rattle.std.specs.Prelude.{ℕ, ◌≤◌, MatchBool, ◌≤ℤ◌};
 ghost use Rattle.gfx_dwt.specs.Narrow.{AreSmall};
 ghost use Rattle.gfx_dwt.specs.Ranges.{AllWithin, Within};
 
-/// Up to this magnitude of its low half, and the next one of its high half, a line is joined in 16 bits.
-const LOW: i16 = 10_239;
+/// Up to this magnitude of its high half a line is joined in 16 bits: then an odd sample has room, twice a high number and
+/// half the sum of two even samples.
+const HIGH: u16 = 8_191;
 
-const HIGH: i16 = 6_143;
-
-#[inline]
-fn is_within(value: i16, most: i16) -> bool
-    requires { pos 0 ≤ℤ most }
-    ensures { (bound : ℕ) → most ≡ pos bound → MatchBool result (Within bound value) (Within bound value → ⊥) }
-{
-    -most <= value && value <= most
-}
+/// What the greatest magnitudes of the two halves of such a line, and so an even sample, may be together.
+const BOTH: u16 = 16_382;
 
 /// The lower of two numbers.
 #[inline]
@@ -35,11 +29,11 @@ fn higher(one: i16, other: i16) -> i16
     if one < other { other } else { one }
 }
 
-/// Whether no number is beyond a magnitude: the lowest and the highest aren't.
+/// The greatest magnitude among numbers: that of the lowest or of the highest of them and nought.
 // No early return: so it is done on many numbers at a time.
-fn are_within(values: &[i16], most: i16) -> bool
-    requires { pos 0 ≤ℤ most }
-    ensures { (bound : ℕ) → most ≡ pos bound → MatchBool result (AllWithin bound values.now) (AllWithin bound values.now → ⊥) }
+fn most_of(values: &[i16]) -> u16
+    ensures all { AllWithin result values.now }
+    ensures least { (bound : ℕ) → AllWithin bound values.now → result ≤ bound }
 {
     let mut lowest = 0;
     let mut highest = 0;
@@ -47,19 +41,21 @@ fn are_within(values: &[i16], most: i16) -> bool
         lowest = lower(lowest, values[place]);
         highest = higher(highest, values[place]);
     }
-    is_within(lowest, most) & is_within(highest, most)
+    lowest.unsigned_abs().max(highest.unsigned_abs())
 }
 
-/// Whether no number of a low and of a high half is beyond the half's magnitude.
+/// Whether a low and a high half fit 16 bits together.
 pub fn are_small(low: &[i16], high: &[i16]) -> bool
     ensures { MatchBool result (AreSmall low.now high.now) (AreSmall low.now high.now → ⊥) }
 {
-    are_within(low, LOW) & are_within(high, HIGH)
+    let low = most_of(low);
+    let high = most_of(high);
+    high <= HIGH && low <= BOTH - high
 }
 
-/// Whether no number is beyond the magnitude of a low half.
+/// Whether a low half fits 16 bits where the high one is nought.
 pub fn is_low(values: &[i16]) -> bool
-    ensures { MatchBool result (AllWithin 10239 values.now) (AllWithin 10239 values.now → ⊥) }
+    ensures { MatchBool result (AllWithin 16382 values.now) (AllWithin 16382 values.now → ⊥) }
 {
-    are_within(values, LOW)
+    most_of(values) <= BOTH
 }

@@ -15,7 +15,7 @@ use crate::narrow_lines::{put_last, put_pairs};
 fn put_with_last(places: &[i16], out: &mut [i16])
     requires some { 0 < length places.now }
     requires out_len { length out.old ≡ length places.now + 1 }
-    requires places { AllWithin 10239 places.now }
+    requires places { AllWithin 16382 places.now }
     ensures each { (k : ℕ) → k < length places.now → at out.new k ≡ at places.now k }
     ensures last { at out.new (length places.now) ≡ at places.now (length places.now - 1) }
 {
@@ -49,7 +49,7 @@ fn smooth_line_in(
     requires evens_len { length evens.old ≡ low_size transform level + 1 }
     requires odds_len { length odds.old ≡ line_size transform level / 2 }
     requires out_len { length out.old ≡ line_size transform level }
-    requires low { AllWithin 10239 low.now }
+    requires low { AllWithin 16382 low.now }
     ensures { (k : ℕ) → k < length out.old → at out.new k ≡ joined transform level (at low.now) (λ n. pos 0) k }
 {
     let count = odds.len();
@@ -64,7 +64,7 @@ fn smooth_line_in(
 fn smooth_line(transform: Transform, level: Scale, low: &[i16], out: &mut [i16])
     requires low_len { length low.now ≡ low_size transform level }
     requires out_len { length out.old ≡ line_size transform level }
-    requires low { AllWithin 10239 low.now }
+    requires low { AllWithin 16382 low.now }
     ensures { (k : ℕ) → k < length out.old → at out.new k ≡ joined transform level (at low.now) (λ n. pos 0) k }
 {
     let mut evens = [0; 34];
@@ -87,9 +87,9 @@ fn smooth_rows_of(transform: Transform, level: Scale, low: &[i16], out: &mut [i1
     requires rows { rows ≤ 64 }
     requires low_len { length low.now ≡ rows * low_size transform level }
     requires out_len { length out.old ≡ rows * line_size transform level }
-    requires low { AllWithin 10239 low.now }
+    requires low { AllWithin 16382 low.now }
     ensures each { (r c : ℕ) → r < rows → c < line_size transform level → cell (line_size transform level) out.new r c ≡ joined transform level (cell (low_size transform level) low.now r) (λ n. pos 0) c }
-    ensures within { AllWithin 10239 out.new }
+    ensures within { AllWithin 16382 out.new }
 {
     let low_size = level.low_size(transform);
     let size = low_size + level.high_size(transform);
@@ -100,34 +100,25 @@ fn smooth_rows_of(transform: Transform, level: Scale, low: &[i16], out: &mut [i1
     }
 }
 
-/// The same. Sizes are known in each of the cases, so that each has loops of its own.
+/// The same. The sizes of the first level are known, so that it has loops of its own; those of the others aren't, since
+/// the compiler unrolls short loops and then does one number at a time.
 pub fn smooth_rows(transform: Transform, level: Scale, low: &[i16], out: &mut [i16], rows: usize)
     requires rows { rows ≤ 64 }
     requires low_len { length low.now ≡ rows * low_size transform level }
     requires out_len { length out.old ≡ rows * line_size transform level }
-    requires low { AllWithin 10239 low.now }
+    requires low { AllWithin 16382 low.now }
     ensures each { (r c : ℕ) → r < rows → c < line_size transform level → cell (line_size transform level) out.new r c ≡ joined transform level (cell (low_size transform level) low.now r) (λ n. pos 0) c }
-    ensures within { AllWithin 10239 out.new }
+    ensures within { AllWithin 16382 out.new }
 {
     match (transform, level) {
         (Transform::Plain, Scale::First) => {
             smooth_rows_of(Transform::Plain, Scale::First, low, out, rows)
         }
-        (Transform::Plain, Scale::Second) => {
-            smooth_rows_of(Transform::Plain, Scale::Second, low, out, rows)
-        }
-        (Transform::Plain, Scale::Third) => {
-            smooth_rows_of(Transform::Plain, Scale::Third, low, out, rows)
-        }
+        (Transform::Plain, _) => { smooth_rows_of(Transform::Plain, level, low, out, rows) }
         (Transform::Reduced, Scale::First) => {
             smooth_rows_of(Transform::Reduced, Scale::First, low, out, rows)
         }
-        (Transform::Reduced, Scale::Second) => {
-            smooth_rows_of(Transform::Reduced, Scale::Second, low, out, rows)
-        }
-        (Transform::Reduced, Scale::Third) => {
-            smooth_rows_of(Transform::Reduced, Scale::Third, low, out, rows)
-        }
+        (Transform::Reduced, _) => { smooth_rows_of(Transform::Reduced, level, low, out, rows) }
     }
 }
 
@@ -153,7 +144,7 @@ fn smooth_columns_of(transform: Transform, level: Scale, low: &[i16], out: &mut 
     requires width { width ≡ line_size transform level }
     requires low_len { length low.now ≡ low_size transform level * width }
     requires out_len { length out.old ≡ width * width }
-    requires low { AllWithin 10239 low.now }
+    requires low { AllWithin 16382 low.now }
     ensures { (y x : ℕ) → y < width → x < width → cell width out.new y x ≡ joined transform level (column width low.now x) (λ n. pos 0) y }
 {
     let end = level.low_size(transform) - 1;
@@ -173,7 +164,8 @@ fn smooth_columns_of(transform: Transform, level: Scale, low: &[i16], out: &mut 
     }
 }
 
-/// The same. Sizes are known in each of the cases, so that each has loops of its own.
+/// The same. The sizes of the first level are known, so that it has loops of its own; those of the others aren't, since
+/// the compiler unrolls short loops and then does one number at a time.
 pub fn smooth_columns(
     transform: Transform,
     level: Scale,
@@ -184,27 +176,17 @@ pub fn smooth_columns(
     requires width { width ≡ line_size transform level }
     requires low_len { length low.now ≡ low_size transform level * width }
     requires out_len { length out.old ≡ width * width }
-    requires low { AllWithin 10239 low.now }
+    requires low { AllWithin 16382 low.now }
     ensures { (y x : ℕ) → y < width → x < width → cell width out.new y x ≡ joined transform level (column width low.now x) (λ n. pos 0) y }
 {
     match (transform, level) {
         (Transform::Plain, Scale::First) => {
             smooth_columns_of(Transform::Plain, Scale::First, low, out, 64)
         }
-        (Transform::Plain, Scale::Second) => {
-            smooth_columns_of(Transform::Plain, Scale::Second, low, out, 32)
-        }
-        (Transform::Plain, Scale::Third) => {
-            smooth_columns_of(Transform::Plain, Scale::Third, low, out, 16)
-        }
+        (Transform::Plain, _) => { smooth_columns_of(Transform::Plain, level, low, out, width) }
         (Transform::Reduced, Scale::First) => {
             smooth_columns_of(Transform::Reduced, Scale::First, low, out, 64)
         }
-        (Transform::Reduced, Scale::Second) => {
-            smooth_columns_of(Transform::Reduced, Scale::Second, low, out, 33)
-        }
-        (Transform::Reduced, Scale::Third) => {
-            smooth_columns_of(Transform::Reduced, Scale::Third, low, out, 17)
-        }
+        (Transform::Reduced, _) => { smooth_columns_of(Transform::Reduced, level, low, out, width) }
     }
 }

@@ -5,39 +5,6 @@ ghost use Rattle.gfx_dwt.specs.Noughts.{AllAre, BlankBlocks, SomeIsNot};
 const BLOCK: usize = 64;
 
 #[inline]
-fn is_nought(value: i32) -> bool
-    ensures { MatchBool result (value ≡ pos 0) (value ≢ pos 0) }
-{
-    value == 0
-}
-
-/// Whether all numbers of a block are nought.
-// No early return: so it is done on many numbers at a time.
-#[inline]
-fn are_nought(block: &[i32]) -> bool
-    ensures { MatchBool result (AllAre (pos 0) block.now) (SomeIsNot (pos 0) block.now) }
-{
-    let mut nought = true;
-    for place in 0..block.len() {
-        nought &= is_nought(block[place]);
-    }
-    nought
-}
-
-/// How many numbers at the front of a plane are nought, in whole blocks; it is all where the plane is nought.
-pub fn noughts_before(plane: &[i32; 4096]) -> usize
-    ensures { BlankBlocks plane.now result }
-{
-    for block in 0..64 {
-        let start = BLOCK * block;
-        if !are_nought(&plane[start..start + BLOCK]) {
-            return start;
-        }
-    }
-    4096
-}
-
-#[inline]
 fn is_same(value: i16, other: i16) -> bool
     ensures { MatchBool result (value ≡ other) (value ≢ other) }
 {
@@ -45,7 +12,7 @@ fn is_same(value: i16, other: i16) -> bool
 }
 
 /// Whether all numbers of a block are this one.
-// No early return, as above.
+// No early return: so it is done on many numbers at a time.
 #[inline]
 fn are_same(block: &[i16], one: i16) -> bool
     ensures { MatchBool result (AllAre one block.now) (SomeIsNot one block.now) }
@@ -55,6 +22,19 @@ fn are_same(block: &[i16], one: i16) -> bool
         same &= is_same(block[place], one);
     }
     same
+}
+
+/// How many numbers at the front of a plane are nought, in whole blocks; it is all where the plane is nought.
+pub fn noughts_before(plane: &[i16; 4096]) -> usize
+    ensures { BlankBlocks plane.now result }
+{
+    for block in 0..64 {
+        let start = BLOCK * block;
+        if !are_same(&plane[start..start + BLOCK], 0) {
+            return start;
+        }
+    }
+    4096
 }
 
 /// Whether all numbers of a slice are this one; it stops at the first block that has another.

@@ -1,5 +1,5 @@
 -- A whole cell of which one area has all, drawn at once.
-use Rattle.std.proofs.Common.{◌≡◌, ◌∙◌, ap, sym, refl, Bool, true, false, ◌&&◌, ◌||◌, if◌then◌else◌, ℕ, ◌+◌, ◌-◌, ◌*◌, ◌<◌, ◌==◌, List, [], ◌∷◌, length, get_or, arith}
+use Rattle.std.proofs.Common.{◌≡◌, ◌∙◌, ap, sym, refl, Bool, true, false, ◌&&◌, ◌||◌, if◌then◌else◌, ℕ, ◌+◌, ◌-◌, ◌*◌, ◌/◌, ◌%◌, ◌<◌, ◌==◌, List, [], ◌∷◌, length, get_or, arith}
 use Rattle.std.specs.List.{list_any}
 use Rattle.std.proofs.lemmas.Bool.{and_parts, eqb-true}
 use Rattle.std.proofs.lemmas.Bool.Decides.{nat_tests}
@@ -8,7 +8,7 @@ use Rattle.gfx_base.specs.declared.geometry.Rect.{Rect}
 use Rattle.gfx_base.specs.declared.pixel.Pixel.{Pixel}
 use Rattle.gfx_base.specs.Geometry.{holds, width_of, height_of}
 use Rattle.gfx_prog_block.specs.declared.area.Area.{Area}
-use Rattle.gfx_surface.specs.Picture.{Picture, overlaid, in_rect, redrawn, shade, no_pixel, pixel_at}
+use Rattle.gfx_surface.specs.Picture.{Picture, AreOpaque, overlaid, in_rect, redrawn, shade, no_pixel, pixel_at}
 use Rattle.gfx_tile_state.specs.declared.state.TileState.{TileState}
 use Rattle.gfx_tile_state.specs.Record.{pixel_of}
 use Rattle.gfx_prog_decode.specs.declared.key.Key.{Key}
@@ -51,6 +51,15 @@ pub fills : (cell : Rect) (areas : List Area) (pixels : List Pixel) → is_whole
 fills cell areas pixels whole long =
     let is = wholeness cell areas whole in
     long ∙ sym (λ i. is.width i * is.height i)
+
+-- and a tile's pixels are opaque
+pub opaque_pixels : (tile : TileState) (pixels : List Pixel) → length pixels ≡ 4096 → ArePixels tile pixels → AreOpaque pixels
+opaque_pixels tile pixels long each k below =
+    let place : k / 64 * 64 + k % 64 ≡ k = omega arith in
+    let low : k / 64 < 64 = omega arith in
+    let wide : k % 64 < 64 = omega arith in
+    ap (λ n. (get_or pixels n no_pixel).a) (sym place)
+    ∙ ap (λ (pixel : Pixel). pixel.a) (get_or_from_slice_get pixels (k / 64 * 64 + k % 64) (pixel_of tile (k / 64) (k % 64)) no_pixel (each (k / 64) (k % 64) low wide))
 
 column : (cell : Rect) (x y : ℕ) → holds cell x y ≡ true → width_of cell ≡ 64 → x - cell.left < 64
 column cell x y hit width = grind (arith, nat_tests)

@@ -57,12 +57,13 @@ fn show_pixels(
 )
     requires canvas { IsCanvas canvas.old }
     requires begins { IsTrue (begins_in surface.old.width surface.old.height key.x key.y) }
+    requires tile { (tile : Record) × ArePixels tile pixels.now }
     ensures shown { (tile : Record) → ArePixels tile pixels.now → surface.new ≡ shown_in surface.old key areas.now tile }
     ensures canvas { IsCanvas canvas.new }
 {
     let cell = cell_in(surface.size(), key);
     if is_whole(cell, areas) {
-        surface.put(cell, pixels);
+        surface.put_opaque(cell, pixels);
         return;
     }
     canvas.put(Rect::sized(SIDE, SIDE), pixels);

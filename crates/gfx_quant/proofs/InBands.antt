@@ -99,9 +99,3 @@ more_bands i t positions plane band position from count true true e ep es ez bef
 more_bands i t positions plane band position from count true false e ep es ez before some =
     (band, (some.0, ((omega (arith, some.1.0), omega (arith, some.1.1)), rw ep at (lacks_is position (at plane some.0) some.1.2))))
 more_bands i t positions plane band position from count false here e ep es ez before h = before
-
--- the values of a band that is still due have coefficients
-pub due_have : (i : ℕ) (t : Transform) (f : Band → ℤ → ℤ) (positions : List ℕ) (old now : List ℤ) (band : Band) (position from count : ℕ) → number band ≡ i → i < 10 → position ≡ value_of positions band → from ≡ start t band → count ≡ size t band → PlaneHas 10 t positions old → MapsFirst i t f old old now → AllHave position now from (from + count)
-due_have i t f positions old now band position from count e h ep es ez has before k a b =
-    let lies : LiesIn t band k = (omega arith, omega arith) in
-    rw (ep, before.due band k (omega arith) lies) (has band k (omega arith) lies)

@@ -2,7 +2,7 @@
 use Rattle.std.proofs.Common.{◌≡◌, ℕ, suc, zero, ◌+◌, ◌-◌, ◌*◌, ◌/◌, ◌^◌, ◌<◌, ◌≤◌, Bool, true, false, ℤ, pos, negsuc, neg_ℤ, ◌*ℤ◌, ◌≤ℤ◌, ◌<ℤ◌, List, arith, refl, sym, ◌∙◌, inl, inr, below_more, lit<, ⊎_elim}
 use Rattle.std.specs.Prelude.{◌&&◌, ◌⊎◌, MatchBool}
 use Rattle.std.proofs.lemmas.Int.{ints}
-use Rattle.std.proofs.Math.Nat.{mul-le-mul_right, div-mul-le_self, one-le-pow}
+use Rattle.std.proofs.Math.Nat.{mul-le-mul_right, div-le_self, div-mul-le_self, one-le-pow}
 use Rattle.gfx_dwt.specs.Ranges.{at}
 use Rattle.gfx_quant.specs.Coefficient.{coefficient_of, is_coefficient}
 use Rattle.gfx_quant.specs.Planes.{AllHave, SomeLacks, has_coefficient}
@@ -110,3 +110,18 @@ spans_decide position values from to lowest highest least most true true e f s p
     bounds_decide position (at values k) least most true e f (omega (arith, ints, p.0, one), omega (arith, ints, q.1, two))
 spans_decide position values from to lowest highest least most true false e f s p q = lacks position values from to highest s.high_found (bounds_decide position highest least most false e f q)
 spans_decide position values from to lowest highest least most false high e f s p q = lacks position values from to lowest s.low_found (bounds_decide position lowest least most false e f p)
+
+-- a number beyond 16 bits has no coefficient at any bit position
+pub beyond_lacks : (position : ℕ) (v : ℤ) → is_coefficient v ≡ false → has_coefficient position v ≡ false
+beyond_lacks position (pos m) e = ⊎_elim
+    (λ (h : m < 32768). cc (below_is m h, e))
+    (λ (h : 32768 ≤ m).
+    let less = div-le_self 32767 (2 ^ (position - 1)) in
+    outside (pos m) (2 ^ (position - 1)) (one-le-pow (position - 1) 2 (lit< tt)) (inr (omega (arith, ints, less))))
+    (either m 32768)
+beyond_lacks position (negsuc m) e = ⊎_elim
+    (λ (h : m < 32768). cc (minus_below_is (suc m) (omega arith), e))
+    (λ (h : 32768 ≤ m).
+    let less = div-le_self 32768 (2 ^ (position - 1)) in
+    outside (negsuc m) (2 ^ (position - 1)) (one-le-pow (position - 1) 2 (lit< tt)) (inl (omega (arith, ints, less))))
+    (either m 32768)

@@ -1,5 +1,5 @@
 -- Whole planes of a component, by their places (this project's own words).
-use Rattle.std.specs.Prelude.{◌≡◌, ℕ, ◌<◌, ◌≤◌, ℤ, List, length, Bool, true, false, Some, None, slice_get, slice_index}
+use Rattle.std.specs.Prelude.{◌≡◌, ℕ, ◌<◌, ◌≤◌, ℤ, List, Bool, true, false, Some, None, slice_get, slice_index}
 use Rattle.gfx_base.specs.declared.pixel.Pixel.{Pixel}
 use Rattle.gfx_dwt.specs.declared.layout.Transform.{Transform}
 use Rattle.gfx_dwt.specs.declared.layout.Band.{Band}
@@ -38,14 +38,6 @@ AllHave position values from to = (k : ℕ) → from ≤ k → k < to → has_co
 -- some value from one place to before another has none
 abbrev pub SomeLacks : ℕ → List ℤ → ℕ → ℕ → Type 0
 SomeLacks position values from to = (k : ℕ) × ((from ≤ k) × (k < to) × (has_coefficient position (at values k) ≡ false))
-
--- each value of a band became its coefficient
-abbrev pub DequantisesBand : ℕ → List ℤ → List ℤ → Type 0
-DequantisesBand position old new = (k : ℕ) → k < length old → dequantised (at old k) position ≡ Some (at new k)
-
--- some value of a band has no coefficient
-abbrev pub BandLeavesRange : ℕ → List ℤ → Type 0
-BandLeavesRange position values = (k : ℕ) × ((k < length values) × (dequantised (at values k) position ≡ None))
 
 -- each value of a plane became its coefficient, at the bit position of its band
 abbrev pub Dequantises : Transform → List ℕ → List ℤ → List ℤ → Type 0

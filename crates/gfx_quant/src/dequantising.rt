@@ -2,7 +2,7 @@ ghost use Rattle.std.specs.Prelude.{◌≡◌, ℕ, ◌≤◌, ◌<◌, ◌-◌,
 ghost use Rattle.gfx_dwt.specs.Place.{number};
 ghost use Rattle.gfx_dwt.specs.Ranges.{AllCoefficients, IsCoefficient, at};
 ghost use Rattle.gfx_quant.specs.Coefficient.{coefficient_of};
-ghost use Rattle.gfx_quant.specs.Planes.{AllHave, ArePositions, BandLeavesRange, Dequantises, DequantisesBand, LeavesRange, MapsBands, MapsBetween, PlaneHas, SomeLacks};
+ghost use Rattle.gfx_quant.specs.Planes.{AllHave, ArePositions, Dequantises, LeavesRange, MapsBands, MapsBetween, PlaneHas, SomeLacks};
 ghost use Rattle.gfx_quant.specs.Quant.{value_of};
 
 use crate::bands::{band_size, band_start, nth_band};
@@ -10,26 +10,26 @@ use gfx_dwt::{Transform, noughts_before};
 
 /// The least value that has a coefficient at this bit position.
 #[inline]
-fn least(position: u8) -> i32
+fn least(position: u8) -> i16
     requires low { 1 ≤ position }
     requires high { position ≤ 30 }
     ensures { result ≡ neg_ℤ (pos (32768 / 2 ^ (position - 1))) }
 {
-    -((32_768u32 >> (position - 1)) as i32)
+    (-((32_768u32 >> (position - 1)) as i32)) as i16
 }
 
 /// The greatest value that has a coefficient at this bit position.
 #[inline]
-fn most(position: u8) -> i32
+fn most(position: u8) -> i16
     requires low { 1 ≤ position }
     requires high { position ≤ 30 }
     ensures { result ≡ pos (32767 / 2 ^ (position - 1)) }
 {
-    (32_767u32 >> (position - 1)) as i32
+    (32_767u32 >> (position - 1)) as i16
 }
 
 #[inline]
-fn is_between(v: i32, least: i32, most: i32) -> bool
+fn is_between(v: i16, least: i16, most: i16) -> bool
     ensures { MatchBool result ((least ≤ℤ v) × (v ≤ℤ most)) ((v <ℤ least) ⊎ (most <ℤ v)) }
 {
     least <= v && v <= most
@@ -37,7 +37,7 @@ fn is_between(v: i32, least: i32, most: i32) -> bool
 
 /// The lower of two values.
 #[inline]
-fn lower(one: i32, other: i32) -> i32
+fn lower(one: i16, other: i16) -> i16
     ensures one { result ≤ℤ one }
     ensures other { result ≤ℤ other }
     ensures either { (result ≡ one) ⊎ (result ≡ other) }
@@ -47,7 +47,7 @@ fn lower(one: i32, other: i32) -> i32
 
 /// The higher of two values.
 #[inline]
-fn higher(one: i32, other: i32) -> i32
+fn higher(one: i16, other: i16) -> i16
     ensures one { one ≤ℤ result }
     ensures other { other ≤ℤ result }
     ensures either { (result ≡ one) ⊎ (result ≡ other) }
@@ -58,7 +58,7 @@ fn higher(one: i32, other: i32) -> i32
 /// Whether all values from one place to before another have a coefficient: the lowest and the highest have.
 // No early return: so it is done on many values at a time.
 #[inline]
-fn all_have(values: &[i32], from: usize, to: usize, position: u8) -> bool
+fn all_have(values: &[i16], from: usize, to: usize, position: u8) -> bool
     requires order { from ≤ to }
     requires end { to ≤ length values.now }
     requires low { 1 ≤ position }
@@ -76,50 +76,20 @@ fn all_have(values: &[i32], from: usize, to: usize, position: u8) -> bool
     is_between(lowest, least, most) & is_between(highest, least, most)
 }
 
-// A shift: the processor multiplies four numbers in two slow steps.
+// A shift: the processor multiplies numbers in slow steps. Beyond 15 only nought has a coefficient.
 #[inline]
-fn scaled(v: i32, position: u8) -> i32
+fn scaled(v: i16, position: u8) -> i16
     requires low { 1 ≤ position }
     requires high { position ≤ 30 }
     requires fits { IsCoefficient (coefficient_of v position) }
     ensures { result ≡ coefficient_of v position }
 {
-    v << (position - 1)
-}
-
-/// Puts the coefficients in place of the values from one place to before another.
-#[inline]
-fn scale(values: &mut [i32], from: usize, to: usize, position: u8)
-    requires order { from ≤ to }
-    requires end { to ≤ length values.old }
-    requires low { 1 ≤ position }
-    requires high { position ≤ 30 }
-    requires fits { AllHave position values.old from to }
-    ensures { MapsBetween (λ v. coefficient_of v position) from to values.old values.old values.new }
-{
-    for place in from..to {
-        values[place] = scaled(values[place], position);
-    }
-}
-
-/// Puts the coefficients in place of the values of a band, each as `dequantise` gives it. Where one has
-/// none the answer is false, and all values stay.
-pub fn dequantise_band(values: &mut [i32], position: u8) -> bool
-    requires low { 1 ≤ position }
-    requires high { position ≤ 30 }
-    ensures { MatchBool result (DequantisesBand position values.old values.new) (BandLeavesRange position values.old × (values.new ≡ values.old)) }
-{
-    let size = values.len();
-    let fits = all_have(values, 0, size, position);
-    if fits {
-        scale(values, 0, size, position);
-    }
-    fits
+    v << (position - 1).min(15)
 }
 
 /// Whether all values of a band have a coefficient; before a place they are nought, which has one.
 #[inline]
-fn band_has(values: &[i32], from: usize, to: usize, position: u8, noughts: usize) -> bool
+fn band_has(values: &[i16], from: usize, to: usize, position: u8, noughts: usize) -> bool
     requires order { from ≤ to }
     requires end { to ≤ length values.now }
     requires low { 1 ≤ position }
@@ -130,23 +100,9 @@ fn band_has(values: &[i32], from: usize, to: usize, position: u8, noughts: usize
     all_have(values, noughts.max(from).min(to), to, position)
 }
 
-/// Puts the coefficients in place of the values of a band; before a place they are nought, and stay.
-#[inline]
-fn scale_band(values: &mut [i32], from: usize, to: usize, position: u8, noughts: usize)
-    requires order { from ≤ to }
-    requires end { to ≤ length values.old }
-    requires low { 1 ≤ position }
-    requires high { position ≤ 30 }
-    requires noughts { (k : ℕ) → from ≤ k → k < to → k < noughts → at values.old k ≡ pos 0 }
-    requires fits { AllHave position values.old from to }
-    ensures { MapsBetween (λ v. coefficient_of v position) from to values.old values.old values.new }
-{
-    scale(values, noughts.max(from).min(to), to, position);
-}
-
 /// Whether all values of a plane have a coefficient; before a place they are nought.
 fn plane_has(
-    plane: &[i32; 4096],
+    plane: &[i16; 4096],
     transform: Transform,
     positions: &[u8; 10],
     noughts: usize,
@@ -170,51 +126,6 @@ fn plane_has(
     fits
 }
 
-/// Puts the coefficients in place of the values of a plane; before a place they are nought.
-fn scale_plane(plane: &mut [i32; 4096], transform: Transform, positions: &[u8; 10], noughts: usize)
-    requires positions { ArePositions positions.now }
-    requires noughts { (k : ℕ) → k < noughts → at plane.old k ≡ pos 0 }
-    requires fits { PlaneHas 10 transform positions.now plane.old }
-    ensures { MapsBands transform (λ band v. coefficient_of v (value_of positions.now band)) plane.old plane.new }
-{
-    for index in 0..10 {
-        let band = nth_band(index);
-        let start = band_start(transform, band);
-        scale_band(
-            plane,
-            start,
-            start + band_size(transform, band),
-            positions[index],
-            noughts,
-        );
-    }
-}
-
-/// Puts the coefficients in place of the values of a component, each as `dequantise` gives it at the
-/// bit position of its band; these have the order of `Band`. Where one has none the answer is false,
-/// and all values stay.
-pub fn dequantise_plane(plane: &mut [i32; 4096], transform: Transform, positions: &[u8; 10]) -> bool
-    requires { ArePositions positions.now }
-    ensures coefficients { IsTrue result → AllCoefficients plane.new }
-    ensures exact { MatchBool result (Dequantises transform positions.now plane.old plane.new) (LeavesRange transform positions.now plane.old × (plane.new ≡ plane.old)) }
-{
-    let noughts = noughts_before(plane);
-    let fits = plane_has(plane, transform, positions, noughts);
-    if fits {
-        scale_plane(plane, transform, positions, noughts);
-    }
-    fits
-}
-
-// What leaves 16 bits is cut to their end, which the processor does as it narrows; a coefficient doesn't leave them.
-#[inline]
-fn narrowed(number: i32) -> i16
-    requires { IsCoefficient number }
-    ensures { result ≡ number }
-{
-    number.clamp(-32768, 32767) as i16
-}
-
 /// Puts nought in all places from one to before another.
 #[inline]
 fn clear(out: &mut [i16], from: usize, to: usize)
@@ -229,7 +140,7 @@ fn clear(out: &mut [i16], from: usize, to: usize)
 
 /// Puts the coefficients of the values from one place to before another.
 #[inline]
-fn narrow(values: &[i32], from: usize, to: usize, position: u8, out: &mut [i16])
+fn narrow(values: &[i16], from: usize, to: usize, position: u8, out: &mut [i16])
     requires order { from ≤ to }
     requires end { to ≤ length values.now }
     requires out { to ≤ length out.old }
@@ -239,14 +150,14 @@ fn narrow(values: &[i32], from: usize, to: usize, position: u8, out: &mut [i16])
     ensures { MapsBetween (λ v. coefficient_of v position) from to values.now out.old out.new }
 {
     for place in from..to {
-        out[place] = narrowed(scaled(values[place], position));
+        out[place] = scaled(values[place], position);
     }
 }
 
 /// Puts the coefficients of the values of a band; before a place they are nought.
 #[inline]
 fn narrow_band(
-    values: &[i32],
+    values: &[i16],
     from: usize,
     to: usize,
     position: u8,
@@ -269,7 +180,7 @@ fn narrow_band(
 
 /// Puts the coefficients of the values of a plane; before a place they are nought.
 fn narrow_plane(
-    plane: &[i32; 4096],
+    plane: &[i16; 4096],
     transform: Transform,
     positions: &[u8; 10],
     noughts: usize,
@@ -295,10 +206,11 @@ fn narrow_plane(
     }
 }
 
-/// Puts the coefficients of a plane of values in `out`, each in its 16 bits, as `dequantise_plane` gives them.
-/// Where a value has none the answer is false, and `out` stays, which has room for 4,096 numbers.
-pub fn dequantise_narrow(
-    plane: &[i32; 4096],
+/// Puts the coefficients of a component's values in `out`, each as `dequantise` gives it at the bit position of its
+/// band; these have the order of `Band`. Where a value has none the answer is false, and `out` stays, which has room
+/// for 4,096 numbers.
+pub fn dequantise_plane(
+    plane: &[i16; 4096],
     transform: Transform,
     positions: &[u8; 10],
     out: &mut [i16],

@@ -21,7 +21,7 @@ pub use bands::{band_of, band_size, band_start, nth_band};
 pub use coefficients::{dequantise, quantise, truncate};
 pub use colour::{from_colour, to_colour};
 pub use colours::from_colours;
-pub use dequantising::{dequantise_band, dequantise_narrow, dequantise_plane};
+pub use dequantising::dequantise_plane;
 pub use gfx_dwt::Band;
 pub use quant::{Component, LEAST_BASE, MOST_BITS, Quant, check_base, quant_from, quant_to};
 pub use quantising::{cut_plane, quantise_plane, truncate_plane};

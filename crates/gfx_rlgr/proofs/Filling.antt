@@ -1,5 +1,5 @@
 -- What the decoder's loop keeps.
-use Rattle.std.proofs.Common.{◌≡◌, ℕ, ◌+◌, ◌<◌, ◌≤◌, Bool, true, false, cond, ◌&&◌, ℤ, pos, List, [], ◌∷◌, ◌++◌, map, length, take, refl, sym, ap, ◌∙◌, arith, subst, min, replicate, ◌^◌, Ok, Err}
+use Rattle.std.proofs.Common.{◌≡◌, ℕ, ◌+◌, ◌<◌, ◌≤◌, Bool, true, false, cond, ◌&&◌, ℤ, pos, negsuc, List, [], ◌∷◌, ◌++◌, map, length, take, refl, sym, ap, ◌∙◌, arith, subst, min, replicate, ◌^◌, Ok, Err}
 use Rattle.std.specs.List.{list_all}
 use Rattle.std.proofs.lemmas.List.{map-append, length-map, take-map, take_all, length-append, length-replicate}
 use Rattle.std.proofs.lemmas.Nat.{pow_pos}
@@ -94,7 +94,7 @@ further n bits rest rest' params params' at at' out out' shown range all so_far 
 kept-range : (value : ℤ) → in_range (kept value) ≡ in_range value
 kept-range value = go (in_range value) refl
   where
-    go : (b : Bool) → in_range value ≡ b → in_range (cond b value (pos 32768)) ≡ b
+    go : (b : Bool) → in_range value ≡ b → in_range (cond b value (negsuc 32767)) ≡ b
     go true e = e
     go false e = refl
 
@@ -111,7 +111,7 @@ kept-all : (values : List ℤ) → list_all in_range values ≡ true → map kep
 kept-all [] e = refl
 kept-all (v ∷ values) e =
     let parts = both (in_range v) (list_all in_range values) e in
-    ap (λ b. cond b v (pos 32768) ∷ map kept values) parts.0 ∙ ap (λ vs. v ∷ vs) (kept-all values parts.1)
+    ap (λ b. cond b v (negsuc 32767) ∷ map kept values) parts.0 ∙ ap (λ vs. v ∷ vs) (kept-all values parts.1)
 
 -- with all places taken it is a reading
 reading-at : (n : ℕ) (bits rest : List Bool) (params : Params) (at : ℕ) (out : List ℤ) (all : Bool) → (done : Fills n bits rest params at out all) → n ≤ at

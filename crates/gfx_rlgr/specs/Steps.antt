@@ -22,7 +22,7 @@ pub record ReadsNumber (old new : List Bool) (before behind : Params) (number : 
 
 -- a value, or one mark for all values that are out of range
 abbrev pub kept : ℤ → ℤ
-kept value = if in_range value then value else pos 32768
+kept value = if in_range value then value else negsuc 32767
 
 -- the value that a number stands for
 abbrev pub unfold_number : ℕ → ℤ

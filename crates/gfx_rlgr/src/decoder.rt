@@ -10,20 +10,20 @@ use crate::params::{MAGNITUDE_MAX, Params, TERMS};
 use gfx_base::Refusal;
 use gfx_bits::BitReader;
 
-/// What stands for each value that is out of range until it is refused.
-const OUT_OF_RANGE: i32 = 32_768;
+/// What stands for each value that is out of range until it is refused. No value in range is so low.
+const OUT_OF_RANGE: i16 = -32_768;
 
 /// What a token gives: zeros, and behind them a value, if it has one.
 #[derive(Clone, Copy)]
 struct Terms {
     zeros: u32,
-    value: Option<i32>,
+    value: Option<i16>,
 }
 
 /// Reads the 4,096 values that the bytes say, with zero bits behind their end ([MS-RDPRFX]
 /// 3.1.8.1.7.3, RLGR1). A magnitude above 32,767 among them is `CoefficientRange`, and all values
 /// are then zero. It takes no memory.
-pub fn decode(bytes: &[u8], out: &mut [i32; 4096]) -> Result<(), Refusal>
+pub fn decode(bytes: &[u8], out: &mut [i16; 4096]) -> Result<(), Refusal>
     ensures ok { OnOk result (Rlgr bytes.now (Ok out.new)) }
     ensures refused { IfErr result (λ refusal. (refusal ≡ CoefficientRange) × Rlgr bytes.now (Err CoefficientRange)) }
     ensures err { OnErr result (All (λ value. value ≡ pos 0) out.new) }
@@ -36,7 +36,7 @@ pub fn decode(bytes: &[u8], out: &mut [i32; 4096]) -> Result<(), Refusal>
 }
 
 // Reads tokens until the values are there, and says whether all are in range.
-fn fill(bytes: &[u8], out: &mut [i32; 4096]) -> bool
+fn fill(bytes: &[u8], out: &mut [i16; 4096]) -> bool
     ensures { (tokens : List Token) × Reading (bits_of bytes.now) tokens
         × (out.new ≡ map kept (take 4096 (terms_from start tokens)))
         × (result ≡ list_all in_range (take 4096 (terms_from start tokens))) }
@@ -56,7 +56,7 @@ fn fill(bytes: &[u8], out: &mut [i32; 4096]) -> bool
 }
 
 // Makes all values zero.
-fn clear(out: &mut [i32; 4096])
+fn clear(out: &mut [i16; 4096])
     ensures { out.new ≡ filled 4096 [] }
 {
     *out = [0; 4096];
@@ -64,7 +64,7 @@ fn clear(out: &mut [i32; 4096])
 
 // Puts the terms in their places, and says how many places are taken, and whether the value is in range.
 #[inline(always)]
-fn place(out: &mut [i32; 4096], at: usize, terms: Terms) -> (usize, bool)
+fn place(out: &mut [i16; 4096], at: usize, terms: Terms) -> (usize, bool)
     requires { at < 4096 }
     ensures { (values : List ℤ) → out.old ≡ filled 4096 values → at ≡ length values
         → (out.new ≡ filled 4096 (values ++ shown terms))
@@ -79,7 +79,7 @@ fn place(out: &mut [i32; 4096], at: usize, terms: Terms) -> (usize, bool)
         None => (next, true),
         Some(value) => {
             out[next] = value;
-            (next + 1, value.unsigned_abs() <= MAGNITUDE_MAX)
+            (next + 1, u32::from(value.unsigned_abs()) <= MAGNITUDE_MAX)
         }
     }
 }
@@ -128,7 +128,7 @@ fn read_last_run(bits: &mut BitReader<'_>, params: &mut Params, width: u8) -> Te
 
 // Reads a value on its own.
 #[inline(always)]
-fn read_value(bits: &mut BitReader<'_>, params: &mut Params) -> i32
+fn read_value(bits: &mut BitReader<'_>, params: &mut Params) -> i16
     requires within { AreWithin params.old }
     requires single { k params.old ≡ 0 }
     ensures { ReadsToken bits.old bits.new params.old params.new (result ∷ []) }
@@ -152,28 +152,28 @@ fn read_number(bits: &mut BitReader<'_>, params: &mut Params) -> u64
 
 // The value of this sign whose magnitude is one more.
 #[inline(always)]
-fn signed(negative: bool, below: u64) -> i32
+fn signed(negative: bool, below: u64) -> i16
     ensures { (exact : ℕ) → min exact 65535 ≡ min below 65535 → result ≡ kept (if negative then negsuc exact else pos (suc exact)) }
 {
     if below >= MAGNITUDE_MAX as u64 {
         OUT_OF_RANGE
     } else if negative {
-        -(below as i32) - 1
+        -(below as i16) - 1
     } else {
-        below as i32 + 1
+        below as i16 + 1
     }
 }
 
 // The value that a number stands for.
 #[inline(always)]
-fn unfolded(number: u64) -> i32
+fn unfolded(number: u64) -> i16
     ensures { (exact : ℕ) → min exact 65535 ≡ min number 65535 → result ≡ kept (unfold_number exact) }
 {
     if number > 2 * MAGNITUDE_MAX as u64 {
         OUT_OF_RANGE
     } else if number % 2 == 0 {
-        (number / 2) as i32
+        (number / 2) as i16
     } else {
-        -((number / 2) as i32) - 1
+        -((number / 2) as i16) - 1
     }
 }

@@ -11,7 +11,7 @@ use Rattle.gfx_base.specs.declared.geometry.Point.{Point}
 use Rattle.gfx_base.specs.declared.geometry.Rect.{Rect}
 use Rattle.gfx_base.specs.declared.pixel.Pixel.{Pixel}
 use Rattle.gfx_base.specs.Geometry.{lies_in, width_of, height_of, moved}
-use Rattle.gfx_surface.specs.Picture.{shade, no_pixel, in_rect, raw_pixels}
+use Rattle.gfx_surface.specs.Picture.{AreOpaque, shade, no_pixel, in_rect, raw_pixels}
 use Rattle.gfx_surface.specs.Rows.{WritesRows, WritesRun, taken_from}
 use Rattle.gfx_surface.proofs.Places.{InRow, in_row, same_run, unwritten, rows_more, rows_above, left_in, right_in, bottom_in}
 
@@ -285,9 +285,21 @@ pub part : (start count : ℕ) (bytes : List ℕ) → take (start + count - star
 part start count bytes = let same : start + count - start ≡ count = omega arith in ap (λ n. take n (drop start bytes)) same
 
 -- opaque pixels are as XRGB keeps them
-pub opaque_as_they_are : (from : List Pixel) → ((k : ℕ) → k < length from → (get_or from k no_pixel).a ≡ 255) → map (shade Xrgb) from ≡ from
+pub opaque_as_they_are : (from : List Pixel) → AreOpaque from → map (shade Xrgb) from ≡ from
 opaque_as_they_are [] all = refl
 opaque_as_they_are (pixel ∷ pixels) all =
     let first : shade Xrgb pixel ≡ pixel = ap (λ a. record pixel { a = a }) (sym (all 0 (omega arith))) in
     let rest = opaque_as_they_are pixels (λ k below. all (suc k) (omega arith)) in
     λ i. first i ∷ rest i
+
+-- and so both formats keep them alike
+pub opaque_alike : (format : Format) (pixels : List Pixel) → AreOpaque pixels → map (shade Argb) pixels ≡ map (shade format) pixels
+opaque_alike Argb pixels all = refl
+opaque_alike Xrgb pixels all = map-id pixels ∙ sym (opaque_as_they_are pixels all)
+
+-- each pixel of a list that two formats keep alike
+pub each_alike : (first second : Format) (pixels : List Pixel) (k : ℕ) → map (shade first) pixels ≡ map (shade second) pixels → k < length pixels
+    → shade first (get_or pixels k no_pixel) ≡ shade second (get_or pixels k no_pixel)
+each_alike first second pixels k alike below =
+    sym (get_or-map (shade first) pixels k no_pixel no_pixel below) ∙ ap (λ (kept : List Pixel). get_or kept k no_pixel) alike
+    ∙ get_or-map (shade second) pixels k no_pixel no_pixel below

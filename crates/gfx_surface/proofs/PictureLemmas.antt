@@ -14,7 +14,7 @@ use Rattle.gfx_surface.specs.Picture.{Picture, IsPicture, filled, copied, overla
 use Rattle.gfx_surface.specs.Rows.{WritesRows, taken_from}
 use Rattle.std.proofs.lemmas.Nat.{mul-add-lt, div-mul-add, mod-mul-add, div_below, row_fits}
 use Rattle.gfx_surface.proofs.Places.{some_columns}
-use Rattle.gfx_surface.proofs.CopyLemmas.{length-raw_pixels}
+use Rattle.gfx_surface.proofs.CopyLemmas.{each_alike, length-raw_pixels}
 
 -- a place is its row's start and its column
 same_place : (k width height : ℕ) → k < width * height → k ≡ k / width * width + k % width
@@ -155,26 +155,39 @@ moved_back rect width height inside =
     down : (rect : Rect) (width height : ℕ) → IsTrue (lies_in width height rect) → rect.top + (height_of rect - 0) ≡ rect.bottom
     down rect width height inside = grind (arith, nat_tests)
 
+-- a place of a rectangle has a pixel among those of the rectangle
+in_its_pixels : (rect : Rect) (x y : ℕ) → holds rect x y ≡ true → (y - rect.top) * width_of rect + (x - rect.left) < width_of rect * height_of rect
+in_its_pixels rect x y hit = mul-add-lt (y - rect.top) (width_of rect) (x - rect.left) (height_of rect) (low rect x y hit) (wide rect x y hit)
+  where
+    low : (rect : Rect) (x y : ℕ) → holds rect x y ≡ true → y - rect.top < height_of rect
+    low rect x y hit = grind (arith, nat_tests)
+
+    wide : (rect : Rect) (x y : ℕ) → holds rect x y ≡ true → x - rect.left < width_of rect
+    wide rect x y hit = grind (arith, nat_tests)
+
 -- a picture whose rows are put down is overlaid
 pub rows_overlaid : (picture : Picture) (rect : Rect) (format : Format) (width from_width right bottom : ℕ) (old new from : List Pixel) → IsPicture picture
     → IsTrue (lies_in picture.width picture.height rect)
-    → width ≡ picture.width → old ≡ picture.pixels → length new ≡ length old → format ≡ picture.format → from_width ≡ width_of rect
-    → right ≡ width_of rect → bottom ≡ height_of rect
+    → width ≡ picture.width → old ≡ picture.pixels → length new ≡ length old
+    → length from ≡ width_of rect * height_of rect → map (shade format) from ≡ map (shade picture.format) from
+    → from_width ≡ width_of rect → right ≡ width_of rect → bottom ≡ height_of rect
     → WritesRows width (moved (record { left = 0; top = 0; right = right; bottom = bottom }) (record { x = rect.left; y = rect.top }))
     (λ x y. shade format (taken_from from_width from (record { left = 0; top = 0; right = right; bottom = bottom }) (record { x = rect.left; y = rect.top }) x y)) old new
     → record picture { pixels = new } ≡ overlaid picture rect from
 unfolding overlaid
-rows_overlaid picture rect format width from_width right bottom old new from shape inside wide pixels same keeps from_wide rights bottoms rows =
+rows_overlaid picture rect format width from_width right bottom old new from shape inside wide pixels same whole alike from_wide rights bottoms rows =
     let place : moved (record { left = 0; top = 0; right = right; bottom = bottom }) (record { x = rect.left; y = rect.top }) ≡ rect =
     (λ i. moved (record { left = 0; top = 0; right = rights i; bottom = bottoms i }) (record { x = rect.left; y = rect.top }))
     ∙ moved_back rect picture.width picture.height inside in
     rows_redrawn picture rect (λ x y. shade format (get_or from ((y - rect.top + 0) * from_width + (x - rect.left + 0)) no_pixel))
     (λ x y. shade picture.format (in_rect rect from x y)) width old new shape wide pixels same
     (subst (λ r. WritesRows width r (λ x y. shade format (get_or from ((y - rect.top + 0) * from_width + (x - rect.left + 0)) no_pixel)) old new) place rows)
-    (λ x y _ _ _.
+    (λ x y hit _ _.
     let row : y - rect.top + 0 ≡ y - rect.top = omega arith in
     let column : x - rect.left + 0 ≡ x - rect.left = omega arith in
-    λ i. shade (keeps i) (get_or from (row i * from_wide i + column i) no_pixel))
+    let below : (y - rect.top) * width_of rect + (x - rect.left) < length from = subst (λ n. (y - rect.top) * width_of rect + (x - rect.left) < n) (sym whole) (in_its_pixels rect x y hit) in
+    (λ i. shade format (get_or from (row i * from_wide i + column i) no_pixel))
+    ∙ each_alike format picture.format from ((y - rect.top) * width_of rect + (x - rect.left)) alike below)
 
 -- data as a format keeps them that keeps what two formats keep
 raw-both : (both first second : Format) (bytes : List ℕ) → ((pixel : Pixel) → shade both pixel ≡ shade first (shade second pixel))
@@ -186,16 +199,6 @@ raw-both both first second [] keeps = refl
 raw-both both first second (b ∷ []) keeps = refl
 raw-both both first second (b ∷ g ∷ []) keeps = refl
 raw-both both first second (b ∷ g ∷ r ∷ []) keeps = refl
-
--- a place of a rectangle has a pixel among those of the rectangle
-in_its_pixels : (rect : Rect) (x y : ℕ) → holds rect x y ≡ true → (y - rect.top) * width_of rect + (x - rect.left) < width_of rect * height_of rect
-in_its_pixels rect x y hit = mul-add-lt (y - rect.top) (width_of rect) (x - rect.left) (height_of rect) (low rect x y hit) (wide rect x y hit)
-  where
-    low : (rect : Rect) (x y : ℕ) → holds rect x y ≡ true → y - rect.top < height_of rect
-    low rect x y hit = grind (arith, nat_tests)
-
-    wide : (rect : Rect) (x y : ℕ) → holds rect x y ≡ true → x - rect.left < width_of rect
-    wide rect x y hit = grind (arith, nat_tests)
 
 -- a picture whose rows are made of data is overlaid
 pub rows_raw : (picture : Picture) (rect : Rect) (both format : Format) (width : ℕ) (old new : List Pixel) (bytes : List ℕ) → IsPicture picture

@@ -1,7 +1,7 @@
 -- What a surface shows: its sides, its format and its pixels ([MS-RDPEGFX], RDPGFX_CREATE_SURFACE_PDU,
 -- RDPGFX_SOLIDFILL_PDU, RDPGFX_SURFACE_TO_SURFACE_PDU and RDPGFX_WIRE_TO_SURFACE_PDU_1). The colour of
 -- a new surface and the rules on alpha are this project's own.
-use Rattle.std.specs.Prelude.{◌≡◌, ℕ, ◌+◌, ◌-◌, ◌*◌, ◌/◌, ◌%◌, ◌≤◌, List, [], ◌∷◌, All, map, length, take, drop, replicate, if◌then◌else◌}
+use Rattle.std.specs.Prelude.{◌≡◌, ℕ, ◌+◌, ◌-◌, ◌*◌, ◌/◌, ◌%◌, ◌<◌, ◌≤◌, List, [], ◌∷◌, All, map, length, take, drop, replicate, if◌then◌else◌}
 use Rattle.std.specs.List.{range_with_len, slice_index_or}
 use Rattle.gfx_base.specs.declared.format.Format.{Format}
 use Rattle.gfx_base.specs.declared.format.Format.TheVariants.{Xrgb, Argb}
@@ -45,6 +45,10 @@ blank width height format =
 -- what stands outside a picture
 abbrev pub no_pixel : Pixel
 no_pixel = zero_colour Argb
+
+-- nothing shines through these pixels
+abbrev pub AreOpaque : List Pixel → Type 0
+AreOpaque pixels = (k : ℕ) → k < length pixels → (slice_index_or pixels k no_pixel).a ≡ 255
 
 -- the pixel at column x of row y
 abbrev pub pixel_at : Picture → ℕ → ℕ → Pixel

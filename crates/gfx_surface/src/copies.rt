@@ -1,7 +1,7 @@
 //! Rectangles of pixels taken from rows to other rows.
-ghost use Rattle.std.specs.Prelude.{◌≡◌, ◌≤◌, ◌<◌, ◌+◌, ◌-◌, ◌*◌, ℕ, length, map, slice_index_or, IsTrue};
+ghost use Rattle.std.specs.Prelude.{◌≡◌, ◌≤◌, ◌+◌, ◌-◌, ◌*◌, length, map, slice_index_or, IsTrue};
 ghost use Rattle.gfx_base.specs.Geometry.{lies_in, moved};
-ghost use Rattle.gfx_surface.specs.Picture.{shade, no_pixel};
+ghost use Rattle.gfx_surface.specs.Picture.{AreOpaque, shade, no_pixel};
 ghost use Rattle.gfx_base.specs.declared.format.Format.TheVariants.{Xrgb};
 ghost use Rattle.gfx_surface.specs.Rows.{WritesRows, WritesRun, taken_from};
 
@@ -71,7 +71,7 @@ fn copy_opaque(from: &[Pixel], pixels: &mut [Pixel])
 /// Whether nothing shines through any pixel.
 // No early return: so it is done on many pixels at a time.
 fn are_opaque(from: &[Pixel]) -> bool
-    ensures { IsTrue result → (k : ℕ) → k < length from.now → (slice_index_or from.now k no_pixel).a ≡ 255 }
+    ensures { IsTrue result → AreOpaque from.now }
 {
     let mut opaque = true;
     for i in 0..from.len() {

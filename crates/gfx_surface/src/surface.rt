@@ -1,6 +1,6 @@
-ghost use Rattle.std.specs.Prelude.{◌≡◌, ◌≤◌, ◌<◌, ◌+◌, ◌*◌, length, IsTrue, IfOk};
+ghost use Rattle.std.specs.Prelude.{◌≡◌, ◌≤◌, ◌<◌, ◌+◌, ◌*◌, length, map, IsTrue, IfOk};
 ghost use Rattle.gfx_base.specs.Geometry.{lies_in, width_of, height_of, moved};
-ghost use Rattle.gfx_surface.specs.Picture.{IsPicture, blank, pixel_at, run_of, filled, copied, rect_of, overlaid, raw_pixels};
+ghost use Rattle.gfx_surface.specs.Picture.{IsPicture, AreOpaque, shade, blank, pixel_at, run_of, filled, copied, rect_of, overlaid, raw_pixels};
 
 use crate::MOST_SIDE;
 use crate::colour::{empty_colour, kept_by_both, shaded};
@@ -107,6 +107,29 @@ impl Surface {
         requires whole { length pixels.now ≡ width_of rect * height_of rect }
         ensures { self.new ≡ overlaid self.old rect pixels.now }
     {
+        let format = self.format();
+        self.put_as(rect, format, pixels);
+    }
+
+    /// Puts opaque pixels into a rectangle, row by row from its top: rows are moved as they are, for both
+    /// formats. It takes no memory.
+    pub fn put_opaque(&mut self, rect: Rect, pixels: &[Pixel])
+        requires inside { IsTrue (lies_in self.old.width self.old.height rect) }
+        requires whole { length pixels.now ≡ width_of rect * height_of rect }
+        requires opaque { AreOpaque pixels.now }
+        ensures { self.new ≡ overlaid self.old rect pixels.now }
+    {
+        self.put_as(rect, Format::Argb, pixels);
+    }
+
+    /// Puts pixels into a rectangle, row by row from its top, as this format keeps them. The surface's
+    /// own keeps them alike.
+    fn put_as(&mut self, rect: Rect, format: Format, pixels: &[Pixel])
+        requires inside { IsTrue (lies_in self.old.width self.old.height rect) }
+        requires whole { length pixels.now ≡ width_of rect * height_of rect }
+        requires alike { map (shade format) pixels.now ≡ map (shade self.old.format) pixels.now }
+        ensures { self.new ≡ overlaid self.old rect pixels.now }
+    {
         let from_sides = sides_of(rect);
         let all = Rect {
             left: 0,
@@ -119,15 +142,7 @@ impl Surface {
             y: rect.top,
         };
         let sides = self.sides();
-        copy_rows(
-            pixels,
-            from_sides,
-            all,
-            self.format,
-            &mut self.pixels,
-            sides,
-            to,
-        );
+        copy_rows(pixels, from_sides, all, format, &mut self.pixels, sides, to);
     }
 
     /// Puts the pixels of uncompressed data into a rectangle, row by row from its top ([MS-RDPEGFX]

@@ -1,6 +1,7 @@
 pub mod Running
 pub mod Places
 pub mod Sums
+pub mod Summing
 pub mod Reading
 pub mod Bands
 pub mod Passing

@@ -1,5 +1,5 @@
 -- Sums of values and all before them.
-use Rattle.std.proofs.Common.{◌≡◌, ℕ, suc, ◌+◌, ◌<◌, ℤ, pos, ◌+ℤ◌, List, [], ◌∷◌, ◌++◌, length, take, drop, set, refl, sym, ap, ◌∙◌, arith, append_assoc}
+use Rattle.std.proofs.Common.{◌≡◌, ℕ, zero, suc, ◌+◌, ◌<◌, ℤ, pos, ◌+ℤ◌, List, [], ◌∷◌, ◌++◌, length, take, drop, set, refl, sym, ap, ◌∙◌, arith, append_assoc}
 use Rattle.std.proofs.Math.Seq.{set-append_seam}
 use Rattle.std.proofs.lemmas.List.{drop_more, take_more, length-take-le, get_or-append-add}
 use Rattle.gfx_dwt.specs.Ranges.{at}
@@ -24,6 +24,12 @@ pub running-length : (sum : ℤ) (xs : List ℤ) → length (running sum xs) ≡
 unfolding running
 running-length sum [] = refl
 running-length sum (x ∷ xs) = ap suc (running-length (sum +ℤ x) xs)
+
+pub running-at : (sum : ℤ) (xs : List ℤ) (i : ℕ) → i < length xs → at (running sum xs) i ≡ total sum (take i xs) +ℤ at xs i
+unfolding total running
+running-at sum [] i h = absurd (omega arith)
+running-at sum (x ∷ xs) zero h = refl
+running-at sum (x ∷ xs) (suc i) h = running-at (sum +ℤ x) xs i (omega arith)
 
 -- the next value is still as it was
 pub due-here : (all values : List ℤ) (i : ℕ) → i < length all → values ≡ running (pos 0) (take i all) ++ drop i all → at values i ≡ at all i

@@ -27,6 +27,14 @@ running total (x ∷ xs) = (total +ℤ x) ∷ running (total +ℤ x) xs
 abbrev pub summed : Transform → List ℤ → List ℤ
 summed t values = take (start t Ll3) values ++ running (pos 0) (drop (start t Ll3) values)
 
+-- some value with all before it leaves 16 bits
+abbrev pub SomeLeaves : List ℤ → Type 0
+SomeLeaves values = (k : ℕ) × (k < length values) × (is_coefficient (at (running (pos 0) values) k) ≡ false)
+
+-- some number of LL3 does
+abbrev pub SumsLeave : Transform → List ℤ → Type 0
+SumsLeave t values = SomeLeaves (drop (start t Ll3) values)
+
 -- two planes, place by place
 unfoldable pub added : List ℤ → List ℤ → List ℤ
 added [] ys = []

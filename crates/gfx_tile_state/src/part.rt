@@ -7,9 +7,9 @@ ghost use Rattle.gfx_tile_state.specs.Passes.{TakesFirst, Upgrades, UpgradesSums
 ghost use Rattle.gfx_tile_state.specs.Shape.{AreAtMost, AreBelow, AreWithin, SomeAbove};
 
 use crate::entries::Readers;
-use crate::first::{read_first, read_sums};
+use crate::first::read_sums;
 use crate::kept::Kept;
-use crate::planes::{as_plane, fit_together, put, shorten, store};
+use crate::planes::{as_plane, fit_together, shorten, store};
 use crate::upgrading::{Lists, upgrade_plane};
 use gfx_base::{NoMemory, Refusal};
 use gfx_bits::BitReader;
@@ -89,7 +89,7 @@ impl Part {
         bytes: &[u8],
         transform: Transform,
         positions: &[u8; 10],
-        plane: &mut [i32; 4096],
+        plane: &mut [i16; 4096],
     ) -> Result<(), Refusal>
         requires { AreWithin 6 30 positions.now }
         ensures { TakesFirst result transform positions.now bytes.now blank self.old self.new }
@@ -110,15 +110,15 @@ impl Part {
         requires { AreWithin 6 30 positions.now }
         ensures { TakesFirst result transform positions.now bytes.now (coefficients self.old) self.old self.new }
     {
-        let mut plane = [0; 4096];
-        read_first(bytes, transform, positions, &mut plane)?;
+        let mut sums = [0; 4096];
+        read_sums(bytes, transform, positions, &mut sums, &mut [0; 4096])?;
         let mut kept = [0; 4096];
         self.coefficients(&mut kept);
-        if !fit_together(&kept, &plane) {
+        if !fit_together(&kept, &sums) {
             return Err(Refusal::CoefficientRange);
         }
         self.kept.put(&kept);
-        put(&plane, &mut self.sums);
+        self.sums.copy_from_slice(&sums);
         self.positions = *positions;
         Ok(())
     }

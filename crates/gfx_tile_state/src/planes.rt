@@ -1,7 +1,7 @@
 ghost use Rattle.std.specs.Prelude.{◌≡◌, ◌≤◌, ◌<◌, ◌+◌, ℕ, pos, ◌+ℤ◌, length, IsTrue, MatchBool, true};
 ghost use Rattle.gfx_dwt.specs.Ranges.{AllCoefficients, AllWithin, IsCoefficient, Within};
 ghost use Rattle.gfx_quant.specs.Coefficient.{is_coefficient};
-ghost use Rattle.gfx_tile_state.specs.Passes.{FitsOnto, LeavesKept, added, running};
+ghost use Rattle.gfx_tile_state.specs.Passes.{FitsOnto, LeavesKept, SomeLeaves, added, running};
 
 #[inline(always)]
 #[tactic(auto, using(crate::proofs::Places::short))]
@@ -130,28 +130,32 @@ pub fn is_small(number: i32) -> bool
     -32768 <= number && number <= 32767
 }
 
-/// Puts in place of each number its sum with all before it.
-pub fn sum_up(values: &mut [i32])
+/// Puts in place of each number its sum with all before it. Where one leaves 16 bits the answer is false, and nothing
+/// is said of the numbers.
+pub fn sum_up(values: &mut [i16]) -> bool
     requires few { length values.old ≤ 81 }
     requires small { AllWithin 32767 values.old }
-    ensures { values.new ≡ running (pos 0) values.old }
+    ensures { MatchBool result (values.new ≡ running (pos 0) values.old) (SomeLeaves values.old) }
 {
     let mut total = 0;
     for place in 0..values.len() {
-        total = more(total, values[place]);
-        values[place] = total;
+        total = more(total, widened(values[place]));
+        if !is_small(total) {
+            return false;
+        }
+        values[place] = narrowed(total);
     }
+    true
 }
 
 /// Whether two planes, place by place, stay in the range of a coefficient.
-pub fn fit_together(kept: &[i32; 4096], plane: &[i32; 4096]) -> bool
-    requires kept { AllCoefficients kept.now }
-    requires coefficients { AllCoefficients plane.now }
+pub fn fit_together(kept: &[i32; 4096], plane: &[i16; 4096]) -> bool
+    requires { AllCoefficients kept.now }
     ensures { MatchBool result (FitsOnto kept.now plane.now) (LeavesKept kept.now plane.now) }
 {
     let mut fits = true;
     for place in 0..4096 {
-        fits &= fit_both(kept[place], plane[place]);
+        fits &= fit_both(kept[place], widened(plane[place]));
     }
     fits
 }

@@ -6,7 +6,7 @@ use gfx_dwt::Workspace;
 /// stands in it nothing is said between two calls.
 #[derive(Drop)]
 pub struct Scratch {
-    pub(crate) plane: [i32; 4096],
+    pub(crate) plane: [i16; 4096],
     pub(crate) y: [i16; 4096],
     pub(crate) cb: [i16; 4096],
     pub(crate) cr: [i16; 4096],

@@ -9,6 +9,6 @@ returns-clause-small c =
     rw (bits_of_short _ c.floor_half.type_inv)
     (rw c.floor_half.ensures.value
     (record {
-      low = halved_below Plain 6143 _ (omega (arith, ints));
-      high = halved_above Plain 6143 _ (omega (arith, ints));
+      low = halved_below Plain 8191 _ (omega (arith, ints));
+      high = halved_above Plain 8191 _ (omega (arith, ints));
     }))

@@ -9,6 +9,6 @@ returns-clause-small c =
     rw (bits_of_short _ c.zero_half.type_inv)
     (rw c.zero_half.ensures.value
     (record {
-      low = halved_below Reduced 6143 _ (omega (arith, ints));
-      high = halved_above Reduced 6143 _ (omega (arith, ints));
+      low = halved_below Reduced 8191 _ (omega (arith, ints));
+      high = halved_above Reduced 8191 _ (omega (arith, ints));
     }))

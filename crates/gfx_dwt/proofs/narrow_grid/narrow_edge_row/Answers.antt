@@ -17,4 +17,4 @@ returns-else-index-size-clause-each c = λ k h.
 
 pub returns-else-index-size-clause-within : goal.returns-else-index-size-clause-within
 returns-else-index-size-clause-within c =
-    c.row_behind.ensures.within 6143 (c.narrow_row-else-index-size.ensures.within 6143 c.requires.high)
+    c.row_behind.ensures.within 8191 (c.narrow_row-else-index-size.ensures.within 8191 c.requires.high)

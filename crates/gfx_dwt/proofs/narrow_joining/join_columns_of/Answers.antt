@@ -1,10 +1,12 @@
-use Rattle.std.proofs.Common.{◌≡◌, ℕ, ◌+◌, ◌-◌, ◌*◌, ◌/◌, ◌≤◌, length, ap, ◌∙◌, sym, refl, arith, ℤ, pos}
+use Rattle.std.proofs.Common.{◌≡◌, ℕ, ◌+◌, ◌-◌, ◌*◌, ◌/◌, ◌<◌, ◌≤◌, length, take, ap, ◌∙◌, sym, refl, arith, ℤ, pos}
 use Rattle.std.proofs.lemmas.List.{get_or_append_left, length-take-le}
 use Rattle.std.proofs.Math.Nat.{mul-le-mul_right}
-use Rattle.gfx_dwt.specs.Joining.{edged, joined}
+use Rattle.gfx_dwt.specs.Joining.{edged, even, joined}
+use Rattle.gfx_dwt.specs.Lifting.{even_of}
 use Rattle.gfx_dwt.specs.Ranges.{at}
 use Rattle.gfx_dwt.specs.Samples.{column}
 use Rattle.gfx_dwt.proofs.Edges.{is_even, high_some, high_le_low, joined_even, joined_odd, edged_inside}
+use Rattle.gfx_dwt.proofs.Small.{small_column_even}
 use Rattle.gfx_dwt.proofs.Strips.{rows_put, row_put_last, strip_at}
 use Rattle.gfx_dwt.proofs.narrow_joining.join_columns_of.Goals as goal
 
@@ -26,6 +28,23 @@ loop-place-init c = λ i x p q.
     (get_or_append_left c.lower.new.out _ (pos 0) x (omega arith)
     ∙ is_even t l (low x) (high x) 0 _ _ _ _ (c.lower.ensures x (omega arith)) (c.narrow_row.ensures.each x q) first first
     ∙ sym (joined_even t l (low x) (high x) 0))
+
+pub lower-requires-clause-evens : goal.lower-requires-clause-evens
+lower-requires-clause-evens c = λ x h.
+    let t = c.args.transform in
+    let l = c.args.level in
+    let w = c.args.width in
+    let low = column w c.args.low.now in
+    let high = column w c.args.high.now in
+    let le = high_le_low t l in
+    let some = high_some t l in
+    let square : 1 * w ≤ w * w = mul-le-mul_right w (omega arith) in
+    let front : length (take w c.args.out.now) ≡ w = length-take-le w c.args.out.now (omega (arith, square)) in
+    let q : x < w = omega (arith, front) in
+    let first : at c.narrow_row-first.result.now x ≡ edged t l (high x) 0 = c.narrow_row-first.ensures.each x q ∙ sym (edged_inside t l (high x) 0 (omega arith)) in
+    let is : even_of t (at c.narrow_row.result.now x) (at c.narrow_row-first.result.now x) (at c.narrow_row-first.result.now x) ≡ even t l (low x) (high x) 0 =
+    is_even t l (low x) (high x) 0 _ _ _ _ refl (c.narrow_row.ensures.each x q) first first in
+    rw is (small_column_even t l w c.args.low.now c.args.high.now c.requires.low_len c.requires.high_len c.requires.small x q 0 (omega arith))
 
 -- the even row at which a pair of rows begins
 above_is : goal.join_pair-requires-clause-above

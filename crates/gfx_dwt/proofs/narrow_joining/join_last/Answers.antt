@@ -1,11 +1,10 @@
 use Rattle.std.proofs.Common.{◌≡◌, ◌∙◌, sym, arith}
 use Rattle.gfx_dwt.specs.Joining.{even}
-use Rattle.gfx_dwt.specs.Place.{high_size, low_size}
 use Rattle.gfx_dwt.specs.Ranges.{at}
 use Rattle.gfx_dwt.specs.Samples.{column}
 use Rattle.gfx_dwt.proofs.Edges.{is_odd, high_le_low, behind_plain_at, behind_reduced_at}
-use Rattle.gfx_dwt.proofs.Planes.{behind_part, front_at, column_within}
-use Rattle.gfx_dwt.proofs.Same.{even_within}
+use Rattle.gfx_dwt.proofs.Planes.{behind_part, front_at}
+use Rattle.gfx_dwt.proofs.Small.{small_column_even}
 use Rattle.gfx_dwt.proofs.narrow_joining.join_last.Goals as goal
 
 pub raise-requires-clause-left : goal.raise-requires-clause-left
@@ -18,7 +17,7 @@ raise-requires-clause-left c = λ x h.
     let n = c.args.place in
     let le = high_le_low t l in
     let up : at c.split_at_mut-above.result.0.now x ≡ even t l low high n = front_at w _ _ c.split_at_mut-above.ensures.front x (omega arith) ∙ c.requires.above x (omega arith) in
-    rw up (even_within t l 10239 6143 low high (column_within w (low_size t l) 10239 c.args.low.now c.requires.low_len c.requires.low x (omega arith)) (column_within w (high_size t l) 6143 c.args.high.now c.requires.high_len c.requires.high x (omega arith)) n (omega arith))
+    rw up (small_column_even t l w c.args.low.now c.args.high.now c.requires.low_len c.requires.high_len c.requires.small x (omega arith) n (omega arith))
 
 pub raise-requires-clause-right : goal.raise-requires-clause-right
 raise-requires-clause-right c = λ x h.
@@ -30,7 +29,7 @@ raise-requires-clause-right c = λ x h.
     let n = c.args.place in
     let le = high_le_low t l in
     let up : at c.split_at_mut-above.result.0.now x ≡ even t l low high n = front_at w _ _ c.split_at_mut-above.ensures.front x (omega arith) ∙ c.requires.above x (omega arith) in
-    rw up (even_within t l 10239 6143 low high (column_within w (low_size t l) 10239 c.args.low.now c.requires.low_len c.requires.low x (omega arith)) (column_within w (high_size t l) 6143 c.args.high.now c.requires.high_len c.requires.high x (omega arith)) n (omega arith))
+    rw up (small_column_even t l w c.args.low.now c.args.high.now c.requires.low_len c.requires.high_len c.requires.small x (omega arith) n (omega arith))
 
 pub raise-requires-in-Reduced-clause-left : goal.raise-requires-in-Reduced-clause-left
 raise-requires-in-Reduced-clause-left c = λ x h.
@@ -42,7 +41,7 @@ raise-requires-in-Reduced-clause-left c = λ x h.
     let n = c.args.place in
     let le = high_le_low t l in
     let up : at c.split_at_mut-above.result.0.now x ≡ even t l low high n = front_at w _ _ c.split_at_mut-above.ensures.front x (omega arith) ∙ c.requires.above x (omega arith) in
-    rw up (even_within t l 10239 6143 low high (column_within w (low_size t l) 10239 c.args.low.now c.requires.low_len c.requires.low x (omega arith)) (column_within w (high_size t l) 6143 c.args.high.now c.requires.high_len c.requires.high x (omega arith)) n (omega arith))
+    rw up (small_column_even t l w c.args.low.now c.args.high.now c.requires.low_len c.requires.high_len c.requires.small x (omega arith) n (omega arith))
 
 pub returns-in-Plain-clause-odds : goal.returns-in-Plain-clause-odds
 returns-in-Plain-clause-odds c = λ x h.

@@ -1,12 +1,12 @@
 use Rattle.std.proofs.Common.{◌≡◌, ◌+◌, ◌-◌, ◌++◌, length, ◌∙◌, refl, arith, min}
 use Rattle.gfx_dwt.specs.Joining.{even}
 use Rattle.gfx_dwt.specs.Lifting.{even_of}
-use Rattle.gfx_dwt.specs.Place.{high_size, low_size}
+use Rattle.gfx_dwt.specs.Place.{low_size}
 use Rattle.gfx_dwt.specs.Ranges.{at}
 use Rattle.gfx_dwt.specs.Samples.{column}
 use Rattle.gfx_dwt.proofs.Edges.{is_even, is_odd, high_le_low}
-use Rattle.gfx_dwt.proofs.Planes.{behind_part, second_part, front_at, column_within}
-use Rattle.gfx_dwt.proofs.Same.{even_within}
+use Rattle.gfx_dwt.proofs.Planes.{behind_part, second_part, front_at}
+use Rattle.gfx_dwt.proofs.Small.{small_column_even}
 use Rattle.gfx_dwt.proofs.narrow_joining.join_pair.Goals as goal
 
 pub pair-requires-clause-above : goal.pair-requires-clause-above
@@ -19,7 +19,20 @@ pair-requires-clause-above c = λ x h.
     let n = c.args.place in
     let le = high_le_low t l in
     let up : at c.split_at_mut-above.result.0.now x ≡ even t l low high n = front_at w _ _ c.split_at_mut-above.ensures.front x (omega arith) ∙ c.requires.above x (omega arith) in
-    rw up (even_within t l 10239 6143 low high (column_within w (low_size t l) 10239 c.args.low.now c.requires.low_len c.requires.low x (omega arith)) (column_within w (high_size t l) 6143 c.args.high.now c.requires.high_len c.requires.high x (omega arith)) n (omega arith))
+    rw up (small_column_even t l w c.args.low.now c.args.high.now c.requires.low_len c.requires.high_len c.requires.small x (omega arith) n (omega arith))
+
+pub pair-requires-clause-evens : goal.pair-requires-clause-evens
+pair-requires-clause-evens c = λ x h.
+    let t = c.args.transform in
+    let l = c.args.level in
+    let w = c.args.width in
+    let low = column w c.args.low.now x in
+    let high = column w c.args.high.now x in
+    let n = c.args.place in
+    let i : n + 1 - 1 ≡ n = omega arith in
+    let next_even : even_of t (at c.narrow_row.result.now x) (at c.narrow_edge_row-here.result.now x) (at c.narrow_edge_row-next.result.now x) ≡ even t l low high (n + 1) =
+    is_even t l low high (n + 1) _ _ _ _ refl (c.narrow_row.ensures.each x (omega arith)) (rw i (c.narrow_edge_row-here.ensures.each x (omega arith))) (c.narrow_edge_row-next.ensures.each x (omega arith)) in
+    rw next_even (small_column_even t l w c.args.low.now c.args.high.now c.requires.low_len c.requires.high_len c.requires.small x (omega arith) (n + 1) c.requires.place)
 
 pub returns-clause-odds : goal.returns-clause-odds
 returns-clause-odds c = λ x h.

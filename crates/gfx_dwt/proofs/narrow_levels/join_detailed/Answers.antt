@@ -2,6 +2,7 @@ use Rattle.std.proofs.Common.{◌≡◌, ◌+◌, ◌-◌, ◌*◌, ◌∙◌, l
 use Rattle.gfx_dwt.specs.Place.{high_size, line_size, low_size, low_start, part_start}
 use Rattle.gfx_dwt.specs.Samples.{cell}
 use Rattle.gfx_dwt.proofs.NarrowLevels.{AreRows, bands_small, bands_strip, level_of_rows, rows_of_bands, rows_small, sizes}
+use Rattle.gfx_dwt.proofs.NarrowLines.{spare_fits}
 use Rattle.gfx_dwt.proofs.narrow_levels.join_detailed.Goals as goal
 
 pub returns-then-not-are_small-clause-wide : goal.returns-then-not-are_small-clause-wide
@@ -18,6 +19,11 @@ returns-then-not-are_small-clause-wide c = λ _ narrow.
     let b : 4096 - n * n ≡ part_start t l + low_start t l = rw e (sym ends) in
     let strip = bands_strip t l plane (4096 - w * w) (4096 - n * n - (4096 - w * w)) a (omega (arith, a, b)) (omega arith) in
     c.if-not-are_small.ensures (bands_small t l plane _ c.args.low.now c.requires.low_len strip.0 strip.1 narrow)
+
+pub join_narrow_quarters-requires-clause-spare_len : goal.join_narrow_quarters-requires-clause-spare_len
+join_narrow_quarters-requires-clause-spare_len c =
+    let fits = spare_fits c.args.transform c.args.level in
+    rw c.requires.out_len fits
 
 pub returns-then-not-are_small-2-clause-wide : goal.returns-then-not-are_small-2-clause-wide
 returns-then-not-are_small-2-clause-wide c = λ _ narrow.

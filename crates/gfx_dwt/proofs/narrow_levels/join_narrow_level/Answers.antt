@@ -1,7 +1,6 @@
 use Rattle.std.proofs.Common.{◌≡◌, ◌+◌, ◌-◌, ◌*◌, ◌∙◌, arith, refl, sym}
 use Rattle.gfx_dwt.specs.Place.{high_size, low_size, low_start, part_start}
-use Rattle.gfx_dwt.proofs.NarrowLevels.{bands_strip, sizes}
-use Rattle.gfx_dwt.proofs.Planes.{cells_within}
+use Rattle.gfx_dwt.proofs.NarrowLevels.{bands_strip, low_small, sizes}
 use Rattle.gfx_dwt.proofs.narrow_levels.join_narrow_level.Goals as goal
 
 pub returns-then-all_are-clause-joined : goal.returns-then-all_are-clause-joined
@@ -21,4 +20,4 @@ returns-then-all_are-clause-joined c = λ narrow.
 
 pub returns-then-all_are-clause-wide : goal.returns-then-all_are-clause-wide
 returns-then-all_are-clause-wide c = λ wide narrow.
-    c.join_smooth.ensures.wide wide (cells_within _ _ 10239 c.args.low.now c.requires.low_len narrow.low)
+    c.join_smooth.ensures.wide wide (low_small c.args.transform c.args.level c.args.coefficients.now c.args.low.now c.requires.low_len narrow)

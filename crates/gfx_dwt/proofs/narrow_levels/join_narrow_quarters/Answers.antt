@@ -1,9 +1,38 @@
 use Rattle.std.proofs.Common.{◌≡◌, ℕ, ◌+◌, ◌*◌, ◌<◌, ◌∙◌, ap, sym, zero-add, refl, arith}
 use Rattle.gfx_dwt.specs.Place.{high_size, low_size}
 use Rattle.gfx_dwt.specs.Ranges.{at}
-use Rattle.gfx_dwt.proofs.Planes.{front_at, tail_at, place_in}
+use Rattle.gfx_dwt.proofs.NarrowLines.{spare_high}
+use Rattle.gfx_dwt.proofs.Planes.{front_at, place_in, places_within, tail_at}
 use Rattle.gfx_dwt.proofs.Same.{joined_same}
+use Rattle.gfx_dwt.proofs.Small.{small_highs, small_parts}
 use Rattle.gfx_dwt.proofs.narrow_levels.join_narrow_quarters.Goals as goal
+
+pub join_narrow_rows-requires-clause-small : goal.join_narrow_rows-requires-clause-small
+join_narrow_rows-requires-clause-small c =
+    let a = c.low_size-low_size.result * c.high_size-high_size.result in
+    let hl = c.split_at.result.0.now in
+    small_parts c.args.low.now c.args.bands.now c.args.low.now hl c.requires.small (λ bound all. all)
+    (λ bound. places_within bound c.args.bands.now hl (λ k. k) (λ k h. front_at a _ _ c.split_at.ensures.front k (omega arith)))
+
+pub join_narrow_rows-requires-2-clause-small : goal.join_narrow_rows-requires-2-clause-small
+join_narrow_rows-requires-2-clause-small c =
+    let a = c.low_size-low_size.result * c.high_size-high_size.result in
+    let b = c.high_size-high_size.result * c.low_size-low_size.result in
+    let bands = c.args.bands.now in
+    let lh = c.split_at-2.result.0.now in
+    let hh = c.split_at-2.result.1.now in
+    small_highs c.args.low.now bands lh hh c.requires.small
+    (λ bound. places_within bound bands lh (λ k. a + k) (λ k h. front_at b _ _ c.split_at-2.ensures.front k (omega arith) ∙ tail_at a _ _ c.split_at.ensures.back k))
+    (λ bound. places_within bound bands hh (λ k. a + (b + k)) (λ k h. tail_at b _ _ c.split_at-2.ensures.back k ∙ tail_at a _ _ c.split_at.ensures.back (b + k)))
+
+pub join_narrow_rows-requires-2-clause-spare_len : goal.join_narrow_rows-requires-2-clause-spare_len
+join_narrow_rows-requires-2-clause-spare_len c =
+    let t = c.args.transform in
+    let l = c.args.level in
+    let f : c.high_size-high_size.result ≡ high_size t l = c.high_size-high_size.ensures in
+    let less = spare_high t l in
+    let fits = c.requires.spare_len in
+    rw f (omega (arith, less, fits))
 
 pub returns-clause-above : goal.returns-clause-above
 returns-clause-above c = λ r x p q.

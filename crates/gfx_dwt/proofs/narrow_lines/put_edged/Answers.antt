@@ -16,7 +16,7 @@ returns c = λ k h.
     let high_len = c.requires.high_len in
     let edges_len = c.requires.edges_len in
     let some = high_some t l in
-    let last = bits_of_narrow 6143 (at c.args.high.now (m - 1)) (lit< tt) (c.requires.high (m - 1) (omega arith)) in
+    let last = bits_of_narrow 8191 (at c.args.high.now (m - 1)) (lit< tt) (c.requires.high (m - 1) (omega arith)) in
     edge_is t l c.args.high.now c.put_behind_first.new.out _ high_len c.put_behind_first.ensures
     (λ j p. mid_below (m + 1) _ c.put_behind_first.new.out c.fill.new.out j p (omega arith))
     _ (bits_of_short c.place_behind-last.result c.place_behind-last.type_inv ∙ c.place_behind-last.ensures ∙ ap (behind t l) last)

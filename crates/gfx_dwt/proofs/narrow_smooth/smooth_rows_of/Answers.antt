@@ -29,8 +29,8 @@ returns-clause-within c =
     let h = c.high_size.result in
     let low_is = c.low_size-low_size.ensures in
     let high_is = c.high_size.ensures in
-    cells_within (l + h) c.args.rows 10239 c.loop-r.out (rw (low_is, high_is) (c.loop-r.auto.out ∙ c.requires.out_len))
+    cells_within (l + h) c.args.rows 16382 c.loop-r.out (rw (low_is, high_is) (c.loop-r.auto.out ∙ c.requires.out_len))
     (λ r j p q. rw (c.loop-r.invariant r j (omega arith) q)
-    (joined_within t level 10239 0 _ _
-    (λ n b. column_within l c.args.rows 10239 c.args.low.now (rw low_is c.requires.low_len) c.requires.low n (omega arith) r p)
+    (joined_within t level 16382 0 _ _
+    (λ n b. column_within l c.args.rows 16382 c.args.low.now (rw low_is c.requires.low_len) c.requires.low n (omega arith) r p)
     (λ n b. within_of_nought 0 _ refl) j (omega arith)))

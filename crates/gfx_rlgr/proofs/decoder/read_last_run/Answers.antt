@@ -1,6 +1,6 @@
 use Rattle.std.proofs.Common.{rules, ◌∙◌, ◌<◌, ap, drop, subst, ◌==◌}
 use Rattle.std.proofs.lemmas.Int.{to_z-of_z}
-use Rattle.std.specs.Int.{w32}
+use Rattle.std.specs.Int.{w16}
 use Rattle.std.specs.Prelude.{FitsSigned}
 use Rattle.gfx_bits.specs.Bits.{number, first}
 use Rattle.gfx_rlgr.proofs.Reading.{last-run-read, sign-bit}
@@ -8,8 +8,8 @@ use Rattle.gfx_rlgr.proofs.decoder.read_last_run.Goals as goal
 
 pub returns : goal.returns
 returns c =
-    let fits : FitsSigned w32 c.signed.result = search rules in
-    rw (to_z-of_z w32 c.signed.result fits)
+    let fits : FitsSigned w16 c.signed.result = search rules in
+    rw (to_z-of_z w16 c.signed.result fits)
     (last-run-read c.args.bits.now c.read-negative.new.self c.read_number-below.new.bits c.args.params.now c.after_last_run.new.self c.read_number-below.new.params
     c.read-zeros.result c.read_number-below.result (c.read-negative.result == 1) c.signed.result
     (subst (λ n. 0 < n) c.requires.width c.requires.run)

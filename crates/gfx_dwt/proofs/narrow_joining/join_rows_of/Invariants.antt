@@ -1,7 +1,0 @@
-use Rattle.std.proofs.Common.{◌≡◌, ℕ, ◌<◌}
-use Rattle.gfx_dwt.specs.Joining.{joined}
-use Rattle.gfx_dwt.specs.Samples.{cell}
-use Rattle.gfx_dwt.proofs.narrow_joining.join_rows_of.Given as goal
-
-abbrev pub invariant-loop-r : goal.invariant-loop-r
-invariant-loop-r l = (i c : ℕ) → i < l.r → c < l.size → cell l.size l.out i c ≡ joined l.transform l.level (cell l.low_size l.low i) (cell l.high_size l.high i) c

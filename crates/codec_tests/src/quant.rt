@@ -171,7 +171,7 @@ fn values_become_coefficients(rt: HostRuntime) {
     values[1] = -1023;
     let mut out = [7; 4096];
     let positions = [6, 6, 6, 6, 6, 6, 6, 6, 6, 1];
-    assert!(rt; dequantise_plane(&values, Transform::Reduced, &positions, &mut out));
+    assert!(rt; dequantise_plane(&values, Transform::Reduced, &positions, 1023, &mut out));
     assert_eq!(rt; (out[0], out[1]), (32736, -32736));
     assert_eq!(rt; (out[4014], out[4015]), (32736, 1023));
 
@@ -182,11 +182,12 @@ fn values_become_coefficients(rt: HostRuntime) {
             &ones,
             Transform::Plain,
             &[16, 30, 30, 30, 30, 30, 30, 30, 30, 30],
+            1,
             &mut out
         )
     );
     assert_eq!(rt; (out[0], out[1], out[4095]), (-32768, 0, 0));
-    assert!(rt; !dequantise_plane(&ones, Transform::Plain, &[17; 10], &mut out));
+    assert!(rt; !dequantise_plane(&ones, Transform::Plain, &[17; 10], 1, &mut out));
     assert_eq!(rt; out[0], -32768);
 }
 

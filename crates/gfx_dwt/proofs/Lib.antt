@@ -1,6 +1,7 @@
 pub mod Blocks
 pub mod Bounds
 pub mod Edges
+pub mod Flat
 pub mod Levels
 pub mod NarrowLevels
 pub mod NarrowLines

@@ -3,11 +3,13 @@ use Rattle.std.proofs.Common.{◌≡◌, ℕ, ◌+◌, ◌*◌, ◌<◌, ℤ, Li
 use Rattle.gfx_dwt.specs.declared.layout.Transform.{Transform}
 use Rattle.gfx_dwt.specs.declared.layout.Scale.{Scale}
 use Rattle.gfx_dwt.specs.Joining.{even}
+use Rattle.gfx_dwt.specs.Lifting.{even_of}
 use Rattle.gfx_dwt.specs.Narrow.{AreSmall}
 use Rattle.gfx_dwt.specs.Place.{high_size, low_size}
-use Rattle.gfx_dwt.specs.Ranges.{AllWithin, Within}
+use Rattle.gfx_dwt.specs.Ranges.{AllWithin, Within, at}
 use Rattle.gfx_dwt.specs.Samples.{cell, column}
-use Rattle.gfx_dwt.proofs.Planes.{all_more, column_within}
+use Rattle.gfx_dwt.proofs.Bounds.{even_of_within}
+use Rattle.gfx_dwt.proofs.Planes.{all_at, all_more, column_within}
 use Rattle.gfx_dwt.proofs.Same.{even_within, within_more}
 
 pub small_low : (low high : List ℤ) → AreSmall low high → AllWithin 16382 low
@@ -15,6 +17,12 @@ small_low low high small = all_more small.low_most 16382 low (omega arith) small
 
 pub small_high : (low high : List ℤ) → AreSmall low high → AllWithin 8191 high
 small_high low high small = all_more small.high_most 8191 high small.high_fits small.high_half
+
+-- an even sample of whatever places of the two halves
+pub small_even : (t : Transform) (low high : List ℤ) → AreSmall low high → (i j k : ℕ) → Within 16382 (even_of t (at low i) (at high j) (at high k))
+small_even t low high small i j k =
+    within_more (small.low_most + small.high_most) 16382 _ small.both_fit
+    (even_of_within t small.low_most small.high_most _ _ _ (all_at small.low_most low small.low_half i) (all_at small.high_most high small.high_half j) (all_at small.high_most high small.high_half k))
 
 -- parts of both halves
 pub small_parts : (low high less fewer : List ℤ) → AreSmall low high → ((bound : ℕ) → AllWithin bound low → AllWithin bound less) → ((bound : ℕ) → AllWithin bound high → AllWithin bound fewer) → AreSmall less fewer

@@ -1,6 +1,7 @@
 -- The lowest and the highest number of a list.
-use Rattle.std.proofs.Common.{◌≡◌, ℕ, ◌+◌, ◌<◌, ◌≤◌, max, ℤ, pos, negsuc, neg_ℤ, ◌≤ℤ◌, List, length, arith, below_more}
+use Rattle.std.proofs.Common.{◌≡◌, ◌≢◌, ℕ, ◌+◌, ◌<◌, ◌≤◌, max, ℤ, pos, negsuc, neg_ℤ, ◌≤ℤ◌, List, length, set, arith, below_more, get_or-set_other}
 use Rattle.std.specs.Int.RustNames.{unsigned_abs}
+use Rattle.std.proofs.lemmas.Grind.{common_steps}
 use Rattle.std.proofs.lemmas.Int.{ints}
 use Rattle.gfx_dwt.specs.Ranges.{AllWithin, Within, at}
 
@@ -27,6 +28,21 @@ spans_more values i v lowest highest low high e a b kept_a d f kept_d s = record
   kept_high = λ bound all. kept_d bound (s.kept_high bound (λ k h. all k (omega arith))) (rw e (all i (omega arith)));
 }
 
+-- spans of numbers that are written one by one
+spans_same : (xs ys : List ℤ) (count : ℕ) (lowest highest : ℤ) → ((k : ℕ) → k < count → at ys k ≡ at xs k) → Spans xs count lowest highest → Spans ys count lowest highest
+spans_same xs ys count lowest highest same s = record {
+  low = λ k h. rw (same k h) (s.low k h);
+  high = λ k h. rw (same k h) (s.high k h);
+  kept_low = λ bound all. s.kept_low bound (λ k h. rw (same k h) at (all k h));
+  kept_high = λ bound all. s.kept_high bound (λ k h. rw (same k h) at (all k h));
+}
+
+pub spans_put : (xs : List ℤ) (i : ℕ) (v lowest highest low high : ℤ) → i < length xs → low ≤ℤ lowest → low ≤ℤ v → ((bound : ℕ) → Within bound lowest → Within bound v → Within bound low) → highest ≤ℤ high → v ≤ℤ high → ((bound : ℕ) → Within bound highest → Within bound v → Within bound high) → Spans xs i lowest highest → Spans (set xs i v) (i + 1) low high
+spans_put xs i v lowest highest low high fits a b kept_a d f kept_d s =
+    let new : v ≡ at (set xs i v) i = grind (arith, common_steps) in
+    spans_more (set xs i v) i v lowest highest low high new a b kept_a d f kept_d
+    (spans_same xs (set xs i v) i lowest highest (λ k h. let apart : k ≢ i = omega arith in get_or-set_other xs i k v (pos 0) apart) s)
+
 abs_below : (z : ℤ) → neg_ℤ (pos (unsigned_abs z)) ≤ℤ z
 abs_below (pos n) = omega (arith, ints)
 abs_below (negsuc n) = omega (arith, ints)
@@ -34,6 +50,10 @@ abs_below (negsuc n) = omega (arith, ints)
 abs_above : (z : ℤ) → z ≤ℤ pos (unsigned_abs z)
 abs_above (pos n) = omega (arith, ints)
 abs_above (negsuc n) = omega (arith, ints)
+
+-- a number is within its magnitude
+pub within_abs : (z : ℤ) → Within (unsigned_abs z) z
+within_abs z = record { low = abs_below z; high = abs_above z }
 
 abs_least : (bound : ℕ) (z : ℤ) → Within bound z → unsigned_abs z ≤ bound
 abs_least bound (pos n) w = omega (arith, ints)

@@ -11,6 +11,7 @@ mod kernels;
 mod layout;
 mod lines;
 mod narrow;
+mod narrow_flat;
 mod narrow_formula;
 mod narrow_grid;
 mod narrow_joining;

@@ -2,12 +2,14 @@ ghost use Rattle.std.specs.Prelude.{◌≡◌, ℕ, ◌+◌, ◌-◌, ◌*◌, �
 ghost use Rattle.gfx_dwt.specs.Joining.{even, joined, odd};
 ghost use Rattle.gfx_dwt.specs.Narrow.{AreSmall};
 ghost use Rattle.gfx_dwt.specs.Place.{high_size, line_size, low_size};
-ghost use Rattle.gfx_dwt.specs.Ranges.{at};
+ghost use Rattle.gfx_dwt.specs.Ranges.{AllWithin, at};
 ghost use Rattle.gfx_dwt.specs.Samples.{cell, column};
 
 use crate::layout::{Scale, Transform};
+use crate::narrow_flat::join_flat;
 use crate::narrow_grid::{narrow_edge_row, narrow_row};
 use crate::narrow_kernels::{lower, pair, raise};
+use crate::narrow_range::most_of;
 use crate::narrow_rows::{edge_rows, even_rows, line_rows};
 
 /// Joins each row of a low and of a high quarter, with room in spare memory. Each step is done for all rows before the
@@ -39,7 +41,8 @@ fn join_rows_of(
     line_rows(transform, level, edges, evens, out, rows);
 }
 
-/// The same. The sizes of the first level are known, so that it has loops of its own; those of the others aren't, since
+/// The same, in the plain transform for all rows as one list. The result is no less than the magnitude of any number that
+/// is written. The sizes of the first level are known, so that it has loops of its own; those of the others aren't, since
 /// the compiler unrolls short loops and then does one number at a time.
 pub fn join_narrow_rows(
     transform: Transform,
@@ -49,22 +52,19 @@ pub fn join_narrow_rows(
     out: &mut [i16],
     rows: usize,
     spare: &mut [i16],
-)
+) -> u16
     requires rows { rows ≤ 64 }
     requires low_len { length low.now ≡ rows * low_size transform level }
     requires high_len { length high.now ≡ rows * high_size transform level }
     requires out_len { length out.old ≡ rows * line_size transform level }
     requires spare_len { 2 * (rows * (low_size transform level + 1)) ≤ length spare.old }
     requires small { AreSmall low.now high.now }
-    ensures { (r c : ℕ) → r < rows → c < line_size transform level → cell (line_size transform level) out.new r c ≡ joined transform level (cell (low_size transform level) low.now r) (cell (high_size transform level) high.now r) c }
+    ensures joined { (r c : ℕ) → r < rows → c < line_size transform level → cell (line_size transform level) out.new r c ≡ joined transform level (cell (low_size transform level) low.now r) (cell (high_size transform level) high.now r) c }
+    ensures within { AllWithin result out.new }
 {
     match (transform, level) {
-        (Transform::Plain, Scale::First) => {
-            join_rows_of(Transform::Plain, Scale::First, low, high, out, rows, spare)
-        }
-        (Transform::Plain, _) => {
-            join_rows_of(Transform::Plain, level, low, high, out, rows, spare)
-        }
+        (Transform::Plain, Scale::First) => join_flat(Scale::First, low, high, out, rows, spare),
+        (Transform::Plain, _) => join_flat(level, low, high, out, rows, spare),
         (Transform::Reduced, Scale::First) => {
             join_rows_of(
                 Transform::Reduced,
@@ -74,10 +74,12 @@ pub fn join_narrow_rows(
                 out,
                 rows,
                 spare,
-            )
+            );
+            most_of(out)
         }
         (Transform::Reduced, _) => {
-            join_rows_of(Transform::Reduced, level, low, high, out, rows, spare)
+            join_rows_of(Transform::Reduced, level, low, high, out, rows, spare);
+            most_of(out)
         }
     }
 }

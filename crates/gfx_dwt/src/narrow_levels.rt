@@ -9,11 +9,12 @@ ghost use Rattle.gfx_dwt.specs.Samples.{cell, quarter, sample, second_level, thi
 
 use crate::layout::{Scale, Transform};
 use crate::narrow_joining::{join_narrow_columns, join_narrow_rows};
-use crate::narrow_range::{are_small, is_low};
+use crate::narrow_range::{are_small, fit, is_low};
 use crate::narrow_smooth::{smooth_columns, smooth_rows};
 use crate::noughts::all_are;
 
 /// Joins the rows of a level's quarters, with room in spare memory: those of its low half, and those of its high half.
+/// Where the result is true, what was written is known to fit 16 bits without being looked at again.
 fn join_narrow_quarters(
     transform: Transform,
     level: Scale,
@@ -22,7 +23,7 @@ fn join_narrow_quarters(
     above: &mut [i16],
     below: &mut [i16],
     spare: &mut [i16],
-)
+) -> bool
     requires low_len { length low.now ≡ low_size transform level * low_size transform level }
     requires bands_len { length bands.now ≡ low_start transform level }
     requires above_len { length above.old ≡ low_size transform level * line_size transform level }
@@ -31,13 +32,15 @@ fn join_narrow_quarters(
     requires small { AreSmall low.now bands.now }
     ensures above { (r x : ℕ) → r < low_size transform level → x < line_size transform level → cell (line_size transform level) above.new r x ≡ joined transform level (cell (low_size transform level) low.now r) (quarter 0 (high_size transform level) bands.now r) x }
     ensures below { (r x : ℕ) → r < high_size transform level → x < line_size transform level → cell (line_size transform level) below.new r x ≡ joined transform level (quarter (low_size transform level * high_size transform level) (low_size transform level) bands.now r) (quarter (low_size transform level * high_size transform level + high_size transform level * low_size transform level) (high_size transform level) bands.now r) x }
+    ensures small { IsTrue result → AreSmall above.new below.new }
 {
     let low_size = level.low_size(transform);
     let high_size = level.high_size(transform);
     let (hl, rest) = bands.split_at(low_size * high_size);
     let (lh, hh) = rest.split_at(high_size * low_size);
-    join_narrow_rows(transform, level, low, hl, above, low_size, spare);
-    join_narrow_rows(transform, level, lh, hh, below, high_size, spare);
+    let most_above = join_narrow_rows(transform, level, low, hl, above, low_size, spare);
+    let most_below = join_narrow_rows(transform, level, lh, hh, below, high_size, spare);
+    fit(most_above, most_below)
 }
 
 /// Joins a level of its low quarter and its bands in a plane, where all numbers are small enough. HL, LH and HH stand
@@ -63,8 +66,8 @@ fn join_detailed(
     }
     let (above, rest) = rows.split_at_mut(low_size * width);
     let (below, _) = rest.split_at_mut((width - low_size) * width);
-    join_narrow_quarters(transform, level, low, bands, above, below, out);
-    if !are_small(above, below) {
+    let small = join_narrow_quarters(transform, level, low, bands, above, below, out);
+    if !small && !are_small(above, below) {
         return false;
     }
     join_narrow_columns(transform, level, above, below, out, width);

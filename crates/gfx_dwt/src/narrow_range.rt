@@ -1,4 +1,5 @@
-ghost use Rattle.std.specs.Prelude.{ℕ, ◌≤◌, MatchBool, ◌≤ℤ◌};
+ghost use Rattle.std.specs.Prelude.{◌≡◌, ℕ, ◌+◌, ◌≤◌, max, MatchBool, ◌≤ℤ◌};
+ghost use Rattle.std.specs.Int.RustNames.{unsigned_abs};
 ghost use Rattle.gfx_dwt.specs.Narrow.{AreSmall};
 ghost use Rattle.gfx_dwt.specs.Ranges.{AllWithin, Within};
 
@@ -11,7 +12,7 @@ const BOTH: u16 = 16_382;
 
 /// The lower of two numbers.
 #[inline]
-fn lower(one: i16, other: i16) -> i16
+pub fn lower(one: i16, other: i16) -> i16
     ensures one { result ≤ℤ one }
     ensures other { result ≤ℤ other }
     ensures kept { (bound : ℕ) → Within bound one → Within bound other → Within bound result }
@@ -21,7 +22,7 @@ fn lower(one: i16, other: i16) -> i16
 
 /// The higher of two numbers.
 #[inline]
-fn higher(one: i16, other: i16) -> i16
+pub fn higher(one: i16, other: i16) -> i16
     ensures one { one ≤ℤ result }
     ensures other { other ≤ℤ result }
     ensures kept { (bound : ℕ) → Within bound one → Within bound other → Within bound result }
@@ -29,9 +30,17 @@ fn higher(one: i16, other: i16) -> i16
     if one < other { other } else { one }
 }
 
+/// The greatest magnitude among numbers of which these are the lowest and the highest.
+#[inline]
+pub fn greatest_of(lowest: i16, highest: i16) -> u16
+    ensures { result ≡ max (unsigned_abs lowest) (unsigned_abs highest) }
+{
+    lowest.unsigned_abs().max(highest.unsigned_abs())
+}
+
 /// The greatest magnitude among numbers: that of the lowest or of the highest of them and nought.
 // No early return: so it is done on many numbers at a time.
-fn most_of(values: &[i16]) -> u16
+pub fn most_of(values: &[i16]) -> u16
     ensures all { AllWithin result values.now }
     ensures least { (bound : ℕ) → AllWithin bound values.now → result ≤ bound }
 {
@@ -41,16 +50,22 @@ fn most_of(values: &[i16]) -> u16
         lowest = lower(lowest, values[place]);
         highest = higher(highest, values[place]);
     }
-    lowest.unsigned_abs().max(highest.unsigned_abs())
+    greatest_of(lowest, highest)
+}
+
+/// Whether a low and a high half of these greatest magnitudes fit 16 bits together.
+#[inline]
+pub fn fit(low: u16, high: u16) -> bool
+    ensures { MatchBool result ((high ≤ 8191) × (low + high ≤ 16382)) (high ≤ 8191 → low + high ≤ 16382 → ⊥) }
+{
+    high <= HIGH && low <= BOTH - high
 }
 
 /// Whether a low and a high half fit 16 bits together.
 pub fn are_small(low: &[i16], high: &[i16]) -> bool
     ensures { MatchBool result (AreSmall low.now high.now) (AreSmall low.now high.now → ⊥) }
 {
-    let low = most_of(low);
-    let high = most_of(high);
-    high <= HIGH && low <= BOTH - high
+    fit(most_of(low), most_of(high))
 }
 
 /// Whether a low half fits 16 bits where the high one is nought.

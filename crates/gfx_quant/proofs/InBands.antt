@@ -1,16 +1,17 @@
 -- A loop over the ten bands of a plane.
-use Rattle.std.proofs.Common.{◌≡◌, ℕ, suc, zero, ◌+◌, ◌<◌, ◌≤◌, ℤ, List, [], ◌∷◌, map, take, arith, ap, refl, sym, subst, ◌∙◌, ◌⊎◌, inl, inr, Bool, true, false, None}
+use Rattle.std.proofs.Common.{◌-◌, ◌/◌, ◌^◌, ◌≡◌, ℕ, suc, zero, ◌+◌, ◌<◌, ◌≤◌, ℤ, List, [], ◌∷◌, map, take, arith, ap, refl, sym, subst, ◌∙◌, ◌⊎◌, inl, inr, Bool, true, false, None}
 use Rattle.std.specs.Prelude.{sum, sum_by, slice_index_or}
 use Rattle.std.proofs.lemmas.List.Sums.{sum-map, sum_by-take-le}
 use Rattle.gfx_dwt.specs.declared.layout.Transform.{Transform}
 use Rattle.gfx_dwt.specs.declared.layout.Band.{Band}
 use Rattle.gfx_dwt.specs.declared.layout.Band.TheVariants.{Hl1, Lh1, Hh1, Hl2, Lh2, Hh2, Hl3, Lh3, Hh3, Ll3}
 use Rattle.gfx_dwt.specs.Place.{LiesIn, bands, number, size, start}
-use Rattle.gfx_dwt.specs.Ranges.{at}
-use Rattle.std.specs.Prelude.{◌&&◌, MatchBool}
+use Rattle.gfx_dwt.specs.Ranges.{Within, at}
+use Rattle.std.specs.Prelude.{◌&&◌, MatchBool, nat_le}
 use Rattle.std.proofs.lemmas.Bool.{cases_lt}
 use Rattle.gfx_quant.specs.Coefficient.{dequantised}
 use Rattle.gfx_quant.specs.Quant.{value_of}
+use Rattle.gfx_quant.proofs.InRange.{within_has}
 use Rattle.gfx_quant.specs.Planes.{AllHave, LeavesRange, MapsBetween, PlaneHas, SomeLacks, has_coefficient}
 
 -- a band is the one of its number
@@ -99,3 +100,8 @@ more_bands i t positions plane band position from count true true e ep es ez bef
 more_bands i t positions plane band position from count true false e ep es ez before some =
     (band, (some.0, ((omega (arith, some.1.0), omega (arith, some.1.1)), rw ep at (lacks_is position (at plane some.0) some.1.2))))
 more_bands i t positions plane band position from count false here e ep es ez before h = before
+
+-- a band before LL3 whose values are within a magnitude that has a coefficient
+pub known_have : (t : Transform) (plane : List ℤ) (position magnitude : ℕ) (band : Band) → number band < number Ll3 → nat_le magnitude (32767 / 2 ^ (position - 1)) ≡ true
+    → ((k : ℕ) → k < start t Ll3 → Within magnitude (at plane k)) → AllHave position plane (start t band) (start t band + size t band)
+known_have t plane position magnitude band h e within k p q = within_has position magnitude (at plane k) e (within k (omega (arith, q, apart t band Ll3 h)))

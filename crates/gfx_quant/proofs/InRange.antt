@@ -1,9 +1,11 @@
 -- Which values have a coefficient, and loops that test it.
 use Rattle.std.proofs.Common.{◌≡◌, ℕ, suc, zero, ◌+◌, ◌-◌, ◌*◌, ◌/◌, ◌^◌, ◌<◌, ◌≤◌, Bool, true, false, ℤ, pos, negsuc, neg_ℤ, ◌*ℤ◌, ◌≤ℤ◌, ◌<ℤ◌, List, arith, refl, sym, ◌∙◌, inl, inr, below_more, lit<, ⊎_elim}
-use Rattle.std.specs.Prelude.{◌&&◌, ◌⊎◌, MatchBool}
+use Rattle.std.specs.Prelude.{◌&&◌, ◌⊎◌, MatchBool, nat_le}
+use Rattle.std.proofs.lemmas.Bool.{leb-true}
 use Rattle.std.proofs.lemmas.Int.{ints}
 use Rattle.std.proofs.Math.Nat.{mul-le-mul_right, div-le_self, div-mul-le_self, one-le-pow}
-use Rattle.gfx_dwt.specs.Ranges.{at}
+use Rattle.std.proofs.lemmas.Nat.{le-div}
+use Rattle.gfx_dwt.specs.Ranges.{Within, at}
 use Rattle.gfx_quant.specs.Coefficient.{coefficient_of, is_coefficient}
 use Rattle.gfx_quant.specs.Planes.{AllHave, SomeLacks, has_coefficient}
 
@@ -43,6 +45,15 @@ outside (negsuc m) n z (inr high) = absurd (omega (arith, ints))
 pub bounds_decide : (position : ℕ) (v least most : ℤ) (here : Bool) → least ≡ neg_ℤ (pos (32768 / 2 ^ (position - 1))) → most ≡ pos (32767 / 2 ^ (position - 1)) → MatchBool here ((least ≤ℤ v) × (v ≤ℤ most)) ((v <ℤ least) ⊎ (most <ℤ v)) → MatchBool here (has_coefficient position v ≡ true) (has_coefficient position v ≡ false)
 bounds_decide position v least most true e f h = inside v (2 ^ (position - 1)) (one-le-pow (position - 1) 2 (lit< tt)) (rw e at h.0) (rw f at h.1)
 bounds_decide position v least most false e f h = outside v (2 ^ (position - 1)) (one-le-pow (position - 1) 2 (lit< tt)) (rw (e, f) at h)
+
+-- so has a value whose magnitude has one
+pub within_has : (position magnitude : ℕ) (v : ℤ) → nat_le magnitude (32767 / 2 ^ (position - 1)) ≡ true → Within magnitude v → has_coefficient position v ≡ true
+within_has position magnitude v e h =
+    let n = 2 ^ (position - 1) in
+    let some : 0 < n = one-le-pow (position - 1) 2 (lit< tt) in
+    let few : magnitude ≤ 32767 / n = leb-true magnitude (32767 / n) e in
+    let more : 32767 / n ≤ 32768 / n = le-div (32767 / n) 32768 n some (omega (arith, div-mul-le_self 32767 n)) in
+    inside v n some (omega (arith, ints, h.low)) (omega (arith, ints, h.high))
 
 -- one more value
 pub more_have : (position : ℕ) (values : List ℤ) (from i : ℕ) (fits here : Bool) → from ≤ i → MatchBool fits (AllHave position values from i) (SomeLacks position values from i) → MatchBool here (has_coefficient position (at values i) ≡ true) (has_coefficient position (at values i) ≡ false) → MatchBool (fits && here) (AllHave position values from (i + 1)) (SomeLacks position values from (i + 1))

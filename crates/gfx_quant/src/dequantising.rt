@@ -1,12 +1,13 @@
-ghost use Rattle.std.specs.Prelude.{◌≡◌, ℕ, ◌≤◌, ◌<◌, ◌-◌, ◌+◌, ◌/◌, ◌^◌, pos, neg_ℤ, ◌≤ℤ◌, ◌<ℤ◌, ◌⊎◌, length, IsTrue, MatchBool};
-ghost use Rattle.gfx_dwt.specs.Place.{number};
-ghost use Rattle.gfx_dwt.specs.Ranges.{AllCoefficients, IsCoefficient, at};
+ghost use Rattle.std.specs.Prelude.{◌≡◌, ℕ, ◌≤◌, ◌<◌, ◌-◌, ◌+◌, ◌/◌, ◌^◌, pos, neg_ℤ, ◌≤ℤ◌, ◌<ℤ◌, ◌⊎◌, length, nat_le, IsTrue, MatchBool};
+ghost use Rattle.gfx_dwt.specs.declared.layout.Band.TheVariants.{Ll3};
+ghost use Rattle.gfx_dwt.specs.Place.{number, size, start};
+ghost use Rattle.gfx_dwt.specs.Ranges.{AllCoefficients, IsCoefficient, Within, at};
 ghost use Rattle.gfx_quant.specs.Coefficient.{coefficient_of};
 ghost use Rattle.gfx_quant.specs.Planes.{AllHave, ArePositions, Dequantises, LeavesRange, MapsBands, MapsBetween, PlaneHas, SomeLacks};
 ghost use Rattle.gfx_quant.specs.Quant.{value_of};
 
 use crate::bands::{band_size, band_start, nth_band};
-use gfx_dwt::{Transform, noughts_before};
+use gfx_dwt::{Band, Transform, noughts_before};
 
 /// The least value that has a coefficient at this bit position.
 #[inline]
@@ -87,6 +88,16 @@ fn scaled(v: i16, position: u8) -> i16
     v << (position - 1).min(15)
 }
 
+/// Whether so large a value of either sign has a coefficient at this bit position.
+#[inline]
+fn has_both(magnitude: u16, position: u8) -> bool
+    requires low { 1 ≤ position }
+    requires high { position ≤ 30 }
+    ensures { result ≡ nat_le magnitude (32767 / 2 ^ (position - 1)) }
+{
+    u32::from(magnitude) <= 32_767u32 >> (position - 1)
+}
+
 /// Whether all values of a band have a coefficient; before a place they are nought, which has one.
 #[inline]
 fn band_has(values: &[i16], from: usize, to: usize, position: u8, noughts: usize) -> bool
@@ -100,28 +111,61 @@ fn band_has(values: &[i16], from: usize, to: usize, position: u8, noughts: usize
     all_have(values, noughts.max(from).min(to), to, position)
 }
 
-/// Whether all values of a plane have a coefficient; before a place they are nought.
+/// Whether a magnitude tells that all values of a band have a coefficient: none outside LL3 is beyond it.
+#[inline]
+fn is_known(band: Band, position: u8, magnitude: u16) -> bool
+    requires low { 1 ≤ position }
+    requires high { position ≤ 30 }
+    ensures { IsTrue result → (number band < number Ll3) × IsTrue (nat_le magnitude (32767 / 2 ^ (position - 1))) }
+{
+    match band {
+        Band::Ll3 => false,
+        _ => has_both(magnitude, position),
+    }
+}
+
+/// Whether all values of a band have a coefficient. They aren't looked at where the greatest magnitude outside LL3 tells.
+#[inline]
+fn band_fits(
+    plane: &[i16; 4096],
+    transform: Transform,
+    band: Band,
+    position: u8,
+    noughts: usize,
+    magnitude: u16,
+) -> bool
+    requires low { 1 ≤ position }
+    requires high { position ≤ 30 }
+    requires noughts { (k : ℕ) → k < noughts → at plane.now k ≡ pos 0 }
+    requires magnitude { (k : ℕ) → k < start transform Ll3 → Within magnitude (at plane.now k) }
+    ensures { MatchBool result (AllHave position plane.now (start transform band) (start transform band + size transform band)) (SomeLacks position plane.now (start transform band) (start transform band + size transform band)) }
+{
+    if is_known(band, position, magnitude) {
+        return true;
+    }
+    let start = band_start(transform, band);
+    let end = start + band_size(transform, band);
+    band_has(plane, start, end, position, noughts)
+}
+
+/// Whether all values of a plane have a coefficient; none of all bands but LL3 is beyond a magnitude, and before a place
+/// they are nought.
 fn plane_has(
     plane: &[i16; 4096],
     transform: Transform,
     positions: &[u8; 10],
     noughts: usize,
+    magnitude: u16,
 ) -> bool
     requires positions { ArePositions positions.now }
     requires noughts { (k : ℕ) → k < noughts → at plane.now k ≡ pos 0 }
+    requires magnitude { (k : ℕ) → k < start transform Ll3 → Within magnitude (at plane.now k) }
     ensures { MatchBool result (PlaneHas 10 transform positions.now plane.now) (LeavesRange transform positions.now plane.now) }
 {
     let mut fits = true;
     for index in 0..10 {
         let band = nth_band(index);
-        let start = band_start(transform, band);
-        fits &= band_has(
-            plane,
-            start,
-            start + band_size(transform, band),
-            positions[index],
-            noughts,
-        );
+        fits &= band_fits(plane, transform, band, positions[index], noughts, magnitude);
     }
     fits
 }
@@ -208,20 +252,23 @@ fn narrow_plane(
 
 /// Puts the coefficients of a component's values in `out`, each as `dequantise` gives it at the bit position of its
 /// band; these have the order of `Band`. Where a value has none the answer is false, and `out` stays, which has room
-/// for 4,096 numbers.
+/// for 4,096 numbers. No value outside LL3 may be beyond `magnitude`: a caller that knows the greatest one saves a look
+/// at all of them.
 pub fn dequantise_plane(
     plane: &[i16; 4096],
     transform: Transform,
     positions: &[u8; 10],
+    magnitude: u16,
     out: &mut [i16],
 ) -> bool
     requires room { length out.old ≡ 4096 }
     requires positions { ArePositions positions.now }
+    requires magnitude { (k : ℕ) → k < start transform Ll3 → Within magnitude (at plane.now k) }
     ensures coefficients { IsTrue result → AllCoefficients out.new }
     ensures exact { MatchBool result (Dequantises transform positions.now plane.now out.new) (LeavesRange transform positions.now plane.now × (out.new ≡ out.old)) }
 {
     let noughts = noughts_before(plane);
-    let fits = plane_has(plane, transform, positions, noughts);
+    let fits = plane_has(plane, transform, positions, noughts, magnitude);
     if fits {
         narrow_plane(plane, transform, positions, noughts, out);
     }

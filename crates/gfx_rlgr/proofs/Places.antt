@@ -1,10 +1,11 @@
 -- Terms in their places.
-use Rattle.std.proofs.Common.{get_or, ◌≡◌, ℕ, zero, suc, ◌+◌, ◌-◌, ◌<◌, ◌≤◌, Bool, true, false, ◌&&◌, ℤ, pos, List, [], ◌∷◌, ◌++◌, length, take, set, refl, sym, ap, ◌∙◌, arith, append_assoc, length-append, replicate, min}
-use Rattle.std.specs.List.{All, list_all}
+use Rattle.std.proofs.Common.{get_or, ◌≡◌, ℕ, zero, suc, ◌+◌, ◌-◌, ◌<◌, ◌≤◌, ℤ, pos, List, [], ◌∷◌, ◌++◌, length, take, set, refl, sym, ap, ◌∙◌, arith, append_assoc, length-append, replicate, min}
+use Rattle.std.specs.Prelude.{max}
+use Rattle.std.specs.Int.RustNames.{unsigned_abs}
+use Rattle.std.specs.List.{All}
 use Rattle.std.proofs.lemmas.List.{take-replicate, replicate-append-replicate, length-replicate, get_or-replicate, take-append-le, take_all, append-nil}
-use Rattle.std.proofs.lemmas.List.Folds.{list_all-append}
 use Rattle.std.proofs.Math.Seq.{take-append-add}
-use Rattle.gfx_rlgr.specs.Rlgr.{in_range}
+use Rattle.gfx_rlgr.specs.Bound.{greatest}
 use Rattle.gfx_rlgr.specs.Steps.{filled}
 
 same-zeros : (values : List ℤ) (n i j : ℕ) → n ≤ i → n ≤ j → take n (values ++ replicate i (pos 0)) ≡ take n (values ++ replicate j (pos 0))
@@ -49,24 +50,30 @@ pub filled-set : (n : ℕ) (values : List ℤ) (v : ℤ) → length values < n �
 unfolding filled
 filled-set n values v h = set-zero values n n n v h (omega arith) (omega arith)
 
-zeros-in-range : (n : ℕ) → list_all in_range (replicate n (pos 0)) ≡ true
-zeros-in-range zero = refl
-zeros-in-range (suc n) = zeros-in-range n
+greatest-append : (xs ys : List ℤ) → greatest (xs ++ ys) ≡ max (greatest xs) (greatest ys)
+unfolding greatest
+greatest-append [] ys = omega arith
+greatest-append (x ∷ xs) ys = ap (max (unsigned_abs x)) (greatest-append xs ys) ∙ omega arith
 
-and-true : (b : Bool) → (b && true) ≡ b
-and-true true = refl
-and-true false = refl
+greatest-zeros : (n : ℕ) → greatest (replicate n (pos 0)) ≡ 0
+unfolding greatest
+greatest-zeros zero = refl
+greatest-zeros (suc n) = ap (max 0) (greatest-zeros n)
+
+greatest-one : (v : ℤ) → max 0 (greatest (v ∷ [])) ≡ unsigned_abs v
+unfolding greatest
+greatest-one v = omega arith
 
 -- ---- what `place` leaves: a run past the end, a run, and a run with its value
 
 pub placed-past : (n : ℕ) (values more out : List ℤ) (z : ℕ) → out ≡ filled n values → length values < n → n ≤ length values + z
     → (out ≡ filled n (values ++ (replicate z (pos 0) ++ more)))
     × (n ≡ min n (length (values ++ (replicate z (pos 0) ++ more))))
-    × (list_all in_range (take n (values ++ (replicate z (pos 0) ++ more))) ≡ (list_all in_range values && true))
+    × (greatest (take n (values ++ (replicate z (pos 0) ++ more))) ≡ max (greatest values) 0)
 placed-past n values more out z is h past = (
   is ∙ sym (more-zeros n z values) ∙ sym (filled-past n (values ++ replicate z (pos 0)) more (omega (arith, long))) ∙ ap (filled n) (append_assoc values (replicate z (pos 0)) more),
   omega (arith, long, all),
-  ap (list_all in_range) front ∙ list_all-append in_range values (replicate (n - length values) (pos 0)) ∙ ap (λ b. list_all in_range values && b) (zeros-in-range (n - length values)),
+  ap greatest front ∙ greatest-append values (replicate (n - length values) (pos 0)) ∙ ap (max (greatest values)) (greatest-zeros (n - length values)),
 )
   where
     long : length (values ++ replicate z (pos 0)) ≡ length values + z
@@ -86,14 +93,14 @@ placed-past n values more out z is h past = (
 pub placed-run : (n : ℕ) (values out : List ℤ) (z : ℕ) → out ≡ filled n values → length values + z < n
     → (out ≡ filled n (values ++ (replicate z (pos 0) ++ [])))
     × (length values + z ≡ min n (length (values ++ (replicate z (pos 0) ++ []))))
-    × (list_all in_range (take n (values ++ (replicate z (pos 0) ++ []))) ≡ (list_all in_range values && true))
+    × (greatest (take n (values ++ (replicate z (pos 0) ++ []))) ≡ max (greatest values) 0)
 placed-run n values out z is h = (
   is ∙ sym (more-zeros n z values) ∙ ap (λ vs. filled n (values ++ vs)) (sym (append-nil (replicate z (pos 0)))),
   omega (arith, all),
-  ap (list_all in_range) (take_all n (values ++ (replicate z (pos 0) ++ [])) (omega (arith, all)))
-      ∙ list_all-append in_range values (replicate z (pos 0) ++ [])
-      ∙ ap (λ vs. list_all in_range values && list_all in_range vs) (append-nil (replicate z (pos 0)))
-      ∙ ap (λ b. list_all in_range values && b) (zeros-in-range z),
+  ap greatest (take_all n (values ++ (replicate z (pos 0) ++ [])) (omega (arith, all)))
+      ∙ greatest-append values (replicate z (pos 0) ++ [])
+      ∙ ap (λ vs. max (greatest values) (greatest vs)) (append-nil (replicate z (pos 0)))
+      ∙ ap (max (greatest values)) (greatest-zeros z),
 )
   where
     all : length (values ++ (replicate z (pos 0) ++ [])) ≡ length values + z
@@ -102,17 +109,16 @@ placed-run n values out z is h = (
 pub placed-value : (n : ℕ) (values out : List ℤ) (z : ℕ) (v : ℤ) → out ≡ filled n values → length values + z < n
     → (set out (length values + z) v ≡ filled n (values ++ (replicate z (pos 0) ++ v ∷ [])))
     × (length values + z + 1 ≡ min n (length (values ++ (replicate z (pos 0) ++ v ∷ []))))
-    × (list_all in_range (take n (values ++ (replicate z (pos 0) ++ v ∷ []))) ≡ (list_all in_range values && in_range v))
+    × (greatest (take n (values ++ (replicate z (pos 0) ++ v ∷ []))) ≡ max (greatest values) (unsigned_abs v))
 placed-value n values out z v is h = (
   ap (λ vs. set vs (length values + z) v) (is ∙ sym (more-zeros n z values))
       ∙ ap (λ k. set (filled n (values ++ replicate z (pos 0))) k v) (sym long)
       ∙ filled-set n (values ++ replicate z (pos 0)) v (omega (arith, long))
       ∙ ap (filled n) (append_assoc values (replicate z (pos 0)) (v ∷ [])),
   omega (arith, all),
-  ap (list_all in_range) (take_all n (values ++ (replicate z (pos 0) ++ v ∷ [])) (omega (arith, all)))
-      ∙ list_all-append in_range values (replicate z (pos 0) ++ v ∷ [])
-      ∙ ap (λ b. list_all in_range values && b)
-      (list_all-append in_range (replicate z (pos 0)) (v ∷ []) ∙ ap (λ b. b && (in_range v && true)) (zeros-in-range z) ∙ and-true (in_range v)),
+  ap greatest (take_all n (values ++ (replicate z (pos 0) ++ v ∷ [])) (omega (arith, all)))
+      ∙ greatest-append values (replicate z (pos 0) ++ v ∷ [])
+      ∙ ap (max (greatest values)) (greatest-append (replicate z (pos 0)) (v ∷ []) ∙ ap (λ m. max m (greatest (v ∷ []))) (greatest-zeros z) ∙ greatest-one v),
 )
   where
     long : length (values ++ replicate z (pos 0)) ≡ length values + z

@@ -1,6 +1,11 @@
--- Values as small as those of a level of a tile, whose codes fit a tile's 16-bit lengths (this project's own rule).
-use Rattle.std.specs.Prelude.{ℕ, ◌≤◌, ℤ, List, take, drop, All}
+-- How large values are; and values as small as those of a level of a tile, whose codes fit a tile's 16-bit lengths (this project's own rule).
+use Rattle.std.specs.Prelude.{ℕ, ◌≤◌, max, ℤ, List, [], ◌∷◌, take, drop, All}
 use Rattle.std.specs.Int.RustNames.{unsigned_abs}
+
+-- the greatest magnitude among values
+unfoldable pub greatest : List ℤ → ℕ
+greatest [] = 0
+greatest (value ∷ values) = max (unsigned_abs value) (greatest values)
 
 -- a magnitude of at most so much
 abbrev pub IsWithin : ℕ → ℤ → Type 0

@@ -1,9 +1,9 @@
-ghost use Rattle.std.specs.Prelude.{All, ◌≡◌, ◌+◌, ◌<◌, ◌≤◌, ◌∷◌, ◌++◌, [], true, min, ℤ, pos, negsuc, ℕ, suc, if◌then◌else◌, List, length, take, map, unwrap_or, OnOk, IfErr, OnErr, Ok, Err, ◌&&◌};
-ghost use Rattle.std.specs.List.{list_all};
+ghost use Rattle.std.specs.Prelude.{All, ◌≡◌, ◌+◌, ◌<◌, ◌≤◌, ◌∷◌, ◌++◌, [], true, min, max, ℤ, pos, negsuc, ℕ, suc, if◌then◌else◌, List, length, take, map, unwrap_or, OnOk, IfOk, IfErr, OnErr, Ok, Err};
 ghost use Rattle.gfx_base.specs.declared.refusal.Refusal.TheVariants.{CoefficientRange};
 ghost use Rattle.gfx_bits.specs.Bits.{bits_of};
+ghost use Rattle.gfx_rlgr.specs.Bound.{greatest};
 ghost use Rattle.gfx_rlgr.specs.Code.{Token, start, k};
-ghost use Rattle.gfx_rlgr.specs.Rlgr.{Rlgr, Reading, terms as terms_from, in_range};
+ghost use Rattle.gfx_rlgr.specs.Rlgr.{Rlgr, Reading, terms as terms_from};
 ghost use Rattle.gfx_rlgr.specs.Steps.{AreWithin, ReadsNumber, ReadsToken, kept, unfold_number, shown, filled};
 
 use crate::params::{MAGNITUDE_MAX, Params, TERMS};
@@ -22,37 +22,46 @@ struct Terms {
 
 /// Reads the 4,096 values that the bytes say, with zero bits behind their end ([MS-RDPRFX]
 /// 3.1.8.1.7.3, RLGR1). A magnitude above 32,767 among them is `CoefficientRange`, and all values
-/// are then zero. It takes no memory.
-pub fn decode(bytes: &[u8], out: &mut [i16; 4096]) -> Result<(), Refusal>
+/// are then zero. What it gives is the greatest magnitude. It takes no memory.
+pub fn decode(bytes: &[u8], out: &mut [i16; 4096]) -> Result<u16, Refusal>
     ensures ok { OnOk result (Rlgr bytes.now (Ok out.new)) }
+    ensures greatest { IfOk result (λ most. most ≡ greatest out.new) }
     ensures refused { IfErr result (λ refusal. (refusal ≡ CoefficientRange) × Rlgr bytes.now (Err CoefficientRange)) }
     ensures err { OnErr result (All (λ value. value ≡ pos 0) out.new) }
 {
-    if fill(bytes, out) {
-        return Ok(());
+    let most = fill(bytes, out);
+    if u32::from(most) <= MAGNITUDE_MAX {
+        return Ok(most);
     }
     clear(out);
     Err(Refusal::CoefficientRange)
 }
 
-// Reads tokens until the values are there, and says whether all are in range.
-fn fill(bytes: &[u8], out: &mut [i16; 4096]) -> bool
+// Reads tokens until the values are there, and gives the greatest magnitude.
+fn fill(bytes: &[u8], out: &mut [i16; 4096]) -> u16
     ensures { (tokens : List Token) × Reading (bits_of bytes.now) tokens
         × (out.new ≡ map kept (take 4096 (terms_from start tokens)))
-        × (result ≡ list_all in_range (take 4096 (terms_from start tokens))) }
+        × (result ≡ greatest out.new) }
 {
     clear(out);
     let mut bits = BitReader::new(bytes);
     let mut params = Params::start();
     let mut at = 0;
-    let mut all_in_range = true;
+    let mut most = 0;
     'tokens: while at < TERMS {
         let terms = read_token(&mut bits, &mut params);
-        let (next, in_range) = place(out, at, terms);
+        let (next, magnitude) = place(out, at, terms);
         at = next;
-        all_in_range = all_in_range & in_range;
+        most = higher(most, magnitude);
     }
-    all_in_range
+    most
+}
+
+#[inline(always)]
+fn higher(one: u16, other: u16) -> u16
+    ensures { result ≡ max one other }
+{
+    if one < other { other } else { one }
 }
 
 // Makes all values zero.
@@ -62,24 +71,24 @@ fn clear(out: &mut [i16; 4096])
     *out = [0; 4096];
 }
 
-// Puts the terms in their places, and says how many places are taken, and whether the value is in range.
+// Puts the terms in their places, and says how many places are taken, and what magnitude the value has.
 #[inline(always)]
-fn place(out: &mut [i16; 4096], at: usize, terms: Terms) -> (usize, bool)
+fn place(out: &mut [i16; 4096], at: usize, terms: Terms) -> (usize, u16)
     requires { at < 4096 }
     ensures { (values : List ℤ) → out.old ≡ filled 4096 values → at ≡ length values
         → (out.new ≡ filled 4096 (values ++ shown terms))
         × (result.0 ≡ min 4096 (length (values ++ shown terms)))
-        × (list_all in_range (take 4096 (values ++ shown terms)) ≡ (list_all in_range values && result.1)) }
+        × (greatest (take 4096 (values ++ shown terms)) ≡ max (greatest values) result.1) }
 {
     let next = at + terms.zeros as usize;
     if next >= TERMS {
-        return (TERMS, true);
+        return (TERMS, 0);
     }
     match terms.value {
-        None => (next, true),
+        None => (next, 0),
         Some(value) => {
             out[next] = value;
-            (next + 1, u32::from(value.unsigned_abs()) <= MAGNITUDE_MAX)
+            (next + 1, value.unsigned_abs())
         }
     }
 }

@@ -49,3 +49,7 @@ some-passed zero zero room ends e some known stop =
     true-false f = cc
 some-passed zero (suc zeros) room ends e some known stop = absurd (omega arith)
 some-passed (suc passed) zeros room ends e some known stop = omega arith
+
+-- zeros that don't fill the room are all passed
+pub none-left : (known room passed : ℕ) → passed ≡ min known room → passed < room → known - passed ≡ 0
+none-left known room passed e h = omega arith

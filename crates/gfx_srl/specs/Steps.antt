@@ -55,6 +55,10 @@ ReadsZero old new = (width : ℕ) → ReadsNext width (pos 0) old new
 abbrev pub ComesToValue : Reader → Reader → Type 0
 ComesToValue old new = (new.ends ≡ true) × (new.zeros ≡ 0) × ((bits : List Bool) (pairs : List Pair) → HasRead bits pairs old → HasRead bits pairs new)
 
+-- a token comes next, of which nothing was read yet
+abbrev pub BeginsToken : Reader → Type 0
+BeginsToken reader = (reader.zeros ≡ 0) × (reader.ends ≡ false)
+
 -- a writer: the bits written, the parameter, and zeros that no run covers yet
 pub record Writer : Type 0 where
   pub bits : List Bool

@@ -13,5 +13,5 @@ pub use laws::{
     one_meaning, one_writing, reading_says, what_bits_say, what_is_written, written_is_read,
     written_is_short,
 };
-pub use reader::SrlReader;
+pub use reader::{MOST_AHEAD, SrlReader};
 pub use writer::SrlWriter;

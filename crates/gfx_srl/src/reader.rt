@@ -3,14 +3,14 @@ ghost use Rattle.std.specs.Int.RustNames.{unsigned_abs};
 ghost use Rattle.gfx_bits.specs.Ahead.{Shows};
 ghost use Rattle.gfx_bits.specs.Bits.{bits_of, number};
 ghost use Rattle.gfx_srl.specs.Code.{k};
-ghost use Rattle.gfx_srl.specs.Steps.{ComesToValue, HasRead, ReadsMany, ReadsNext, ReadsZero};
+ghost use Rattle.gfx_srl.specs.Steps.{BeginsToken, ComesToValue, HasRead, ReadsMany, ReadsNext, ReadsZero};
 
 use crate::params::{PARAMETER_MAX, PARAMETER_START, after_run, after_value, width_of};
 use gfx_bits::{BitReader, number_in, word_behind, zeros_behind};
 use std::marker::Model;
 
 /// A token of a value of up to so many bits is looked at as a whole.
-const MOST_AHEAD: u8 = 5;
+pub const MOST_AHEAD: u8 = 5;
 
 /// Reads SRL: value after value, each at a width that the caller knows. Past the end bits are zero.
 /// It takes no memory.
@@ -75,7 +75,8 @@ impl<'a> SrlReader<'a> {
     }
 
     /// Goes past zeros, at most so many as there is room for, and to the value behind them where there is room for it
-    /// too, which it reads: how many zeros, and the value, 0 for none. A token at most.
+    /// too, which it reads: how many zeros, and the value, 0 for none. A token at most; where the zeros don't fill the
+    /// room, another token begins behind it.
     #[inline(always)]
     pub fn step(&mut self, n: u8, room: usize) -> (usize, i32)
         requires some { 1 ≤ n }
@@ -85,6 +86,7 @@ impl<'a> SrlReader<'a> {
         ensures zeros { result.1 ≡ pos 0 → (1 ≤ result.0) × ReadsMany n (replicate result.0 (pos 0)) self.old self.new }
         ensures value { (result.1 ≡ pos 0 → ⊥) → (result.0 < room) × ReadsMany n (replicate result.0 (pos 0) ++ result.1 ∷ []) self.old self.new }
         ensures small { unsigned_abs result.1 < 2 ^ n }
+        ensures begins { result.0 < room → BeginsToken self.new }
     {
         if self.begins() & (n <= MOST_AHEAD) {
             return self.step_ahead(n, room);
@@ -95,7 +97,7 @@ impl<'a> SrlReader<'a> {
     // Whether a token comes next, of which nothing was read yet.
     #[inline(always)]
     fn begins(&self) -> bool
-        ensures { IsTrue result → (self.now.zeros ≡ 0) × (self.now.ends ≡ false) }
+        ensures { IsTrue result → BeginsToken self.now }
     {
         (self.zeros == 0) & !self.ends
     }
@@ -110,6 +112,7 @@ impl<'a> SrlReader<'a> {
         ensures zeros { result.1 ≡ pos 0 → (1 ≤ result.0) × ReadsMany n (replicate result.0 (pos 0)) self.old self.new }
         ensures value { (result.1 ≡ pos 0 → ⊥) → (result.0 < room) × ReadsMany n (replicate result.0 (pos 0) ++ result.1 ∷ []) self.old self.new }
         ensures small { unsigned_abs result.1 < 2 ^ n }
+        ensures begins { result.0 < room → BeginsToken self.new }
     {
         self.open_token();
         let passed = self.pass_run(room);
@@ -119,11 +122,11 @@ impl<'a> SrlReader<'a> {
         (passed, 0)
     }
 
-    // What `step` says where a token begins, all of whose bits it looks at together.
+    /// What `step` says where a token begins and has at most `MOST_AHEAD` bits for its value: it looks at all its bits
+    /// together.
     #[inline(always)]
-    fn step_ahead(&mut self, n: u8, room: usize) -> (usize, i32)
-        requires zeros { self.old.zeros ≡ 0 }
-        requires begins { self.old.ends ≡ false }
+    pub fn step_ahead(&mut self, n: u8, room: usize) -> (usize, i32)
+        requires begins { BeginsToken self.old }
         requires some { 1 ≤ n }
         requires few { n ≤ MOST_AHEAD }
         requires room { 1 ≤ room }
@@ -131,6 +134,7 @@ impl<'a> SrlReader<'a> {
         ensures zeros { result.1 ≡ pos 0 → (1 ≤ result.0) × ReadsMany n (replicate result.0 (pos 0)) self.old self.new }
         ensures value { (result.1 ≡ pos 0 → ⊥) → (result.0 < room) × ReadsMany n (replicate result.0 (pos 0) ++ result.1 ∷ []) self.old self.new }
         ensures small { unsigned_abs result.1 < 2 ^ n }
+        ensures begins { result.0 < room → BeginsToken self.new }
     {
         let width = width_of(self.kp) as u32;
         let word = self.bits.peek(2 + width + most_zeros(n));
@@ -149,8 +153,7 @@ impl<'a> SrlReader<'a> {
     // Goes past a token whose run ends in a value, which the word shows, and says the value.
     #[inline(always)]
     fn read_last(&mut self, word: u64, n: u8) -> i32
-        requires zeros { self.old.zeros ≡ 0 }
-        requires begins { self.old.ends ≡ false }
+        requires begins { BeginsToken self.old }
         requires last { number 1 self.old.bits ≡ 0 → ⊥ }
         requires some { 1 ≤ n }
         requires few { n ≤ MOST_AHEAD }
@@ -158,6 +161,7 @@ impl<'a> SrlReader<'a> {
         ensures value { ReadsMany n (replicate (number (k self.old.kp) (drop 1 self.old.bits)) (pos 0) ++ result ∷ []) self.old self.new }
         ensures some { result ≡ pos 0 → ⊥ }
         ensures small { unsigned_abs result < 2 ^ n }
+        ensures begins { BeginsToken self.new }
     {
         let width = width_of(self.kp) as u32;
         let value = word_behind(word, 1 + width);
@@ -183,8 +187,7 @@ impl<'a> SrlReader<'a> {
     // The same where a token begins.
     #[inline(always)]
     fn begin_token(&mut self)
-        requires zeros { self.old.zeros ≡ 0 }
-        requires begins { self.old.ends ≡ false }
+        requires begins { BeginsToken self.old }
         ensures reads { ReadsMany 0 [] self.old self.new }
         ensures known { self.new.zeros ≡ 0 → self.new.ends ≡ true }
     {
@@ -200,11 +203,11 @@ impl<'a> SrlReader<'a> {
     // Goes past a full run, all of whose zeros are then known to come next.
     #[inline(always)]
     fn open_run(&mut self)
-        requires zeros { self.old.zeros ≡ 0 }
-        requires begins { self.old.ends ≡ false }
+        requires begins { BeginsToken self.old }
         requires full { number 1 self.old.bits ≡ 0 }
         ensures reads { ReadsMany 0 [] self.old self.new }
         ensures some { 1 ≤ self.new.zeros }
+        ensures ends { self.new.ends ≡ false }
     {
         self.zeros = 1 << width_of(self.kp);
         self.kp = after_run(self.kp);
@@ -214,8 +217,7 @@ impl<'a> SrlReader<'a> {
     // Goes past the head of a token whose run ends in a value: its zeros and the value are then known to come next.
     #[inline(always)]
     fn open_last(&mut self, run: u32)
-        requires zeros { self.old.zeros ≡ 0 }
-        requires begins { self.old.ends ≡ false }
+        requires begins { BeginsToken self.old }
         requires last { number 1 self.old.bits ≡ 0 → ⊥ }
         requires run { run ≡ number (k self.old.kp) (drop 1 self.old.bits) }
         ensures reads { ReadsMany 0 [] self.old self.new }
@@ -261,6 +263,7 @@ impl<'a> SrlReader<'a> {
         ensures value { ReadsNext n result self.old self.new }
         ensures some { result ≡ pos 0 → ⊥ }
         ensures small { unsigned_abs result < 2 ^ n }
+        ensures begins { BeginsToken self.new }
     {
         let negative = self.bits.read(1) == 1;
         let below = self.bits.read_zeros((1 << n) - 2);

@@ -24,11 +24,11 @@ pub fn read_sums(
     ensures coefficients { OnOk result (AllCoefficients sums.new) }
     ensures err { OnErr result (sums.new ≡ sums.old) }
 {
-    decode(bytes, plane)?;
+    let magnitude = decode(bytes, plane)?;
     if !sum_low(plane, transform) {
         return Err(Refusal::CoefficientRange);
     }
-    if dequantise_plane(plane, transform, positions, sums) {
+    if dequantise_plane(plane, transform, positions, magnitude, sums) {
         Ok(())
     } else {
         Err(Refusal::CoefficientRange)

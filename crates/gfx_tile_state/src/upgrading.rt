@@ -1,6 +1,8 @@
-ghost use Rattle.std.specs.Prelude.{◌≡◌, ◌≤◌, ◌<◌, ◌+◌, ◌-◌, ◌^◌, pos, ◌+ℤ◌, ◌*ℤ◌, ℕ, ℤ, Bool, true, false, ◌&&◌, List, slice_index, slice_set, take, IsTrue, if◌then◌else◌};
+ghost use Rattle.std.specs.Int.RustNames.{unsigned_abs};
+ghost use Rattle.std.specs.Prelude.{◌≡◌, ◌≤◌, ◌<◌, ◌+◌, ◌-◌, ◌^◌, pos, ◌+ℤ◌, ◌*ℤ◌, ℕ, ℤ, Bool, true, false, ◌&&◌, List, [], ◌∷◌, ◌++◌, replicate, slice_index, slice_set, take, IsTrue, if◌then◌else◌};
 ghost use Rattle.gfx_dwt.specs.Ranges.{AllCoefficients, Within, at};
 ghost use Rattle.gfx_quant.specs.Coefficient.{coefficient_of, is_coefficient};
+ghost use Rattle.gfx_srl.specs.Steps.{BeginsToken, ReadsMany};
 ghost use Rattle.gfx_tile_state.specs.Entries.{AreAlike, Pass, Upgraded, pass_of, wrapped};
 ghost use Rattle.gfx_tile_state.specs.Shape.{AreAtMost, AreWithin, AreBelow};
 ghost use Rattle.gfx_tile_state.specs.Sifting.{Listed, Sifted, is_nought};
@@ -8,6 +10,7 @@ ghost use Rattle.gfx_tile_state.specs.Sifting.{Listed, Sifted, is_nought};
 use crate::entries::{Readers, read_raw};
 use gfx_dwt::Transform;
 use gfx_quant::{band_size, band_start, nth_band};
+use gfx_srl::MOST_AHEAD;
 
 /// The number of the band LL3, whose numbers have no sign.
 const LOW: usize = 9;
@@ -275,7 +278,102 @@ fn upgrade_others(
     fits
 }
 
-/// Upgrades places whose sum is zero, and says whether all their sums stay in the range of a coefficient.
+/// What `SrlReader::step` says; where a token is known to begin, it is looked at as a whole.
+#[inline(always)]
+fn step_of(readers: &mut Readers<'_>, n: u8, room: usize, begins: bool) -> (usize, i32)
+    requires some { 1 ≤ n }
+    requires few { n ≤ 24 }
+    requires room { 1 ≤ room }
+    requires begins { begins ≡ true → (n ≤ MOST_AHEAD) × BeginsToken readers.old.srl }
+    ensures bits { readers.new.bits ≡ readers.old.bits }
+    ensures within { result.0 ≤ room }
+    ensures zeros { result.1 ≡ pos 0 → (1 ≤ result.0) × ReadsMany n (replicate result.0 (pos 0)) readers.old.srl readers.new.srl }
+    ensures value { (result.1 ≡ pos 0 → ⊥) → (result.0 < room) × ReadsMany n (replicate result.0 (pos 0) ++ result.1 ∷ []) readers.old.srl readers.new.srl }
+    ensures small { unsigned_abs result.1 < 2 ^ n }
+    ensures begins { result.0 < room → BeginsToken readers.new.srl }
+{
+    if begins {
+        return readers.srl.step_ahead(n, room);
+    }
+    readers.srl.step(n, room)
+}
+
+/// Passes listed places from one on, whose sums are zero, and upgrades the one behind them, if a value comes for it: a
+/// token at most. It says where it goes on, and whether the sum stays in the range of a coefficient.
+#[inline(always)]
+fn pass_token(
+    plane: &mut [i16; 4096],
+    noughts: &[u16; 1024],
+    at: usize,
+    count: usize,
+    n: u8,
+    position: u8,
+    readers: &mut Readers<'_>,
+    begins: bool,
+) -> (usize, bool)
+    requires room { count ≤ 1024 }
+    requires left { at < count }
+    requires inside { (j : ℕ) → j < count → slice_index noughts.now j < 4096 }
+    requires some { 1 ≤ n }
+    requires few { n ≤ 24 }
+    requires least { 1 ≤ position }
+    requires most { position ≤ 30 }
+    requires begins { begins ≡ true → (n ≤ MOST_AHEAD) × BeginsToken readers.old.srl }
+    requires coefficients { AllCoefficients plane.old }
+    ensures on { at < result.0 }
+    ensures within { result.0 ≤ count }
+    ensures begins { result.0 < count → BeginsToken readers.new.srl }
+    ensures sifted { (pass : Pass) (from to : ℕ) (others : List ℕ) (others_done : ℕ) (fits : Bool) → from ≤ to → to ≤ 4096 → AreAlike pass from to n position false → Sifted pass from to (take count noughts.now) others at others_done plane.old fits readers.old
+        → Sifted pass from to (take count noughts.now) others result.0 others_done plane.new (fits && result.1) readers.new }
+    ensures coefficients { AllCoefficients plane.new }
+{
+    let (passed, value) = step_of(readers, n, count - at, begins);
+    let next = at + passed;
+    if value == 0 {
+        return (next, true);
+    }
+    let place = usize::from(noughts[next]);
+    (next + 1, add_entry(plane, place, value, position))
+}
+
+/// Upgrades the listed places from one on, whose sums are zero, and says whether all their sums stay in the range of a
+/// coefficient. Where a token is known to begin, so does each behind it, as long as places are left.
+#[inline(always)]
+fn pass_tokens(
+    plane: &mut [i16; 4096],
+    noughts: &[u16; 1024],
+    at: usize,
+    count: usize,
+    n: u8,
+    position: u8,
+    readers: &mut Readers<'_>,
+    begins: bool,
+) -> bool
+    requires room { count ≤ 1024 }
+    requires order { at ≤ count }
+    requires inside { (j : ℕ) → j < count → slice_index noughts.now j < 4096 }
+    requires some { 1 ≤ n }
+    requires few { n ≤ 24 }
+    requires least { 1 ≤ position }
+    requires most { position ≤ 30 }
+    requires begins { begins ≡ true → at < count → (n ≤ MOST_AHEAD) × BeginsToken readers.old.srl }
+    requires coefficients { AllCoefficients plane.old }
+    ensures sifted { (pass : Pass) (from to : ℕ) (others : List ℕ) (others_done : ℕ) (fits : Bool) → from ≤ to → to ≤ 4096 → AreAlike pass from to n position false → Sifted pass from to (take count noughts.now) others at others_done plane.old fits readers.old
+        → Sifted pass from to (take count noughts.now) others count others_done plane.new (fits && result) readers.new }
+    ensures coefficients { AllCoefficients plane.new }
+{
+    let mut fits = true;
+    let mut at = at;
+    'tokens: while at < count {
+        let (next, fit) = pass_token(plane, noughts, at, count, n, position, readers, begins);
+        at = next;
+        fits &= fit;
+    }
+    fits
+}
+
+/// Upgrades places whose sum is zero, and says whether all their sums stay in the range of a coefficient. What was left
+/// of a token by the band before comes first; then tokens begin.
 #[inline(always)]
 fn pass_noughts(
     plane: &mut [i16; 4096],
@@ -296,18 +394,12 @@ fn pass_noughts(
         → Sifted pass from to (take count noughts.now) others count others_done plane.new (fits && result) readers.new }
     ensures coefficients { AllCoefficients plane.new }
 {
-    let mut fits = true;
-    let mut at = 0;
-    'tokens: while at < count {
-        let (passed, value) = readers.srl.step(n, count - at);
-        at += passed;
-        if value != 0 {
-            let place = usize::from(noughts[at]);
-            fits &= add_entry(plane, place, value, position);
-            at += 1;
-        }
+    if n > MOST_AHEAD || count == 0 {
+        return pass_tokens(plane, noughts, 0, count, n, position, readers, false);
     }
-    fits
+    let (at, first_fits) = pass_token(plane, noughts, 0, count, n, position, readers, false);
+    let rest_fit = pass_tokens(plane, noughts, at, count, n, position, readers, true);
+    first_fits & rest_fit
 }
 
 /// The same with readers of its own.

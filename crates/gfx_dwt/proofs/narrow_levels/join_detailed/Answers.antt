@@ -20,8 +20,8 @@ returns-then-not-are_small-clause-wide c = λ _ narrow.
     let strip = bands_strip t l plane (4096 - w * w) (4096 - n * n - (4096 - w * w)) a (omega (arith, a, b)) (omega arith) in
     c.if-not-are_small.ensures (bands_small t l plane _ c.args.low.now c.requires.low_len strip.0 strip.1 narrow)
 
-pub join_narrow_quarters-requires-clause-spare_len : goal.join_narrow_quarters-requires-clause-spare_len
-join_narrow_quarters-requires-clause-spare_len c =
+pub join_narrow_quarters-small-requires-clause-spare_len : goal.join_narrow_quarters-small-requires-clause-spare_len
+join_narrow_quarters-small-requires-clause-spare_len c =
     let fits = spare_fits c.args.transform c.args.level in
     rw c.requires.out_len fits
 
@@ -38,10 +38,10 @@ returns-then-not-are_small-2-clause-wide c = λ _ narrow.
     let ends = (sizes t l).ends in
     let b : 4096 - n * n ≡ part_start t l + low_start t l = rw e (sym ends) in
     let strip = bands_strip t l plane (4096 - w * w) (4096 - n * n - (4096 - w * w)) a (omega (arith, a, b)) (omega arith) in
-    let are : AreRows t l plane (cell (low_size t l) c.args.low.now) c.join_narrow_quarters.new.above c.join_narrow_quarters.new.below = rows_of_bands t l plane _ c.args.low.now _ _ strip.1 c.join_narrow_quarters.ensures.above c.join_narrow_quarters.ensures.below in
+    let are : AreRows t l plane (cell (low_size t l) c.args.low.now) c.join_narrow_quarters-small.new.above c.join_narrow_quarters-small.new.below = rows_of_bands t l plane _ c.args.low.now _ _ strip.1 c.join_narrow_quarters-small.ensures.above c.join_narrow_quarters-small.ensures.below in
     let high : w - n ≡ high_size t l = omega (arith, f) in
-    let above : length c.join_narrow_quarters.new.above ≡ low_size t l * line_size t l = c.join_narrow_quarters.auto.above ∙ c.split_at_mut-above.ensures.front_len ∙ rw (e, f) refl in
-    let below : length c.join_narrow_quarters.new.below ≡ high_size t l * line_size t l = c.join_narrow_quarters.auto.below ∙ c.split_at_mut-below.ensures.front_len ∙ rw (high, e, f) refl in
+    let above : length c.join_narrow_quarters-small.new.above ≡ low_size t l * line_size t l = c.join_narrow_quarters-small.auto.above ∙ c.split_at_mut-above.ensures.front_len ∙ rw (e, f) refl in
+    let below : length c.join_narrow_quarters-small.new.below ≡ high_size t l * line_size t l = c.join_narrow_quarters-small.auto.below ∙ c.split_at_mut-below.ensures.front_len ∙ rw (high, e, f) refl in
     c.if-not-are_small-2.ensures (rows_small t l plane _ _ _ above below are narrow)
 
 pub returns-clause-joined : goal.returns-clause-joined
@@ -57,7 +57,7 @@ returns-clause-joined c = λ _ y x p q.
     let ends = (sizes t l).ends in
     let b : 4096 - n * n ≡ part_start t l + low_start t l = rw e (sym ends) in
     let strip = bands_strip t l plane (4096 - w * w) (4096 - n * n - (4096 - w * w)) a (omega (arith, a, b)) (omega arith) in
-    let are : AreRows t l plane (cell (low_size t l) c.args.low.now) c.join_narrow_quarters.new.above c.join_narrow_quarters.new.below = rows_of_bands t l plane _ c.args.low.now _ _ strip.1 c.join_narrow_quarters.ensures.above c.join_narrow_quarters.ensures.below in
+    let are : AreRows t l plane (cell (low_size t l) c.args.low.now) c.join_narrow_quarters-small.new.above c.join_narrow_quarters-small.new.below = rows_of_bands t l plane _ c.args.low.now _ _ strip.1 c.join_narrow_quarters-small.ensures.above c.join_narrow_quarters-small.ensures.below in
     let whole : w ≡ line_size t l = rw (e, f) refl in
     rw whole at (c.join_narrow_columns.ensures y x (rw whole p) (rw whole q))
     ∙ level_of_rows t l plane _ _ _ are y x p q

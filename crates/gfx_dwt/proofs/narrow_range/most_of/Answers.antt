@@ -22,9 +22,9 @@ loop-place-preserved c =
 pub returns-clause-all : goal.returns-clause-all
 returns-clause-all c =
     let end : c.loop-place.place ≡ length c.args.values.now = omega arith in
-    rw (c.max.ensures, c.unsigned_abs.ensures.value, c.unsigned_abs-2.ensures.value) (spans_all c.args.values.now _ _ (rw end at c.loop-place.invariant))
+    rw c.greatest_of.ensures (spans_all c.args.values.now _ _ (rw end at c.loop-place.invariant))
 
 pub returns-clause-least : goal.returns-clause-least
 returns-clause-least c =
     let end : c.loop-place.place ≡ length c.args.values.now = omega arith in
-    rw (c.max.ensures, c.unsigned_abs.ensures.value, c.unsigned_abs-2.ensures.value) (spans_least c.args.values.now _ _ (rw end at c.loop-place.invariant))
+    rw c.greatest_of.ensures (spans_least c.args.values.now _ _ (rw end at c.loop-place.invariant))

@@ -9,7 +9,7 @@ pub tokens-init : goal.tokens-init
 tokens-init c = rw (c.new-bits.ensures, c.start-params.ensures) (begun 4096 _ c.clear.new.out c.clear.ensures)
 
 pub tokens-preserved : goal.tokens-preserved
-tokens-preserved c = goes-on 4096 _ _ _ _ _ _ _ _ _ _ _ _ c.tokens.invariant c.tokens-test.true c.read_token-terms.ensures.reads c.place-next.ensures
+tokens-preserved c = rw c.higher-most.ensures (goes-on 4096 _ _ _ _ _ _ _ _ _ _ _ _ c.tokens.invariant c.tokens-test.true c.read_token-terms.ensures.reads c.place-next.ensures)
 
 pub tokens-smaller : goal.tokens-smaller
 tokens-smaller c =

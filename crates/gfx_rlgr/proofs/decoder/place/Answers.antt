@@ -16,4 +16,4 @@ pub returns-in-Some : goal.returns-in-Some
 returns-in-Some c values is at =
     let fits : FitsSigned w16 c.in-Some.value = search rules in
     let plain : to_z w16 (of_z w16 c.in-Some.value) ≡ c.in-Some.value = to_z-of_z w16 c.in-Some.value fits in
-    rw (c.from.ensures, c.unsigned_abs.ensures.value, plain, c.in-Some.is, at) (placed-value 4096 values c.args.out.now c.args.terms.zeros c.in-Some.value is (omega arith))
+    rw (c.unsigned_abs.ensures.value, plain, c.in-Some.is, at) (placed-value 4096 values c.args.out.now c.args.terms.zeros c.in-Some.value is (omega arith))

@@ -10,7 +10,7 @@ pub returns-clause-reads : goal.returns-clause-reads
 returns-clause-reads c =
     rw (← c.self.view_is)
     (begins-value _ c.pass.new.self c.self.inside.kp c.args.run _
-    (ap (λ (r : Reader). r.zeros) c.self.view_is ∙ c.requires.zeros) (ap (λ (r : Reader). r.ends) c.self.view_is ∙ c.requires.begins)
+    (ap (λ (r : Reader). r.zeros) c.self.view_is ∙ c.requires.begins.0) (ap (λ (r : Reader). r.ends) c.self.view_is ∙ c.requires.begins.1)
     (λ e. c.requires.last (ap (λ (r : Reader). number 1 r.bits) (sym c.self.view_is) ∙ e))
     (c.pass.ensures
     ∙ ap (λ n. drop n c.self.inside.bits) {y = 1 + k c.self.inside.kp} (omega (arith, c.width_of.ensures.value))

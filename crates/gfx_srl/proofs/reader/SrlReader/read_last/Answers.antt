@@ -28,7 +28,7 @@ returns-clause-value c =
     let behind = c.word_behind-value.ensures shown c.self.inside.bits (omega arith) fitting shows in
     rw (← c.self.view_is, to_z-of_z w32 c.signed.result fits, c.signed.ensures)
     (last-read _ c.pass.new.self c.after_value-self-inside.result c.self.inside.zeros c.args.n c.width_of-width.result most c.number_in-negative.result c.zeros_behind-below.result.0 c.zeros_behind-below.result.1 c.self.inside.ends
-    (ap (λ (r : Reader). r.zeros) c.self.view_is ∙ c.requires.zeros) (ap (λ (r : Reader). r.ends) c.self.view_is ∙ c.requires.begins)
+    (ap (λ (r : Reader). r.zeros) c.self.view_is ∙ c.requires.begins.0) (ap (λ (r : Reader). r.ends) c.self.view_is ∙ c.requires.begins.1)
     (λ e. c.requires.last (ap (λ (r : Reader). number 1 r.bits) (sym c.self.view_is) ∙ e))
     c.requires.some c.requires.few c.width_of-width.ensures.value c.most_zeros.ensures.most
     (c.number_in-negative.ensures (shown - (1 + c.width_of-width.result)) (drop (1 + c.width_of-width.result) c.self.inside.bits) (omega arith) (omega arith) behind)

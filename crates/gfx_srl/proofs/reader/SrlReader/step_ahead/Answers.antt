@@ -1,5 +1,6 @@
-use Rattle.std.proofs.Common.{◌≤◌, arith}
-use Rattle.gfx_srl.proofs.Stepping.{steps-zeros}
+use Rattle.std.proofs.Common.{◌≤◌, ◌∙◌, ap, arith}
+use Rattle.gfx_srl.specs.Steps.{Reader}
+use Rattle.gfx_srl.proofs.Stepping.{none-left, steps-zeros}
 use Rattle.gfx_srl.proofs.reader.SrlReader.step_ahead.Goals as goal
 
 pub returns-then-number_in-eq0-clause-zeros : goal.returns-then-number_in-eq0-clause-zeros
@@ -17,3 +18,8 @@ returns-then-run-room-clause-zeros c none =
       omega (arith, c.pass_run-then-run-room.ensures.count, c.open_last.ensures.zeros, c.requires.room),
       steps-zeros c.args.self.now c.open_last.new.self c.pass_run-then-run-room.new.self c.pass_run-then-run-room.result c.args.n reads known c.pass_run-then-run-room.ensures.rest,
     )
+
+pub returns-then-number_in-eq0-clause-begins : goal.returns-then-number_in-eq0-clause-begins
+returns-then-number_in-eq0-clause-begins c left =
+    let rest = c.pass_run.ensures.rest in
+    (ap (λ (r : Reader). r.zeros) rest ∙ none-left c.open_run.new.self.zeros c.args.room c.pass_run.result c.pass_run.ensures.count left, ap (λ (r : Reader). r.ends) rest ∙ c.open_run.ensures.ends)

@@ -11,3 +11,4 @@ pub mod Bound
 pub mod Numbers
 pub mod Says
 pub mod Writes
+pub mod TwoBits

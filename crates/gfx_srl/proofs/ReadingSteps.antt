@@ -64,7 +64,7 @@ magnitude-of true below = omega arith
 magnitude-of false below = omega arith
 
 -- the test of the sign's bit
-sign-bit : (bits : List Bool) (n : ℕ) → n ≡ number 1 bits → (n == 1) ≡ first bits
+pub sign-bit : (bits : List Bool) (n : ℕ) → n ≡ number 1 bits → (n == 1) ≡ first bits
 sign-bit bits n e = rw (e, number_1 bits) (go (first bits))
   where
     go : (b : Bool) → (cond b 1 0 == 1) ≡ b
@@ -77,6 +77,13 @@ most-zeros n some few = (let one : 2 ^ 1 ≤ 2 ^ n = pow_mono some in omega arit
 
 pub small-value : (negative : Bool) (below n : ℕ) → 1 ≤ n → n ≤ 24 → below ≤ 2 ^ n - 2 → unsigned_abs (signed_value negative below) < 2 ^ n
 small-value negative below n some few most = omega (arith, magnitude-of negative below, most-zeros n some few)
+
+pub comes-value : (reader : Reader) (bits : List Bool) (kp zeros n : ℕ) (value : ℤ) (ends : Bool) → reader.zeros ≡ 0 → reader.ends ≡ true → value ≢ pos 0 → unsigned_abs value < 2 ^ n
+    → is_negative value ≡ first reader.bits → Spelled (drop 1 reader.bits) (zeros_code (2 ^ n - 2) (unsigned_abs value - 1)) bits
+    → kp ≡ reader.kp - 6 → zeros ≡ 0 → ends ≡ false
+    → ReadsNext n value reader (standing bits kp zeros ends)
+comes-value reader bits kp zeros n value ends none stops some small sign spelled down same over all pairs h =
+    rw (down, same, over) (value-read all reader.bits bits reader.kp n value pairs some small sign spelled (at-zeros all pairs reader 0 true none stops h))
 
 pub reads-value : (reader : Reader) (bits : List Bool) (kp zeros n bit below : ℕ) (ends : Bool) → reader.zeros ≡ 0 → reader.ends ≡ true → 1 ≤ n → n ≤ 24
     → bit ≡ number 1 reader.bits → Spelled (drop 1 reader.bits) (zeros_code (2 ^ n - 2) below) bits → below ≤ 2 ^ n - 2

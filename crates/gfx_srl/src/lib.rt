@@ -7,11 +7,13 @@
 mod laws;
 mod params;
 mod reader;
+mod value;
 mod writer;
 
 pub use laws::{
     one_meaning, one_writing, reading_says, what_bits_say, what_is_written, written_is_read,
     written_is_short,
 };
-pub use reader::{MOST_AHEAD, SrlReader};
+pub use reader::SrlReader;
+pub use value::MOST_AHEAD;
 pub use writer::SrlWriter;

@@ -1,4 +1,4 @@
-ghost use Rattle.std.specs.Prelude.{◌≡◌, ◌≤◌, ◌<◌, ◌+◌, ◌-◌, ◌^◌, [], ◌∷◌, ◌++◌, drop, replicate, min, IsTrue, true, false, suc, pos, negsuc, MatchBool, if◌then◌else◌};
+ghost use Rattle.std.specs.Prelude.{◌≡◌, ℕ, ◌≤◌, ◌<◌, ◌+◌, ◌-◌, ◌^◌, [], ◌∷◌, ◌++◌, drop, replicate, min, IsTrue, true, false, suc, pos, negsuc, MatchBool, if◌then◌else◌};
 ghost use Rattle.std.specs.Int.RustNames.{unsigned_abs};
 ghost use Rattle.gfx_bits.specs.Ahead.{Shows};
 ghost use Rattle.gfx_bits.specs.Bits.{bits_of, number};
@@ -6,11 +6,9 @@ ghost use Rattle.gfx_srl.specs.Code.{k};
 ghost use Rattle.gfx_srl.specs.Steps.{BeginsToken, ComesToValue, HasRead, ReadsMany, ReadsNext, ReadsZero};
 
 use crate::params::{PARAMETER_MAX, PARAMETER_START, after_run, after_value, width_of};
-use gfx_bits::{BitReader, number_in, word_behind, zeros_behind};
+use crate::value::{MOST_AHEAD, most_zeros, signed, value_in};
+use gfx_bits::{BitReader, number_in, word_behind};
 use std::marker::Model;
-
-/// A token of a value of up to so many bits is looked at as a whole.
-pub const MOST_AHEAD: u8 = 5;
 
 /// Reads SRL: value after value, each at a width that the caller knows. Past the end bits are zero.
 /// It takes no memory.
@@ -139,15 +137,36 @@ impl<'a> SrlReader<'a> {
         let width = width_of(self.kp) as u32;
         let word = self.bits.peek(2 + width + most_zeros(n));
         if number_in(word, 0, 1) == 0 {
-            self.open_run();
-            return (self.pass_run(room), 0);
+            return (self.step_run(room), 0);
         }
         let run = number_in(word, 1, width);
         if run as usize >= room {
             self.open_last(run);
-            return (self.pass_run(room), 0);
+            return (self.fill(room), 0);
         }
         (run as usize, self.read_last(word, n))
+    }
+
+    // Goes past a full run, at most so many of its zeros as there is room for, and says how many.
+    // Where all are passed nothing is written of what is still to come: a loop of such steps needn't keep it in registers.
+    #[inline(always)]
+    fn step_run(&mut self, room: usize) -> usize
+        requires begins { BeginsToken self.old }
+        requires full { number 1 self.old.bits ≡ 0 }
+        requires room { 1 ≤ room }
+        ensures some { 1 ≤ result }
+        ensures within { result ≤ room }
+        ensures reads { (n : ℕ) → ReadsMany n (replicate result (pos 0)) self.old self.new }
+        ensures begins { result < room → BeginsToken self.new }
+    {
+        let zeros = 1u32 << width_of(self.kp);
+        if zeros as usize >= room {
+            self.open_run();
+            return self.fill(room);
+        }
+        self.kp = after_run(self.kp);
+        self.bits.pass(1);
+        zeros as usize
     }
 
     // Goes past a token whose run ends in a value, which the word shows, and says the value.
@@ -164,12 +183,10 @@ impl<'a> SrlReader<'a> {
         ensures begins { BeginsToken self.new }
     {
         let width = width_of(self.kp) as u32;
-        let value = word_behind(word, 1 + width);
-        let negative = number_in(value, 0, 1) == 1;
-        let (below, size) = zeros_behind(value, most_zeros(n));
-        self.bits.pass(2 + width + size);
+        let (value, size) = value_in(word_behind(word, 1 + width), n);
+        self.bits.pass(1 + width + size);
         self.kp = after_value(self.kp);
-        signed(negative, below)
+        value
     }
 
     // Where neither a zero nor a value is known to come next: reads a token, but for its value.
@@ -206,6 +223,7 @@ impl<'a> SrlReader<'a> {
         requires begins { BeginsToken self.old }
         requires full { number 1 self.old.bits ≡ 0 }
         ensures reads { ReadsMany 0 [] self.old self.new }
+        ensures zeros { self.new.zeros ≡ 2 ^ k self.old.kp }
         ensures some { 1 ≤ self.new.zeros }
         ensures ends { self.new.ends ≡ false }
     {
@@ -240,6 +258,17 @@ impl<'a> SrlReader<'a> {
         passed
     }
 
+    // Goes past as many of the zeros that are known to come next as there is room for.
+    #[inline(always)]
+    fn fill(&mut self, room: usize) -> usize
+        requires { room ≤ self.old.zeros }
+        ensures count { result ≡ room }
+        ensures rest { self.new ≡ record self.old { zeros = self.old.zeros - room } }
+    {
+        self.pass_run(room);
+        room
+    }
+
     // Whether the next value is 0; it goes past it then, and else to the sign of the value.
     #[inline(always)]
     fn passes_zero(&mut self) -> bool
@@ -270,29 +299,5 @@ impl<'a> SrlReader<'a> {
         self.kp = after_value(self.kp);
         self.ends = false;
         signed(negative, below)
-    }
-}
-
-// The most zeros that spell a magnitude.
-#[inline(always)]
-fn most_zeros(n: u8) -> u32
-    requires some { 1 ≤ n }
-    requires few { n ≤ 24 }
-    ensures most { result ≡ 2 ^ n - 2 }
-    ensures small { n ≤ MOST_AHEAD → result ≤ 30 }
-{
-    (1 << n) - 2
-}
-
-// The value of this sign whose magnitude is one more.
-#[inline(always)]
-fn signed(negative: bool, below: u32) -> i32
-    requires { below < 2 ^ 24 }
-    ensures { result ≡ (if negative then negsuc below else pos (suc below)) }
-{
-    if negative {
-        -(below as i32) - 1
-    } else {
-        below as i32 + 1
     }
 }

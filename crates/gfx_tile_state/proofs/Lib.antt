@@ -13,3 +13,4 @@ pub mod Parts
 pub mod OneReading
 pub mod Making
 pub mod Said
+pub mod Fours

@@ -4,6 +4,7 @@ use Rattle.std.proofs.Common.{◌≡◌, ◌≢◌, ℕ, zero, suc, ◌+◌, ◌
 use Rattle.std.specs.Prelude.{MatchBool, slice_index}
 use Rattle.std.proofs.lemmas.List.{append-nil, map-append, get_or_append_left, get_or-append-add, get_or-take, length-replicate, length-take, take_at, take_more, take-set-le}
 use Rattle.std.proofs.lemmas.Nat.{pow_pos}
+use Rattle.std.proofs.Math.IntN.{+ℤ_idl}
 use Rattle.std.proofs.Math.Seq.{take-length}
 use Rattle.gfx_bits.specs.Bits.{Spelled}
 use Rattle.gfx_srl.specs.Steps.{HasRead, ReadsMany, at_width}
@@ -393,6 +394,22 @@ nought-read pass from to n position noughts others z o passed p now now' fits he
       due = new.due;
       range = new.range;
     }
+
+-- the same where the sum of the place isn't read, since it is zero
+pub nought-put : (pass : Pass) (from to n position : ℕ) (noughts others : List ℕ) (z o passed p : ℕ) (now now' : List ℤ) (fits here : Bool) (readers readers' : Readers) (entry : ℤ)
+    → from ≤ to → to ≤ length now → 1 ≤ n → AreAlike pass from to n position false → z + passed < length noughts → p ≡ slice_index noughts (z + passed)
+    → Sifted pass from to noughts others z o now fits readers
+    → ReadsMany n (replicate passed (pos 0) ++ entry ∷ []) readers.srl readers'.srl → readers'.bits ≡ readers.bits
+    → now' ≡ set now p (wrapped (coefficient_of entry position)) → here ≡ is_coefficient (coefficient_of entry position)
+    → Sifted pass from to noughts others (z + passed + 1) o now' (fits && here) readers'
+nought-put pass from to n position noughts others z o passed p now now' fits here readers readers' entry order end some alike inside is_at s read same put is =
+    let place : IsPlace is_nought pass.sums from to p = subst (IsPlace is_nought pass.sums from to) (sym is_at) (listed-place is_nought pass.sums from to noughts order s.noughts_are (z + passed) inside) in
+    let h = holds pass from to noughts others z o now fits readers s in
+    let none : at s.entries p ≡ pos 0 = ap (at s.entries) is_at ∙ s.noughts_due (z + passed) (omega arith) inside in
+    let was : at now p ≡ pos 0 = still pass from to p s.entries now fits h place.low place.high none ∙ is-nought (at pass.sums p) place.wants in
+    let sum : coefficient_of entry position ≡ at now p +ℤ coefficient_of entry position = sym (ap (λ x. x +ℤ coefficient_of entry position) was ∙ +ℤ_idl (coefficient_of entry position)) in
+    nought-read pass from to n position noughts others z o passed p now now' fits here readers readers' entry order end some alike inside is_at s read same
+    (put ∙ ap (λ x. set now p (wrapped x)) sum) (is ∙ ap is_coefficient sum)
 
 -- ---- the end
 

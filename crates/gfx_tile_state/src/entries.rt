@@ -3,8 +3,11 @@ ghost use Rattle.gfx_bits.specs.Bits.{number};
 ghost use Rattle.gfx_dwt.specs.Ranges.{Within};
 ghost use Rattle.gfx_tile_state.specs.Entries.{ReadsEntry, way};
 
-use gfx_bits::BitReader;
+use gfx_bits::{BitReader, number_in};
 use gfx_srl::SrlReader;
+
+/// Four numbers of up to so many bits are read by one look.
+pub const MOST_OF_FOUR: u8 = 14;
 
 /// The readers of an upgrade's data, which run through all bands of a component.
 #[derive(Drop)]
@@ -51,8 +54,30 @@ fn read_number(bits: &mut BitReader<'_>, n: u8) -> i32
     bits.read(n) as i32
 }
 
+/// The next four numbers of `n` bits, by one look.
 #[inline(always)]
-fn is_below_zero(sum: i16) -> bool
+pub fn read_four(bits: &mut BitReader<'_>, n: u8) -> (i32, i32, i32, i32)
+    requires { n ≤ MOST_OF_FOUR }
+    ensures first { result.0 ≡ pos (number n bits.old) }
+    ensures second { result.1 ≡ pos (number n (drop n bits.old)) }
+    ensures third { result.2 ≡ pos (number n (drop n (drop n bits.old))) }
+    ensures fourth { result.3 ≡ pos (number n (drop n (drop n (drop n bits.old)))) }
+    ensures rest { bits.new ≡ drop n (drop n (drop n (drop n bits.old))) }
+    ensures small { Within (2 ^ 24) result.0 × Within (2 ^ 24) result.1 × Within (2 ^ 24) result.2 × Within (2 ^ 24) result.3 }
+{
+    let width = n as u32;
+    let word = bits.peek(4 * width);
+    bits.pass(4 * width);
+    (
+        number_in(word, 0, width) as i32,
+        number_in(word, width, width) as i32,
+        number_in(word, 2 * width, width) as i32,
+        number_in(word, 3 * width, width) as i32,
+    )
+}
+
+#[inline(always)]
+pub fn is_below_zero(sum: i16) -> bool
     ensures { MatchBool result (sum <ℤ pos 0) (pos 0 ≤ℤ sum) }
 {
     sum < 0
@@ -60,7 +85,7 @@ fn is_below_zero(sum: i16) -> bool
 
 /// A magnitude with the sign that is known.
 #[inline(always)]
-fn away(magnitude: i32, down: bool) -> i32
+pub fn away(magnitude: i32, down: bool) -> i32
     requires { Within (2 ^ 24) magnitude }
     ensures value { result ≡ (if down then neg_ℤ magnitude else magnitude) }
     ensures small { Within (2 ^ 24) result }

@@ -1,13 +1,15 @@
 ghost use Rattle.std.specs.Int.RustNames.{unsigned_abs};
-ghost use Rattle.std.specs.Prelude.{◌≡◌, ◌≤◌, ◌<◌, ◌+◌, ◌-◌, ◌^◌, pos, ◌+ℤ◌, ◌*ℤ◌, ℕ, ℤ, Bool, true, false, ◌&&◌, List, [], ◌∷◌, ◌++◌, replicate, slice_index, slice_set, take, IsTrue, if◌then◌else◌};
+ghost use Rattle.std.specs.Prelude.{◌≡◌, ◌≤◌, ◌<◌, ◌+◌, ◌-◌, ◌^◌, pos, ◌+ℤ◌, ◌*ℤ◌, ℕ, ℤ, Bool, true, false, ◌&&◌, List, [], ◌∷◌, ◌++◌, replicate, slice_index, slice_set, take, drop, IsTrue, if◌then◌else◌};
+ghost use Rattle.gfx_bits.specs.Bits.{number};
 ghost use Rattle.gfx_dwt.specs.Ranges.{AllCoefficients, Within, at};
 ghost use Rattle.gfx_quant.specs.Coefficient.{coefficient_of, is_coefficient};
 ghost use Rattle.gfx_srl.specs.Steps.{BeginsToken, ReadsMany};
+ghost use Rattle.gfx_tile_state.specs.declared.entries.Readers.{Readers};
 ghost use Rattle.gfx_tile_state.specs.Entries.{AreAlike, Pass, Upgraded, pass_of, wrapped};
 ghost use Rattle.gfx_tile_state.specs.Shape.{AreAtMost, AreWithin, AreBelow};
 ghost use Rattle.gfx_tile_state.specs.Sifting.{Listed, Sifted, is_nought};
 
-use crate::entries::{Readers, read_raw};
+use crate::entries::{MOST_OF_FOUR, Readers, away, is_below_zero, read_four, read_raw};
 use gfx_dwt::Transform;
 use gfx_quant::{band_size, band_start, nth_band};
 use gfx_srl::MOST_AHEAD;
@@ -220,9 +222,131 @@ fn sift(
     sift_places(plane, from, place, to, count, noughts, others)
 }
 
-/// Upgrades places whose sum isn't zero, and says whether all their sums stay in the range of a coefficient.
+/// Adds a raw number to the sum of a listed place, which isn't zero, away from it, and says whether the sum stays in the
+/// range of a coefficient.
+#[inline(always)]
+fn add_other(
+    plane: &mut [i16; 4096],
+    others: &[u16; 1024],
+    index: usize,
+    magnitude: i32,
+    position: u8,
+) -> bool
+    requires room { index < 1024 }
+    requires inside { slice_index others.now index < 4096 }
+    requires magnitude { Within (2 ^ 24) magnitude }
+    requires least { 1 ≤ position }
+    requires most { position ≤ 30 }
+    requires coefficients { AllCoefficients plane.old }
+    ensures sifted { (pass : Pass) (from to n count : ℕ) (noughts : List ℕ) (fits : Bool) (old new : Readers) → from ≤ to → to ≤ 4096 → AreAlike pass from to n position false → 1 ≤ n → index < count → count ≤ 1024
+        → magnitude ≡ pos (number n old.bits) → new.bits ≡ drop n old.bits → new.srl ≡ old.srl
+        → Sifted pass from to noughts (take count others.now) 0 index plane.old fits old
+        → Sifted pass from to noughts (take count others.now) 0 (index + 1) plane.new (fits && result) new }
+    ensures coefficients { AllCoefficients plane.new }
+{
+    let place = usize::from(others[index]);
+    let entry = away(magnitude, is_below_zero(plane[place]));
+    add_entry(plane, place, entry, position)
+}
+
+/// Upgrades the next four places of a list whose sums aren't zero, and says whether all their sums stay in the range of a
+/// coefficient.
+#[inline(always)]
+fn pass_four(
+    plane: &mut [i16; 4096],
+    others: &[u16; 1024],
+    index: usize,
+    n: u8,
+    position: u8,
+    readers: &mut Readers<'_>,
+) -> bool
+    requires room { index + 4 ≤ 1024 }
+    requires inside { (j : ℕ) → j < index + 4 → slice_index others.now j < 4096 }
+    requires some { 1 ≤ n }
+    requires few { n ≤ MOST_OF_FOUR }
+    requires least { 1 ≤ position }
+    requires most { position ≤ 30 }
+    requires coefficients { AllCoefficients plane.old }
+    ensures sifted { (pass : Pass) (from to count : ℕ) (noughts : List ℕ) (fits : Bool) → from ≤ to → to ≤ 4096 → index + 4 ≤ count → count ≤ 1024 → AreAlike pass from to n position false
+        → Sifted pass from to noughts (take count others.now) 0 index plane.old fits readers.old
+        → Sifted pass from to noughts (take count others.now) 0 (index + 4) plane.new (fits && result) readers.new }
+    ensures coefficients { AllCoefficients plane.new }
+{
+    let (first, second, third, fourth) = read_four(&mut readers.bits, n);
+    let first_fits = add_other(plane, others, index, first, position);
+    let second_fits = add_other(plane, others, index + 1, second, position);
+    let third_fits = add_other(plane, others, index + 2, third, position);
+    let fourth_fits = add_other(plane, others, index + 3, fourth, position);
+    first_fits & second_fits & third_fits & fourth_fits
+}
+
+/// Upgrades places of a list, from one on, whose sums aren't zero, and says whether all their sums stay in the range of a
+/// coefficient.
 #[inline(always)]
 fn pass_others(
+    plane: &mut [i16; 4096],
+    others: &[u16; 1024],
+    from: usize,
+    count: usize,
+    n: u8,
+    position: u8,
+    readers: &mut Readers<'_>,
+) -> bool
+    requires order { from ≤ count }
+    requires room { count ≤ 1024 }
+    requires inside { (j : ℕ) → j < count → slice_index others.now j < 4096 }
+    requires some { 1 ≤ n }
+    requires few { n ≤ 24 }
+    requires least { 1 ≤ position }
+    requires most { position ≤ 30 }
+    requires coefficients { AllCoefficients plane.old }
+    ensures sifted { (pass : Pass) (start to : ℕ) (noughts : List ℕ) (fits : Bool) → start ≤ to → to ≤ 4096 → AreAlike pass start to n position false → Sifted pass start to noughts (take count others.now) 0 from plane.old fits readers.old
+        → Sifted pass start to noughts (take count others.now) 0 count plane.new (fits && result) readers.new }
+    ensures coefficients { AllCoefficients plane.new }
+{
+    let mut fits = true;
+    for index in from..count {
+        let place = usize::from(others[index]);
+        let entry = read_raw(readers, plane[place], n, false);
+        fits &= add_entry(plane, place, entry, position);
+    }
+    fits
+}
+
+/// The same from the first place on, four at a time while there are so many.
+#[inline(always)]
+fn pass_others_by_fours(
+    plane: &mut [i16; 4096],
+    others: &[u16; 1024],
+    count: usize,
+    n: u8,
+    position: u8,
+    readers: &mut Readers<'_>,
+) -> bool
+    requires room { count ≤ 1024 }
+    requires inside { (j : ℕ) → j < count → slice_index others.now j < 4096 }
+    requires some { 1 ≤ n }
+    requires few { n ≤ MOST_OF_FOUR }
+    requires least { 1 ≤ position }
+    requires most { position ≤ 30 }
+    requires coefficients { AllCoefficients plane.old }
+    ensures sifted { (pass : Pass) (from to : ℕ) (noughts : List ℕ) (fits : Bool) → from ≤ to → to ≤ 4096 → AreAlike pass from to n position false → Sifted pass from to noughts (take count others.now) 0 0 plane.old fits readers.old
+        → Sifted pass from to noughts (take count others.now) 0 count plane.new (fits && result) readers.new }
+    ensures coefficients { AllCoefficients plane.new }
+{
+    let mut fits = true;
+    let mut index = 0;
+    'fours: while count - index >= 4 {
+        fits &= pass_four(plane, others, index, n, position, readers);
+        index += 4;
+    }
+    let rest_fits = pass_others(plane, others, index, count, n, position, readers);
+    fits & rest_fits
+}
+
+/// The same, by fours for one bit and for two, the most frequent numbers; the compiler makes a loop of each.
+#[inline(always)]
+fn pass_others_by_bits(
     plane: &mut [i16; 4096],
     others: &[u16; 1024],
     count: usize,
@@ -241,13 +365,13 @@ fn pass_others(
         → Sifted pass from to noughts (take count others.now) 0 count plane.new (fits && result) readers.new }
     ensures coefficients { AllCoefficients plane.new }
 {
-    let mut fits = true;
-    for index in 0..count {
-        let place = usize::from(others[index]);
-        let entry = read_raw(readers, plane[place], n, false);
-        fits &= add_entry(plane, place, entry, position);
+    if n == 1 {
+        return pass_others_by_fours(plane, others, count, 1, position, readers);
     }
-    fits
+    if n == 2 {
+        return pass_others_by_fours(plane, others, count, 2, position, readers);
+    }
+    pass_others(plane, others, 0, count, n, position, readers)
 }
 
 /// The same with readers of its own.
@@ -273,7 +397,7 @@ fn upgrade_others(
     ensures coefficients { AllCoefficients plane.new }
 {
     let mut own = readers.copy();
-    let fits = pass_others(plane, others, count, n, position, &mut own);
+    let fits = pass_others_by_bits(plane, others, count, n, position, &mut own);
     *readers = own;
     fits
 }
@@ -298,6 +422,23 @@ fn step_of(readers: &mut Readers<'_>, n: u8, room: usize, begins: bool) -> (usiz
     readers.srl.step(n, room)
 }
 
+/// Puts what an entry makes of a sum that is zero, as 16 bits hold it, and says whether it is in the range of a
+/// coefficient; where it surely is, nothing is tested.
+#[inline(always)]
+fn put_entry(plane: &mut [i16; 4096], place: usize, entry: i32, position: u8, sure: bool) -> bool
+    requires inside { place < 4096 }
+    requires entry { Within (2 ^ 24) entry }
+    requires least { 1 ≤ position }
+    requires most { position ≤ 30 }
+    requires sure { sure ≡ true → is_coefficient (coefficient_of entry position) ≡ true }
+    ensures fits { result ≡ is_coefficient (coefficient_of entry position) }
+    ensures sum { plane.new ≡ slice_set plane.old place (wrapped (coefficient_of entry position)) }
+{
+    let sum = times(entry, position);
+    plane[place] = low_bits(sum);
+    sure || is_small(sum)
+}
+
 /// Passes listed places from one on, whose sums are zero, and upgrades the one behind them, if a value comes for it: a
 /// token at most. It says where it goes on, and whether the sum stays in the range of a coefficient.
 #[inline(always)]
@@ -310,6 +451,7 @@ fn pass_token(
     position: u8,
     readers: &mut Readers<'_>,
     begins: bool,
+    sure: bool,
 ) -> (usize, bool)
     requires room { count ≤ 1024 }
     requires left { at < count }
@@ -319,6 +461,7 @@ fn pass_token(
     requires least { 1 ≤ position }
     requires most { position ≤ 30 }
     requires begins { begins ≡ true → (n ≤ MOST_AHEAD) × BeginsToken readers.old.srl }
+    requires sure { sure ≡ true → n + position ≤ 16 }
     requires coefficients { AllCoefficients plane.old }
     ensures on { at < result.0 }
     ensures within { result.0 ≤ count }
@@ -333,7 +476,7 @@ fn pass_token(
         return (next, true);
     }
     let place = usize::from(noughts[next]);
-    (next + 1, add_entry(plane, place, value, position))
+    (next + 1, put_entry(plane, place, value, position, sure))
 }
 
 /// Upgrades the listed places from one on, whose sums are zero, and says whether all their sums stay in the range of a
@@ -348,6 +491,7 @@ fn pass_tokens(
     position: u8,
     readers: &mut Readers<'_>,
     begins: bool,
+    sure: bool,
 ) -> bool
     requires room { count ≤ 1024 }
     requires order { at ≤ count }
@@ -357,6 +501,7 @@ fn pass_tokens(
     requires least { 1 ≤ position }
     requires most { position ≤ 30 }
     requires begins { begins ≡ true → at < count → (n ≤ MOST_AHEAD) × BeginsToken readers.old.srl }
+    requires sure { sure ≡ true → n + position ≤ 16 }
     requires coefficients { AllCoefficients plane.old }
     ensures sifted { (pass : Pass) (from to : ℕ) (others : List ℕ) (others_done : ℕ) (fits : Bool) → from ≤ to → to ≤ 4096 → AreAlike pass from to n position false → Sifted pass from to (take count noughts.now) others at others_done plane.old fits readers.old
         → Sifted pass from to (take count noughts.now) others count others_done plane.new (fits && result) readers.new }
@@ -365,7 +510,9 @@ fn pass_tokens(
     let mut fits = true;
     let mut at = at;
     'tokens: while at < count {
-        let (next, fit) = pass_token(plane, noughts, at, count, n, position, readers, begins);
+        let (next, fit) = pass_token(
+            plane, noughts, at, count, n, position, readers, begins, sure,
+        );
         at = next;
         fits &= fit;
     }
@@ -376,6 +523,38 @@ fn pass_tokens(
 /// of a token by the band before comes first; then tokens begin.
 #[inline(always)]
 fn pass_noughts(
+    plane: &mut [i16; 4096],
+    noughts: &[u16; 1024],
+    count: usize,
+    n: u8,
+    position: u8,
+    readers: &mut Readers<'_>,
+    sure: bool,
+) -> bool
+    requires room { count ≤ 1024 }
+    requires inside { (j : ℕ) → j < count → slice_index noughts.now j < 4096 }
+    requires some { 1 ≤ n }
+    requires few { n ≤ 24 }
+    requires least { 1 ≤ position }
+    requires most { position ≤ 30 }
+    requires sure { sure ≡ true → n + position ≤ 16 }
+    requires coefficients { AllCoefficients plane.old }
+    ensures sifted { (pass : Pass) (from to : ℕ) (others : List ℕ) (others_done : ℕ) (fits : Bool) → from ≤ to → to ≤ 4096 → AreAlike pass from to n position false → Sifted pass from to (take count noughts.now) others 0 others_done plane.old fits readers.old
+        → Sifted pass from to (take count noughts.now) others count others_done plane.new (fits && result) readers.new }
+    ensures coefficients { AllCoefficients plane.new }
+{
+    if n > MOST_AHEAD || count == 0 {
+        return pass_tokens(plane, noughts, 0, count, n, position, readers, false, sure);
+    }
+    let (at, first_fits) = pass_token(plane, noughts, 0, count, n, position, readers, false, sure);
+    let rest_fit = pass_tokens(plane, noughts, at, count, n, position, readers, true, sure);
+    first_fits & rest_fit
+}
+
+/// The same. For one bit and for two, the most frequent values, the compiler makes a loop of its own, without a test of
+/// their range where the position is so low that none leaves it.
+#[inline(always)]
+fn pass_noughts_by_bits(
     plane: &mut [i16; 4096],
     noughts: &[u16; 1024],
     count: usize,
@@ -394,12 +573,14 @@ fn pass_noughts(
         → Sifted pass from to (take count noughts.now) others count others_done plane.new (fits && result) readers.new }
     ensures coefficients { AllCoefficients plane.new }
 {
-    if n > MOST_AHEAD || count == 0 {
-        return pass_tokens(plane, noughts, 0, count, n, position, readers, false);
+    let sure = n + position <= 16;
+    if (n == 1) & sure {
+        return pass_noughts(plane, noughts, count, 1, position, readers, true);
     }
-    let (at, first_fits) = pass_token(plane, noughts, 0, count, n, position, readers, false);
-    let rest_fit = pass_tokens(plane, noughts, at, count, n, position, readers, true);
-    first_fits & rest_fit
+    if (n == 2) & sure {
+        return pass_noughts(plane, noughts, count, 2, position, readers, true);
+    }
+    pass_noughts(plane, noughts, count, n, position, readers, false)
 }
 
 /// The same with readers of its own.
@@ -425,7 +606,7 @@ fn upgrade_noughts(
     ensures coefficients { AllCoefficients plane.new }
 {
     let mut own = readers.copy();
-    let fits = pass_noughts(plane, noughts, count, n, position, &mut own);
+    let fits = pass_noughts_by_bits(plane, noughts, count, n, position, &mut own);
     *readers = own;
     fits
 }

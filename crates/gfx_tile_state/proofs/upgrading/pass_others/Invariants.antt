@@ -8,7 +8,7 @@ abbrev pub invariant-loop-index : goal.invariant-loop-index
 invariant-loop-index l = record {
   long : length l.plane ≡ 4096;
   coefficients : AllCoefficients l.plane;
-  sifted : (pass : Pass) (from to : ℕ) (noughts : List ℕ) (fits : Bool) → from ≤ to → to ≤ 4096 → AreAlike pass from to l.n l.position false
-      → Sifted pass from to noughts (take l.count l.others) 0 0 l.initial.plane fits l.initial.readers
-      → Sifted pass from to noughts (take l.count l.others) 0 l.index l.plane (fits && l.fits) l.readers;
+  sifted : (pass : Pass) (start to : ℕ) (noughts : List ℕ) (fits : Bool) → start ≤ to → to ≤ 4096 → AreAlike pass start to l.n l.position false
+      → Sifted pass start to noughts (take l.count l.others) 0 l.from l.initial.plane fits l.initial.readers
+      → Sifted pass start to noughts (take l.count l.others) 0 l.index l.plane (fits && l.fits) l.readers;
 }

@@ -4,10 +4,10 @@ use Rattle.std.proofs.lemmas.List.{get_or-take, length-take-le}
 use Rattle.gfx_dwt.specs.Ranges.{at}
 use Rattle.gfx_quant.specs.Coefficient.{coefficient_of}
 use Rattle.gfx_tile_state.specs.Entries.{wrapped}
-use Rattle.gfx_tile_state.proofs.Sums.{small-bits, within_bits}
+use Rattle.gfx_tile_state.proofs.Sums.{small-bits, surely, within_bits}
 use Rattle.gfx_tile_state.proofs.Passing.{and-true, wrapped-within}
 use Rattle.gfx_tile_state.proofs.Places.{set-coefficient}
-use Rattle.gfx_tile_state.proofs.Sifting.{nought-read, zeros-passed}
+use Rattle.gfx_tile_state.proofs.Sifting.{nought-put, zeros-passed}
 use Rattle.gfx_tile_state.proofs.upgrading.pass_token.Goals as goal
 
 pub returns-then-value-eq0-clause-sifted : goal.returns-then-value-eq0-clause-sifted
@@ -20,10 +20,15 @@ returns-then-value-eq0-clause-sifted c pass from to others done fits order end a
     (zeros-passed pass from to c.args.n c.args.position (take c.args.count c.args.noughts.now) others c.args.at done c.step_of-passed.result.0 c.args.plane.now fits c.args.readers.now _ order c.requires.some alike
     room s (c.step_of-passed.ensures.zeros none).1 c.step_of-passed.ensures.bits)
 
-pub add_entry-requires-clause-entry : goal.add_entry-requires-clause-entry
-add_entry-requires-clause-entry c =
+pub put_entry-requires-clause-entry : goal.put_entry-requires-clause-entry
+put_entry-requires-clause-entry c =
     let small = within_bits c.step_of-passed.result.1 c.args.n c.requires.few c.step_of-passed.ensures.small in
     rw (small-bits c.step_of-passed.result.1 small) small
+
+pub put_entry-requires-clause-sure : goal.put_entry-requires-clause-sure
+put_entry-requires-clause-sure c sure =
+    let value = small-bits c.step_of-passed.result.1 (within_bits c.step_of-passed.result.1 c.args.n c.requires.few c.step_of-passed.ensures.small) in
+    rw value (surely c.step_of-passed.result.1 c.args.n c.args.position c.step_of-passed.ensures.small c.requires.least (c.requires.sure sure))
 
 pub returns-clause-sifted : goal.returns-clause-sifted
 returns-clause-sifted c pass from to others done fits order end alike s =
@@ -34,13 +39,13 @@ returns-clause-sifted c pass from to others done fits order end alike s =
     let few = c.args.at + c.step_of-passed.result.0 in
     let long : length (take c.args.count c.args.noughts.now) ≡ c.args.count = length-take-le c.args.count c.args.noughts.now (omega (arith, c.told-noughts, c.requires.room)) in
     let listed : few < length (take c.args.count c.args.noughts.now) = omega (arith, long, c.requires.left, read.0) in
-    let sum = wrapped (at plane p +ℤ coefficient_of c.step_of-passed.result.1 c.args.position) in
-    let put : c.add_entry.new.plane ≡ set plane p sum = rw value at c.add_entry.ensures.sum in
+    let sum = wrapped (coefficient_of c.step_of-passed.result.1 c.args.position) in
+    let put : c.put_entry.new.plane ≡ set plane p sum = rw value at c.put_entry.ensures.sum in
     rw put
-    (nought-read pass from to c.args.n c.args.position (take c.args.count c.args.noughts.now) others c.args.at done c.step_of-passed.result.0 p plane (set plane p sum) fits c.add_entry.result
+    (nought-put pass from to c.args.n c.args.position (take c.args.count c.args.noughts.now) others c.args.at done c.step_of-passed.result.0 p plane (set plane p sum) fits c.put_entry.result
     c.args.readers.now _ c.step_of-passed.result.1 order (omega (arith, c.told-plane)) c.requires.some alike listed
     (c.from-place.ensures ∙ sym (get_or-take c.args.count c.args.noughts.now few 0 (omega (arith, c.requires.left, read.0))))
-    s read.1 c.step_of-passed.ensures.bits refl (rw value at c.add_entry.ensures.fits))
+    s read.1 c.step_of-passed.ensures.bits refl (rw value at c.put_entry.ensures.fits))
 
 pub returns-clause-coefficients : goal.returns-clause-coefficients
 returns-clause-coefficients c =
@@ -51,6 +56,6 @@ returns-clause-coefficients c =
     let few = c.args.at + c.step_of-passed.result.0 in
     let below : slice_index c.args.noughts.now few < 4096 = c.requires.inside few (omega (arith, c.requires.left, read.0)) in
     let inside : p < length plane = omega (arith, c.told-plane, below, c.from-place.ensures) in
-    let sum = wrapped (at plane p +ℤ coefficient_of c.step_of-passed.result.1 c.args.position) in
-    let put : c.add_entry.new.plane ≡ set plane p sum = rw value at c.add_entry.ensures.sum in
+    let sum = wrapped (coefficient_of c.step_of-passed.result.1 c.args.position) in
+    let put : c.put_entry.new.plane ≡ set plane p sum = rw value at c.put_entry.ensures.sum in
     rw put (set-coefficient plane p sum inside (wrapped-within _) c.requires.coefficients)

@@ -1,6 +1,6 @@
 use Rattle.std.proofs.Common.{◌≡◌, ◌<◌, ◌≤◌, ◌-◌, ℕ, Bool, List, true, false, ◌&&◌, take}
 use Rattle.gfx_dwt.specs.Ranges.{AllCoefficients}
-use Rattle.gfx_srl.specs.declared.reader.TheConstants.{MOST_AHEAD}
+use Rattle.gfx_srl.specs.declared.value.TheConstants.{MOST_AHEAD}
 use Rattle.gfx_srl.specs.Steps.{BeginsToken}
 use Rattle.gfx_tile_state.specs.Entries.{Pass, AreAlike}
 use Rattle.gfx_tile_state.specs.Sifting.{Sifted}

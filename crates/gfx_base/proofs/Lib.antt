@@ -3,3 +3,5 @@ pub mod ResultLemmas
 pub mod FieldLemmas
 pub mod MapLemmas
 pub mod Numbers
+pub mod Blocks
+pub mod Palettes

@@ -1,6 +1,6 @@
 -- Steps that may be refused: what an Ok at the end says of each step.
-use Rattle.std.proofs.Common.{◌≡◌, ℕ, Bool, true, false, cond, List, [], ◌∷◌, ◌++◌, length, map, Result, Ok, Err, refl, sym, ap, ◌∙◌, subst, suc, arith}
-use Rattle.gfx_base.specs.Results.{and_then, ◌>>=◌, check, Has, each}
+use Rattle.std.proofs.Common.{◌≡◌, Bool, true, false, List, [], ◌∷◌, length, Result, Ok, Err, refl, sym, ap, ◌∙◌, subst, suc}
+use Rattle.gfx_base.specs.Results.{and_then, check, Has, each}
 
 -- a step that gave a value goes on with it
 pub and_then-Ok : {A B E : Type 0} (a : A) (f : A → Result B E) → and_then (Ok a) f ≡ f a

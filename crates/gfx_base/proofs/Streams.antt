@@ -1,7 +1,7 @@
 -- What several calls on one sink or source come to.
-use Rattle.std.proofs.Common.{◌≡◌, ℕ, ◌≤◌, ◌<◌, List, [], ◌∷◌, ◌++◌, length, take, drop, Option, Some, None, Result, Ok, Err, refl, sym, ap, ◌∙◌, subst, append_assoc, arith}
+use Rattle.std.proofs.Common.{◌≡◌, ℕ, ◌≤◌, ◌<◌, List, [], ◌++◌, length, take, drop, Option, Some, None, refl, sym, ap, ◌∙◌, subst, append_assoc, arith}
 use Rattle.std.proofs.lemmas.List.{append-nil, take-append-drop, nil_from_length}
-use Rattle.gfx_base.specs.Stream.{Rose, Gained, Gave, Keeps, Tells, Change, change, Gains, GainsPart, FailsAfter, Writes}
+use Rattle.gfx_base.specs.Stream.{Rose, Gained, Gave, Keeps, Tells, Change, change, Gains, GainsPart, FailsAfter}
 
 -- nothing was gained
 pub Gained_none : (held : Option (List ℕ)) → Gained held [] held

@@ -1,6 +1,9 @@
 pub mod Refusal
 pub mod Format
 pub mod Geometry
+pub mod Colour
+pub mod Cells
+pub mod Blocks
 pub mod Field
 pub mod Results
 pub mod Outcome

@@ -1,9 +1,9 @@
 -- The source and the sink over memory: this project's own rule. Calls are counted from 1; those whose
 -- numbers are listed fail.
-use Rattle.std.specs.Prelude.{◌≡◌, ℕ, ◌+◌, ◌-◌, List, [], ◌++◌, length, take, drop, min, Bool, ◌||◌, ◌==◌, if◌then◌else◌, Result, Ok, Err}
+use Rattle.std.specs.Prelude.{ℕ, ◌+◌, ◌-◌, List, [], ◌++◌, length, take, drop, min, Bool, ◌||◌, ◌==◌, if◌then◌else◌, Result, Ok, Err}
 use Rattle.std.specs.List.{list_any}
 use Rattle.gfx_base.specs.declared.answer.Failed.{Failed}
-use Rattle.gfx_base.specs.declared.source.TheConstants.{LAST_COUNT}
+use Rattle.gfx_base.specs.Stream.{LAST}
 
 -- a source over memory: the bytes left, the numbers of the calls that fail, and the counts so far
 pub record Reading : Type 0 where
@@ -22,7 +22,7 @@ pub record Writing : Type 0 where
 
 -- one more, up to the last value
 abbrev pub next_count : ℕ → ℕ
-next_count n = min (n + 1) LAST_COUNT
+next_count n = min (n + 1) LAST
 
 abbrev pub is_listed : ℕ → List ℕ → Bool
 is_listed n listed = list_any (λ m. m == n) listed

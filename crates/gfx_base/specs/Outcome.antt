@@ -1,6 +1,6 @@
 -- What a call answered, against the answer that is due: this project's own rule. Want of memory is the
 -- one free answer.
-use Rattle.std.specs.Prelude.{◌≡◌, Result, Ok, Err}
+use Rattle.std.specs.Prelude.{◌≡◌, Bool, true, Result, Ok, Err}
 use Rattle.gfx_base.specs.declared.answer.Cause.{Cause}
 use Rattle.gfx_base.specs.declared.answer.Cause.TheVariants.{Refused, Memory}
 
@@ -25,3 +25,9 @@ Applies (Err (Refused r)) old new due = (due ≡ Err r) × (new ≡ old)
 abbrev pub Performs : {S R : Type 0} → Result (Unit {0}) R → S → S → Result S R → Type 0
 Performs (Ok x) old new due = due ≡ Ok new
 Performs (Err r) old new due = (due ≡ Err r) × (new ≡ old)
+
+-- memory is wanting only where this holds: mostly where what is due is no refusal
+abbrev pub WantsOnlyIf : {X R : Type 0} → Result X (Cause R) → Bool → Type 0
+WantsOnlyIf (Ok x) may = Unit {0}
+WantsOnlyIf (Err Memory) may = may ≡ true
+WantsOnlyIf (Err (Refused r)) may = Unit {0}

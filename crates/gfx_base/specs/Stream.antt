@@ -1,11 +1,14 @@
 -- What a call does to the outside: this project's own rule. A count of faults never falls; a call
 -- that fails has raised it, or found it at its last value.
 use Rattle.std.specs.Prelude.{◌≡◌, ℕ, ◌<◌, ◌≤◌, List, [], ◌++◌, Option, Some, None, Result, Ok, Err}
-use Rattle.gfx_base.specs.declared.source.TheConstants.{LAST_COUNT}
+
+-- the last value of a count of faults, where it stays
+abbrev pub LAST : ℕ
+LAST = 18446744073709551615
 
 -- the count rose, or stands at its last value
 abbrev pub Rose : ℕ → ℕ → Type 0
-Rose before now = now < LAST_COUNT → before < now
+Rose before now = now < LAST → before < now
 
 -- what is held, where it was told, gained these bytes at its end
 abbrev pub Gained : Option (List ℕ) → List ℕ → Option (List ℕ) → Type 0

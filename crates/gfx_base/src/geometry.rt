@@ -8,7 +8,11 @@ pub struct Point {
     pub y: u16,
 }
 
-/// A square of 64 by 64 pixels, counted in squares from the top left.
+/// The side of a cell in pixels: that of a tile of RemoteFX ([MS-RDPEGFX] 2.2.4.2), and the unit in which the
+/// room of surfaces is counted.
+pub const CELL_SIDE: u16 = 64;
+
+/// A cell of a surface: a square of 64 by 64 pixels, by its column and row of cells from the top left.
 #[derive(Clone, Copy, Debug, PartialEq, Eq)]
 pub struct Cell {
     pub x: u16,

@@ -160,10 +160,34 @@ pub enum Refusal {
     /// ResetGraphics: an output side out of range.
     #[error("ResetGraphics: an output side is out of range")]
     OutputSize = 52,
+    /// RemoteFX video: entropy bits that name neither RLGR1 nor RLGR3.
+    #[error("RemoteFX video: entropy bits name neither RLGR1 nor RLGR3")]
+    EntropyUnknown = 53,
+    /// Kept bitmaps: bytes that aren't a file of them.
+    #[error("kept bitmaps: the bytes aren't a file of them")]
+    KeptShape = 54,
+    /// Cache import: a reply with more slots than entries were offered.
+    #[error("cache import: a reply has more slots than entries were offered")]
+    ImportCount = 55,
+    /// Fragments: a fragment that is shorter than its header, or longer than its message.
+    #[error("fragments: a fragment is shorter than its header, or longer than its message")]
+    FragmentLength = 56,
+    /// Fragments: a first fragment while a message is open.
+    #[error("fragments: a first fragment comes while a message is open")]
+    FragmentOrder = 57,
+    /// Fragments: a fragment of another channel.
+    #[error("fragments: a fragment is of another channel")]
+    FragmentChannel = 58,
+    /// Fragments: a fragment of an unknown kind, or with an unknown width of a number.
+    #[error("fragments: a fragment has an unknown kind, or a number of an unknown width")]
+    FragmentKind = 59,
+    /// Kept bitmaps: the two ends hold different bitmaps of one length under one key.
+    #[error("kept bitmaps: the ends hold different bitmaps of one length under one key")]
+    KeptDiffers = 60,
 }
 
 impl Refusal {
-    /// The number that reports print, 1 to 52.
+    /// The number that reports print: 1 to 60, but for 50, which is none of a message, a stream or a script.
     pub fn number(self) -> u8
         ensures { result ≡ number_of self }
     {
@@ -226,6 +250,14 @@ impl Refusal {
             Refusal::TileBudget => "TileBudget",
             Refusal::MonitorCount => "MonitorCount",
             Refusal::OutputSize => "OutputSize",
+            Refusal::EntropyUnknown => "EntropyUnknown",
+            Refusal::KeptShape => "KeptShape",
+            Refusal::ImportCount => "ImportCount",
+            Refusal::FragmentLength => "FragmentLength",
+            Refusal::FragmentOrder => "FragmentOrder",
+            Refusal::FragmentChannel => "FragmentChannel",
+            Refusal::FragmentKind => "FragmentKind",
+            Refusal::KeptDiffers => "KeptDiffers",
         }
     }
 }

@@ -5,9 +5,6 @@ ghost use Rattle.gfx_base.specs.Memory.{reading_of, read_count, read_answer, rea
 use crate::answer::Failed;
 use std::marker::Model;
 
-/// The last value of a count of faults, where it stays.
-pub const LAST_COUNT: u64 = u64::MAX;
-
 /// Where input comes from. What a failed read leaves is told by the clauses, never by the content.
 pub trait Source {
     /// The bytes left, where the object tells them.

@@ -1,4 +1,4 @@
-use Rattle.std.proofs.Common.{length, ℕ}
+use Rattle.std.proofs.Common.{length}
 use Rattle.gfx_base.specs.Stream.{change}
 use Rattle.gfx_base.proofs.Streams.{Sent}
 use Rattle.gfx_base.proofs.sink.write_all.Given as goal

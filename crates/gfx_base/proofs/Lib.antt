@@ -5,3 +5,4 @@ pub mod MapLemmas
 pub mod Numbers
 pub mod Blocks
 pub mod Palettes
+pub mod Wanting

@@ -1,13 +1,13 @@
 -- What a writer keeps, and what it sends on to memory.
-use Rattle.std.proofs.Common.{◌≡◌, ℕ, zero, suc, ◌+◌, ◌-◌, ◌*◌, ◌/◌, ◌%◌, ◌^◌, ◌<◌, ◌≤◌, Bool, true, false, List, [], ◌∷◌, ◌++◌, length, take, refl, sym, ap, ◌∙◌, arith, append_assoc, replicate}
+use Rattle.std.proofs.Common.{◌≡◌, Result, Ok, Err, OnErr, ℕ, zero, suc, ◌+◌, ◌-◌, ◌*◌, ◌/◌, ◌%◌, ◌^◌, ◌<◌, ◌≤◌, Bool, true, false, List, [], ◌∷◌, ◌++◌, length, length-append, take, refl, sym, ap, ◌∙◌, arith, append_assoc, replicate}
 use Rattle.std.specs.Int.{w32, to_be_bytes}
 use Rattle.std.specs.Prelude.{bit_and, bit_or}
-use Rattle.std.proofs.Math.Seq.{take-append-add}
-use Rattle.std.proofs.lemmas.List.{append-nil, replicate-append-replicate, take-replicate}
+use Rattle.std.proofs.Math.Seq.{take-append-add, take-append_seam}
+use Rattle.std.proofs.lemmas.List.{append-nil, replicate-append-replicate, take-replicate, take-append-le}
 use Rattle.std.proofs.lemmas.Nat.{pow_pos, mod_below, pow-add, shl_whole, or_shifted, mul-add-lt, shr_split, shr_below, one_shl, and_mask, shl_below, mod_low}
 use Rattle.std.proofs.lemmas.Bool.{lt-leb, le-leb}
 use Rattle.gfx_bits.specs.Bits.{digits, bits_of, IsPadded}
-use Rattle.gfx_bits.proofs.Laws.{doubled, digits-join, length-digits, bits_of-append}
+use Rattle.gfx_bits.proofs.Laws.{doubled, digits-join, length-digits, bits_of-append, length-bits_of}
 
 -- a number as its high and its low digits
 cut : (m n value : ℕ) → value < 2 ^ (m + n) → digits (m + n) value ≡ digits m (value / 2 ^ n) ++ digits n (value % 2 ^ n)
@@ -149,3 +149,25 @@ padded items now pending count h p is =
           ∙ sym (append_assoc (bits_of items) (digits count pending) (replicate (8 * whole - count) false))
           ∙ ap (λ b. b ++ replicate (8 * whole - count) false) is,
     )
+
+-- ---- what was written is taken back
+
+-- bytes at the front, and bits behind them that are less than a word, before more bits
+pub taken-back : (items bytes : List ℕ) (now more : List Bool) (pending count kept held whole : ℕ) → count < 32 → held < 32 → length items % 4 ≡ 0 → whole % 4 ≡ 0
+    → bits_of items ++ digits count pending ≡ now → length bytes ≡ whole → now ≡ (bits_of bytes ++ digits held kept) ++ more
+    → bits_of (take whole items) ≡ bits_of bytes
+taken-back items bytes now more pending count kept held whole p q fours four is long e =
+    let all : length now ≡ 8 * length items + count =
+    sym (ap length is) ∙ omega (arith, length-append (bits_of items) (digits count pending), length-bits_of items, length-digits count pending) in
+    let parts : length now ≡ 8 * whole + held + length more =
+    ap length e ∙ omega (arith, length-append (bits_of bytes ++ digits held kept) more, length-append (bits_of bytes) (digits held kept), length-bits_of bytes, length-digits held kept) in
+    let within : 8 * whole ≤ length (bits_of items) = omega (arith, length-bits_of items) in
+    take-bytes whole items
+    ∙ sym (take-append-le (8 * whole) (bits_of items) (digits count pending) within)
+    ∙ ap (take (8 * whole)) (is ∙ e ∙ append_assoc (bits_of bytes) (digits held kept) more)
+    ∙ ap (λ n. take n (bits_of bytes ++ (digits held kept ++ more))) {y = length (bits_of bytes)} (omega (arith, length-bits_of bytes))
+    ∙ take-append_seam (bits_of bytes) (digits held kept ++ more)
+
+pub on_err-always : {A E : Type 0} (r : Result A E) (P : Type 0) → P → OnErr r P
+on_err-always (Ok x) P p = tt
+on_err-always (Err e) P p = p

@@ -129,3 +129,27 @@ more_zeros old m n =
     append_assoc old (replicate m false) (digits n 0)
     ∙ ap (λ b. old ++ (replicate m false ++ b)) (digits-zeros n)
     ∙ ap (λ b. old ++ b) (replicate-append-replicate m n false)
+
+-- ---- a number and a count written
+
+digits-one : digits 1 1 ≡ true ∷ []
+unfolding digits
+digits-one = refl
+
+pub count-ended : (old one two new : List Bool) (n value count most : ℕ) → count < most → one ≡ old ++ digits n value → two ≡ one ++ replicate count false → new ≡ two ++ digits 1 1
+    → new ≡ old ++ (digits n value ++ zeros_code most count)
+unfolding zeros_code
+count-ended old one two new n value count most less e f g =
+    g ∙ ap (λ b. two ++ b) digits-one ∙ ap (λ b. b ++ true ∷ []) (f ∙ ap (λ b. b ++ replicate count false) e)
+    ∙ append_assoc (old ++ digits n value) (replicate count false) (true ∷ [])
+    ∙ append_assoc old (digits n value) (replicate count false ++ true ∷ [])
+    ∙ ap (λ b. old ++ (digits n value ++ (replicate count false ++ cond b (true ∷ []) []))) (sym (lt-ltb count most less))
+
+pub count-unended : (old one new : List Bool) (n value count most : ℕ) → most ≤ count → one ≡ old ++ digits n value → new ≡ one ++ replicate count false
+    → new ≡ old ++ (digits n value ++ zeros_code most count)
+unfolding zeros_code
+count-unended old one new n value count most full e f =
+    f ∙ ap (λ b. b ++ replicate count false) e
+    ∙ append_assoc old (digits n value) (replicate count false)
+    ∙ ap (λ b. old ++ (digits n value ++ b)) (sym (append-nil (replicate count false)))
+    ∙ ap (λ b. old ++ (digits n value ++ (replicate count false ++ cond b (true ∷ []) []))) (sym (le-ltb count most full))

@@ -1,7 +1,7 @@
 -- Bits as a list, the most significant of each byte first, and zeros without end behind them.
 -- RLGR ([MS-RDPRFX] 3.1.8.1.7.3) and SRL ([MS-RDPEGFX], the progressive codec's upgrade tiles) are written in these words.
 use Prim.Native.Nat.{zero, suc}
-use Rattle.std.specs.Prelude.{ℕ, ◌+◌, ◌%◌, ◌^◌, ◌<◌, ◌≤◌, ◌≡◌, Bool, true, false, nat_le, List, [], ◌∷◌, ◌++◌, drop, replicate, nat_lt, if◌then◌else◌}
+use Rattle.std.specs.Prelude.{ℕ, ◌+◌, ◌%◌, ◌^◌, ◌<◌, ◌≡◌, Bool, true, false, nat_le, List, [], ◌∷◌, ◌++◌, drop, replicate, nat_lt, if◌then◌else◌}
 
 -- the next bit, which is zero past the end
 abbrev pub first : List Bool → Bool
@@ -38,9 +38,9 @@ Spelled old (bit ∷ code) new = (first old ≡ bit) × Spelled (drop 1 old) cod
 abbrev pub IsPadded : List Bool → List ℕ → Type 0
 IsPadded bits bytes = (zeros : ℕ) × (zeros < 8) × (bits_of bytes ≡ bits ++ replicate zeros false)
 
--- new is old with some ones behind it, at most that many
-abbrev pub GainsOnes : ℕ → List Bool → List Bool → Type 0
-GainsOnes most old new = (count : ℕ) × (count ≤ most) × (new ≡ old ++ replicate count true)
+-- new is old with some bits behind it
+abbrev pub GainsSome : List Bool → List Bool → Type 0
+GainsSome old new = (more : List Bool) × (new ≡ old ++ more)
 
 -- a count in unary: a zero for each, and a one behind them, which the largest count goes without
 unfoldable pub zeros_code : ℕ → ℕ → List Bool

@@ -1,5 +1,5 @@
-ghost use Rattle.std.specs.Prelude.{◌≡◌, ◌+◌, ◌*◌, ◌^◌, ◌<◌, ◌≤◌, ◌++◌, [], replicate, true, false, IfOk, OnOk, OnErr};
-ghost use Rattle.gfx_bits.specs.Bits.{digits, IsPadded, GainsOnes};
+ghost use Rattle.std.specs.Prelude.{◌≡◌, ◌+◌, ◌*◌, ◌^◌, ◌%◌, ◌<◌, ◌≤◌, ◌++◌, [], ℕ, List, length, replicate, true, false, IfOk, OnOk, OnErr};
+ghost use Rattle.gfx_bits.specs.Bits.{bits_of, digits, zeros_code, IsPadded, GainsSome};
 
 use std::alloc::{AllocError, Global};
 use std::marker::Model;
@@ -28,7 +28,7 @@ pub struct BitWriter {
 }
 
 impl Model for BitWriter {
-    ghost use Rattle.std.specs.Prelude.{List, Bool, ◌≤◌, ◌<◌, ◌^◌, ◌++◌};
+    ghost use Rattle.std.specs.Prelude.{List, Bool, length, ◌≡◌, ◌≤◌, ◌<◌, ◌%◌, ◌^◌, ◌++◌};
 
     ghost Value = { List Bool };
 
@@ -36,7 +36,7 @@ impl Model for BitWriter {
 
     ghost view = { λ writer. bits_of writer.bytes.items ++ digits writer.count writer.pending };
 
-    ghost invariant = { λ writer. (writer.count < 32) × (writer.pending < 2 ^ writer.count) };
+    ghost invariant = { λ writer. (writer.count < 32) × (writer.pending < 2 ^ writer.count) × (length writer.bytes.items % 4 ≡ 0) };
 }
 
 impl BitWriter {
@@ -73,10 +73,44 @@ impl BitWriter {
         Ok(())
     }
 
-    /// Writes that many ones. An `Err` leaves some of them written.
+    /// Writes that many ones. An `Err` changes nothing.
     pub fn push_ones(&mut self, count: u32) -> Result<(), NoBits>
         ensures ok { OnOk result (self.new ≡ self.old ++ replicate count true) }
-        ensures err { OnErr result (GainsOnes count self.old self.new) }
+        ensures err { OnErr result (self.new ≡ self.old) }
+    {
+        let (whole, pending, held) = (self.bytes.len(), self.pending, self.count);
+        let written = self.write_ones(count);
+        self.settle(whole, pending, held, written)
+    }
+
+    /// Writes that many zeros. An `Err` changes nothing.
+    pub fn push_zeros(&mut self, count: u32) -> Result<(), NoBits>
+        ensures ok { OnOk result (self.new ≡ self.old ++ replicate count false) }
+        ensures err { OnErr result (self.new ≡ self.old) }
+    {
+        let (whole, pending, held) = (self.bytes.len(), self.pending, self.count);
+        let written = self.write_zeros(count);
+        self.settle(whole, pending, held, written)
+    }
+
+    /// Writes a number below 2 ^ n as `n` bits, and behind it a count in unary: a zero for each, and a one, which
+    /// the largest count, `most`, goes without. An `Err` changes nothing, so all of these bits are written or none.
+    pub fn push_counted(&mut self, value: u32, n: u8, count: u32, most: u32) -> Result<(), NoBits>
+        requires width { n ≤ 32 }
+        requires below { value < 2 ^ n }
+        requires within { count ≤ most }
+        ensures ok { OnOk result (self.new ≡ self.old ++ (digits n value ++ zeros_code most count)) }
+        ensures err { OnErr result (self.new ≡ self.old) }
+    {
+        let (whole, pending, held) = (self.bytes.len(), self.pending, self.count);
+        let written = self.write_counted(value, n, count, most);
+        self.settle(whole, pending, held, written)
+    }
+
+    // Ones, of which an error leaves some.
+    fn write_ones(&mut self, count: u32) -> Result<(), NoBits>
+        ensures ok { OnOk result (self.new ≡ self.old ++ replicate count true) }
+        ensures err { OnErr result (GainsSome self.old self.new) }
     {
         let mut left = count;
         'words: while left >= WORD {
@@ -86,9 +120,10 @@ impl BitWriter {
         self.push((1 << left) - 1, left as u8)
     }
 
-    /// Writes that many zeros. An `Err` leaves some of them written.
-    pub fn push_zeros(&mut self, count: u32) -> Result<(), NoBits>
-        ensures { OnOk result (self.new ≡ self.old ++ replicate count false) }
+    // Zeros, of which an error leaves some.
+    fn write_zeros(&mut self, count: u32) -> Result<(), NoBits>
+        ensures ok { OnOk result (self.new ≡ self.old ++ replicate count false) }
+        ensures err { OnErr result (GainsSome self.old self.new) }
     {
         let mut left = count;
         'words: while left >= WORD {
@@ -96,6 +131,47 @@ impl BitWriter {
             left -= WORD;
         }
         self.push(0, left as u8)
+    }
+
+    // A number and a count behind it, of whose bits an error leaves some.
+    #[inline(always)]
+    fn write_counted(&mut self, value: u32, n: u8, count: u32, most: u32) -> Result<(), NoBits>
+        requires width { n ≤ 32 }
+        requires below { value < 2 ^ n }
+        requires within { count ≤ most }
+        ensures ok { OnOk result (self.new ≡ self.old ++ (digits n value ++ zeros_code most count)) }
+        ensures err { OnErr result (GainsSome self.old self.new) }
+    {
+        self.push(value, n)?;
+        self.write_zeros(count)?;
+        if count < most {
+            return self.push(1, 1);
+        }
+        Ok(())
+    }
+
+    // Takes back what was written since the writer held these whole bytes and these bits behind them, if it is an error.
+    #[inline(always)]
+    fn settle(
+        &mut self,
+        whole: usize,
+        pending: u64,
+        held: u32,
+        written: Result<(), NoBits>,
+    ) -> Result<(), NoBits>
+        requires held { held < 32 }
+        requires pending { pending < 2 ^ held }
+        requires whole { whole % 4 ≡ 0 }
+        ensures result { result ≡ written }
+        ensures ok { OnOk written (self.new ≡ self.old) }
+        ensures err { OnErr written ((bytes : List ℕ) → length bytes ≡ whole → GainsSome (bits_of bytes ++ digits held pending) self.old → self.new ≡ bits_of bytes ++ digits held pending) }
+    {
+        if written.is_err() {
+            self.bytes.truncate(whole);
+            self.pending = pending;
+            self.count = held;
+        }
+        written
     }
 
     /// The bits as bytes. The last byte is filled up with zeros.

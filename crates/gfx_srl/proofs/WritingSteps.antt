@@ -1,8 +1,6 @@
 -- What the writer's calls leave, as they compute it.
-use Rattle.std.proofs.Common.{◌≡◌, ◌≢◌, ℕ, zero, suc, ◌+◌, ◌-◌, ◌*◌, ◌^◌, ◌<◌, ◌≤◌, Bool, true, false, cond, ℤ, pos, List, [], ◌∷◌, ◌++◌, refl, sym, ap, ◌∙◌, arith, min, append_assoc, replicate}
+use Rattle.std.proofs.Common.{◌≡◌, ◌≢◌, ℕ, zero, suc, ◌+◌, ◌-◌, ◌*◌, ◌^◌, ◌<◌, ◌≤◌, Bool, true, false, cond, ℤ, pos, List, [], ◌∷◌, ◌++◌, refl, sym, ap, ◌∙◌, arith, min, append_assoc}
 use Rattle.std.specs.Int.RustNames.{unsigned_abs}
-use Rattle.std.proofs.lemmas.Bool.{lt-ltb, le-ltb}
-use Rattle.std.proofs.lemmas.List.{append-nil}
 use Rattle.gfx_bits.specs.Bits.{digits, zeros_code, IsPadded}
 use Rattle.gfx_bits.proofs.Laws.{digits-join, doubled}
 use Rattle.gfx_srl.specs.Code.{Pair, LastRun, k, is_negative, code}
@@ -19,6 +17,11 @@ digits-sign : (negative : Bool) → digits 1 (cond negative 1 0) ≡ negative �
 unfolding digits
 digits-sign true = refl
 digits-sign false = refl
+
+-- a sign's bit
+pub bit-of : (negative : Bool) (bit : ℕ) → bit ≡ cond negative 1 0 → bit < 2
+bit-of true bit e = omega arith
+bit-of false bit e = omega arith
 
 -- a one, zeros and a sign as one number
 pub head-code : (width zeros sign : ℕ) (negative : Bool) → zeros < 2 ^ width → sign ≡ cond negative 1 0 → sign < 2
@@ -38,32 +41,25 @@ head-below width zeros sign room bit =
     let four : 2 ^ (width + 2) ≡ 2 * 2 ^ (width + 1) = ap (λ n. 2 ^ n) {y = suc (width + 1)} (omega arith) ∙ doubled (width + 1) ∙ omega arith in
     omega arith
 
--- ---- a magnitude
-
-pub ended : (old one new : List Bool) (below most : ℕ) → below < most → one ≡ old ++ replicate below false → new ≡ one ++ digits 1 1 → new ≡ old ++ zeros_code most below
-unfolding zeros_code
-ended old one new below most less e f =
-    f ∙ ap (λ b. one ++ b) digits-one ∙ ap (λ b. b ++ true ∷ []) e ∙ append_assoc old (replicate below false) (true ∷ [])
-    ∙ ap (λ b. old ++ (replicate below false ++ cond b (true ∷ []) [])) (sym (lt-ltb below most less))
-
-pub unended : (old new : List Bool) (below most : ℕ) → most ≤ below → new ≡ old ++ replicate below false → new ≡ old ++ zeros_code most below
-unfolding zeros_code
-unended old new below most full e =
-    e ∙ ap (λ b. old ++ b) (sym (append-nil (replicate below false)))
-    ∙ ap (λ b. old ++ (replicate below false ++ cond b (true ∷ []) [])) (sym (le-ltb below most full))
-
 -- ---- the code of a value
 
-pub value-code : (old one new : List Bool) (kp zeros n : ℕ) (value : ℤ) (negative : Bool) → negative ≡ is_negative value
-    → one ≡ old ++ (true ∷ (digits (k kp) zeros ++ negative ∷ []))
-    → new ≡ one ++ zeros_code (2 ^ n - 2) (unsigned_abs value - 1)
+-- a head as one number, and a magnitude behind it
+pub last-run : (old new : List Bool) (width zeros sign top n below : ℕ) (negative : Bool) → zeros < 2 ^ width → sign ≡ cond negative 1 0 → top ≡ 2 ^ (width + 1)
+    → new ≡ old ++ (digits (width + 2) (top + 2 * zeros + sign) ++ zeros_code n below)
+    → new ≡ old ++ (true ∷ (digits width zeros ++ (negative ∷ zeros_code n below)))
+last-run old new width zeros sign top n below negative room is power e =
+    e
+    ∙ ap (λ m. old ++ (digits (width + 2) (m + 2 * zeros + sign) ++ zeros_code n below)) power
+    ∙ ap (λ b. old ++ (b ++ zeros_code n below)) (head-code width zeros sign negative room is (bit-of negative sign is))
+    ∙ ap (λ b. old ++ (true ∷ b)) (append_assoc (digits width zeros) (negative ∷ []) (zeros_code n below))
+
+-- at the width of the parameter
+pub value-code : (old new : List Bool) (kp zeros n width : ℕ) (value : ℤ) → width ≡ k kp
+    → new ≡ old ++ (true ∷ (digits width zeros ++ (is_negative value ∷ zeros_code (2 ^ n - 2) (unsigned_abs value - 1))))
     → new ≡ old ++ code kp (LastRun zeros (pair_of value n))
 unfolding code
-value-code old one new kp zeros n value negative is e f =
-    f
-    ∙ ap (λ b. b ++ zeros_code (2 ^ n - 2) (unsigned_abs value - 1)) (e ∙ ap (λ b. old ++ (true ∷ (digits (k kp) zeros ++ b ∷ []))) is)
-    ∙ append_assoc old (true ∷ (digits (k kp) zeros ++ is_negative value ∷ [])) (zeros_code (2 ^ n - 2) (unsigned_abs value - 1))
-    ∙ ap (λ b. old ++ (true ∷ b)) (append_assoc (digits (k kp) zeros) (is_negative value ∷ []) (zeros_code (2 ^ n - 2) (unsigned_abs value - 1)))
+value-code old new kp zeros n width value is e =
+    e ∙ ap (λ w. old ++ (true ∷ (digits w zeros ++ (is_negative value ∷ zeros_code (2 ^ n - 2) (unsigned_abs value - 1))))) is
 
 -- ---- the calls
 
@@ -89,8 +85,3 @@ pub run-rest : (old new : List Bool) (zeros : ℕ) → 0 < zeros → new ≡ old
 unfolding digits
 run-rest old new zero some e = absurd (omega arith)
 run-rest old new (suc zeros) some e = e ∙ ap (λ b. old ++ b) (sym (rest-some zeros))
-
--- a sign's bit
-pub bit-of : (negative : Bool) (bit : ℕ) → bit ≡ cond negative 1 0 → bit < 2
-bit-of true bit e = omega arith
-bit-of false bit e = omega arith

@@ -1,4 +1,4 @@
-ghost use Rattle.std.specs.Prelude.{◌≡◌, ◌≢◌, ◌≤◌, ◌<◌, ◌==◌, ◌^◌, ◌+◌, ◌++◌, ◌∷◌, [], ℕ, List, pos, true, false, OnOk, IfOk, if◌then◌else◌};
+ghost use Rattle.std.specs.Prelude.{◌≡◌, ◌≢◌, ◌≤◌, ◌<◌, ◌==◌, ◌^◌, ◌+◌, ◌-◌, ◌++◌, ◌∷◌, [], ℕ, List, pos, true, false, OnOk, OnErr, IfOk, if◌then◌else◌};
 ghost use Rattle.std.specs.Int.RustNames.{unsigned_abs};
 ghost use Rattle.gfx_bits.specs.Bits.{digits, zeros_code};
 ghost use Rattle.gfx_srl.specs.Code.{Pair, k, is_negative};
@@ -43,14 +43,14 @@ impl SrlWriter {
         }
     }
 
-    /// Writes a value whose magnitude has at most `n` bits. After an `Err` nothing is said of what
-    /// was written.
+    /// Writes a value whose magnitude has at most `n` bits. An `Err` changes nothing.
     #[inline(always)]
     pub fn push(&mut self, value: i32, n: u8) -> Result<(), NoMemory>
         requires some { 1 ≤ n }
         requires few { n ≤ 24 }
         requires small { unsigned_abs value < 2 ^ n }
-        ensures { OnOk result (Writes n value self.old self.new) }
+        ensures ok { OnOk result (Writes n value self.old self.new) }
+        ensures err { OnErr result (self.new ≡ self.old) }
     {
         let written = if value == 0 {
             self.push_zero()
@@ -73,10 +73,12 @@ impl SrlWriter {
             Err(_) => Err(NoMemory),
         }
     }
+
     // Writes a zero: it waits until zeros fill a run.
     #[inline(always)]
     fn push_zero(&mut self) -> Result<(), NoBits>
-        ensures { OnOk result ((n : ℕ) → Writes n (pos 0) self.old self.new) }
+        ensures ok { OnOk result ((n : ℕ) → Writes n (pos 0) self.old self.new) }
+        ensures err { OnErr result (self.new ≡ self.old) }
     {
         let zeros = self.zeros + 1;
         if zeros < 1 << width_of(self.kp) {
@@ -96,14 +98,14 @@ impl SrlWriter {
         requires few { n ≤ 24 }
         requires value { value ≢ pos 0 }
         requires small { unsigned_abs value < 2 ^ n }
-        ensures { OnOk result (Writes n value self.old self.new) }
+        ensures ok { OnOk result (Writes n value self.old self.new) }
+        ensures err { OnErr result (self.new ≡ self.old) }
     {
-        let zeros = self.zeros;
         let width = width_of(self.kp);
+        push_last_run(&mut self.bits, self.zeros, width, value, n)?;
         self.zeros = 0;
         self.kp = after_value(self.kp);
-        push_head(&mut self.bits, zeros, width, is_negative(value))?;
-        push_magnitude(&mut self.bits, value.unsigned_abs() - 1, (1 << n) - 2)
+        Ok(())
     }
 
     // The last run, and the bits as bytes.
@@ -146,27 +148,26 @@ fn sign_bit(negative: bool) -> u32
     if negative { 1 } else { 0 }
 }
 
-// Writes what comes before a magnitude: a one, the zeros that it ends, and its sign.
+// Writes zeros that a value ends, all of its bits or none: a one, the zeros, the sign, and the magnitude by how many
+// are below it.
 #[inline(always)]
-fn push_head(bits: &mut BitWriter, zeros: u32, width: u8, negative: bool) -> Result<(), NoBits>
+fn push_last_run(
+    bits: &mut BitWriter,
+    zeros: u32,
+    width: u8,
+    value: i32,
+    n: u8,
+) -> Result<(), NoBits>
     requires width { width ≤ 10 }
     requires zeros { zeros < 2 ^ width }
-    ensures { OnOk result (bits.new ≡ bits.old ++ (true ∷ (digits width zeros ++ negative ∷ []))) }
+    requires some { 1 ≤ n }
+    requires few { n ≤ 24 }
+    requires value { value ≢ pos 0 }
+    requires small { unsigned_abs value < 2 ^ n }
+    ensures ok { OnOk result (bits.new ≡ bits.old ++ (true ∷ (digits width zeros ++ (is_negative value ∷ zeros_code (2 ^ n - 2) (unsigned_abs value - 1))))) }
+    ensures err { OnErr result (bits.new ≡ bits.old) }
 {
-    let sign = sign_bit(negative);
-    bits.push((1 << (width + 1)) + 2 * zeros + sign, width + 2)
-}
-
-// Writes a magnitude, by how many are below it.
-#[inline(always)]
-fn push_magnitude(bits: &mut BitWriter, below: u32, most: u32) -> Result<(), NoBits>
-    requires { below ≤ most }
-    ensures { OnOk result (bits.new ≡ bits.old ++ zeros_code most below) }
-{
-    bits.push_zeros(below)?;
-    if below < most {
-        bits.push(1, 1)
-    } else {
-        Ok(())
-    }
+    let sign = sign_bit(is_negative(value));
+    let head = (1 << (width + 1)) + 2 * zeros + sign;
+    bits.push_counted(head, width + 2, value.unsigned_abs() - 1, (1 << n) - 2)
 }

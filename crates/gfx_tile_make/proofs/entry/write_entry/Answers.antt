@@ -39,7 +39,7 @@ returns-then-without-eq0 c =
     (in-band band (sym c.if-low.false ∙ e) c.args.value c.args.before c.args.behind c.args.writers.now _
     (writes-value c.args.value c.signed.result c.args.before c.args.behind c.args.writers.now _ c.requires.falls (ap (λ m. m / 2 ^ c.args.before) (sym magnitude) ∙ sym c.without.ensures ∙ c.if-without-eq0.true) is
     (rw (to_z-of_z w32 c.signed.result signed) at write) refl)))
-    c.push.ensures
+    c.push.ensures.ok
 
 pub returns : goal.returns
 returns c =

@@ -9,6 +9,7 @@ invariant_of-self c = (
   c.if-count-lt-WORD.true,
   rw (all_is c.self.inside.pending c.args.n c.args.value c.self.inside.count c.self.invariant.1 c.requires.below (omega arith))
       (all_below c.self.inside.pending c.args.n c.args.value c.self.inside.count c.self.invariant.1 c.requires.below),
+  c.self.invariant.2,
 )
 
 pub returns-then-count-lt-WORD-clause-ok : goal.returns-then-count-lt-WORD-clause-ok

@@ -3,7 +3,7 @@ use Rattle.std.proofs.lemmas.Nat.{one_shl}
 use Rattle.std.proofs.lemmas.Result.{on_ok_weaker}
 use Rattle.gfx_bits.specs.Bits.{digits}
 use Rattle.gfx_bits.proofs.Writing.{more_ones}
-use Rattle.gfx_bits.proofs.writer.BitWriter.push_ones.Goals as goal
+use Rattle.gfx_bits.proofs.writer.BitWriter.write_ones.Goals as goal
 
 pub words-preserved : goal.words-preserved
 words-preserved c = (

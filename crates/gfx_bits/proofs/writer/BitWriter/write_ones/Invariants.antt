@@ -1,5 +1,5 @@
 use Rattle.std.proofs.Common.{◌≡◌, ◌≤◌, ◌-◌, ◌++◌, true, replicate}
-use Rattle.gfx_bits.proofs.writer.BitWriter.push_ones.Given as goal
+use Rattle.gfx_bits.proofs.writer.BitWriter.write_ones.Given as goal
 
 abbrev pub invariant-words : goal.invariant-words
 invariant-words l = (l.left ≤ l.count) × (l.self ≡ l.initial.self ++ replicate (l.count - l.left) true)

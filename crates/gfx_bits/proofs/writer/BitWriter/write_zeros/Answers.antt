@@ -2,7 +2,7 @@ use Rattle.std.proofs.Common.{◌-◌, ◌∙◌, ◌++◌, ap, arith, false, re
 use Rattle.std.proofs.lemmas.Result.{on_ok_weaker}
 use Rattle.gfx_bits.specs.Bits.{digits}
 use Rattle.gfx_bits.proofs.Zeros.{more_zeros}
-use Rattle.gfx_bits.proofs.writer.BitWriter.push_zeros.Goals as goal
+use Rattle.gfx_bits.proofs.writer.BitWriter.write_zeros.Goals as goal
 
 pub words-preserved : goal.words-preserved
 words-preserved c = (
@@ -13,8 +13,8 @@ words-preserved c = (
       ∙ ap (λ n. c.args.self.now ++ replicate n false) {y = c.args.count - (c.words.left - 32)} (omega arith),
 )
 
-pub returns : goal.returns
-returns c =
+pub returns-clause-ok : goal.returns-clause-ok
+returns-clause-ok c =
     on_ok_weaker c.push-2.result
     (λ written.
     written

@@ -66,3 +66,12 @@ stored-full cache slot held taken full =
     let over : nat_le (total (insert cache.slots slot held)) (budget cache.small) ≡ false =
     ap (λ n. nat_le n (budget cache.small)) (total-with cache.slots slot held) ∙ full in
     λ i. and_then (check SlotRange (taken i)) (λ _. and_then (check CacheBudget (over i)) (λ _. Ok (cached (insert cache.slots slot held) cache.small)))
+
+-- and room for them lets it happen
+pub stored-fits : (cache : Cached) (slot : ℕ) (held : Entry) → takes_slot cache.small slot ≡ true
+    → has_room cache slot held.image.width held.image.height ≡ true → stored cache slot held ≡ Ok (cached (insert cache.slots slot held) cache.small)
+unfolding stored and_then
+stored-fits cache slot held taken room =
+    let fits : nat_le (total (insert cache.slots slot held)) (budget cache.small) ≡ true =
+    ap (λ n. nat_le n (budget cache.small)) (total-with cache.slots slot held) ∙ room in
+    λ i. and_then (check SlotRange (taken i)) (λ _. and_then (check CacheBudget (fits i)) (λ _. Ok (cached (insert cache.slots slot held) cache.small)))

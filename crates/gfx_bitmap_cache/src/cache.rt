@@ -1,7 +1,7 @@
-ghost use Rattle.std.specs.Prelude.{◌≡◌, ◌^◌, false, []};
+ghost use Rattle.std.specs.Prelude.{◌≡◌, ◌^◌, false, [], is_ok};
 ghost use Rattle.std.specs.Option.{option_map, option_copied};
 ghost use Rattle.std.specs.FinMap as map;
-ghost use Rattle.gfx_base.specs.Outcome.{Applies, Performs, Says};
+ghost use Rattle.gfx_base.specs.Outcome.{Applies, Performs, Says, WantsOnlyIf};
 ghost use Rattle.gfx_bitmap_cache.specs.Slots.{IsCached, entry, cached, image_of, is_slot, takes_slot, has_room, stored, shown, evicted, bytes_at, bytes_with};
 ghost use Rattle.gfx_bitmap_cache.specs.Order.{from_slot, first_slot};
 
@@ -71,10 +71,11 @@ impl Cache {
     }
 
     /// Puts a bitmap into a slot, in the place of what it held ([MS-RDPEGFX]
-    /// RDPGFX_SURFACE_TO_CACHE_PDU). Any fault leaves all as it was.
+    /// RDPGFX_SURFACE_TO_CACHE_PDU). Any fault leaves all as it was; one that is refused takes no memory.
     #[tactic(auto, unfolding(crate::specs::Slots::stored, gfx_base::specs::Results::and_then))]
     pub fn store(&mut self, slot: u16, key: u64, bitmap: Bitmap) -> Result<(), Fault>
-        ensures { Applies result self.old self.new (stored self.old slot (entry key (image_of bitmap))) }
+        ensures stored { Applies result self.old self.new (stored self.old slot (entry key (image_of bitmap))) }
+        ensures memory { WantsOnlyIf result (is_ok (stored self.old slot (entry key (image_of bitmap)))) }
     {
         if !self.takes_slot(slot) {
             return Err(Fault::Refused(Refusal::SlotRange));

@@ -4,3 +4,4 @@ pub mod FoundLaws
 pub mod PartLists
 pub mod Fitting
 pub mod EachLoops
+pub mod Headers

@@ -4,3 +4,4 @@ pub mod Shapes
 pub mod Reading
 pub mod Laws
 pub mod Writing
+pub mod Header

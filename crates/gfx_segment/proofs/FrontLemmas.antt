@@ -6,7 +6,7 @@ use Rattle.std.proofs.lemmas.List.{take-append-le, drop-append-le, length-take-l
 use Rattle.std.proofs.lemmas.Bool.{cases_lt, lt-ltb, le-ltb, le-leb, lt-leb, eq-eqb, ne_eqb, or_left, or_right, or_from, cond-true, cond-false}
 use Rattle.gfx_base.specs.Field.{number_at, field}
 use Rattle.gfx_base.proofs.FieldLemmas.{number_at-append}
-use Rattle.gfx_segment.specs.declared.profile.TheConstants.{MOST_MESSAGE}
+use Rattle.gfx_base.specs.declared.TheConstants.{MOST_MESSAGE}
 use Rattle.gfx_segment.specs.Framing.{Front, Whole, Short, Bad, front_of, front}
 
 -- a length that a message may have

@@ -1,9 +1,9 @@
 -- The next answer and what is held after it, case by case.
-use Rattle.std.proofs.Common.{◌≡◌, ℕ, List, Option, Some, None, Result, Ok, Err, refl, sym, ap, ◌∙◌}
+use Rattle.std.proofs.Common.{◌≡◌, ℕ, true, List, Option, Some, None, Result, Ok, Err, refl, sym, ap, ◌∙◌}
 use Rattle.gfx_base.specs.declared.refusal.Refusal.{Refusal}
 use Rattle.gfx_base.specs.declared.refusal.Refusal.TheVariants.{ChannelLength}
 use Rattle.gfx_base.specs.Results.{and_then}
-use Rattle.gfx_segment.specs.Framing.{Front, Whole, Short, Bad, front, Splitter, holding, refused, answer_of, behind, next_of, next, after_next}
+use Rattle.gfx_segment.specs.Framing.{Front, Whole, Short, Bad, front, Splitter, holding, refused, answer_of, behind, next_of, next, after_next, is_described, begins_described, may_give}
 use Rattle.gfx_segment.proofs.GivenLemmas.{Reader}
 
 -- this answer is due, and this is held after it
@@ -58,3 +58,8 @@ next_unread read held new m a r none is reads e =
 pub none_kept : (kept refusal : Option Refusal) → kept ≡ refusal → ((r : Refusal) → kept ≡ Some r → ⊥) → refusal ≡ None
 none_kept None refusal e other = sym e
 none_kept (Some r) refusal e other = absurd (other r refl)
+
+-- there may be a payload to take
+pub may_give_at : (held : Splitter) (m a : List ℕ) → held.refusal ≡ None → front held.rest ≡ Whole m a → is_described m ≡ true → may_give held ≡ true
+unfolding may_give begins_described
+may_give_at held m a none is known = rw (none, is) known

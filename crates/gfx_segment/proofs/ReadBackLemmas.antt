@@ -6,7 +6,8 @@ use Rattle.std.proofs.lemmas.Bool.{cases_lt, le-leb, le-ltb, eq-eqb, cond-true, 
 use Rattle.gfx_base.specs.Field.{field}
 use Rattle.gfx_base.proofs.FieldLemmas.{number_at-written_2, number_at-written_4}
 use Rattle.gfx_base.proofs.ResultLemmas.{and_then_at}
-use Rattle.gfx_segment.specs.declared.profile.TheConstants.{MOST_MESSAGE, MOST_PAYLOAD, MOST_BLOCK, SINGLE, MULTIPART, RDP8}
+use Rattle.gfx_base.specs.declared.TheConstants.{MOST_MESSAGE}
+use Rattle.gfx_segment.specs.declared.profile.TheConstants.{MOST_PAYLOAD, MOST_BLOCK, SINGLE, MULTIPART, RDP8}
 use Rattle.gfx_segment.specs.Framing.{Whole, Short, front, front_of, block_data, cut_of, next_block, blocks, segments, payload, sized_block, sized_blocks, message_of, prefixed, wrapped, ReadBack}
 use Rattle.gfx_segment.proofs.FrontLemmas.{IsLength, whole_at, Begins, front_at, front_beginning}
 use Rattle.gfx_segment.proofs.BlockLemmas.{onto_nil, Counts, segments_whole}

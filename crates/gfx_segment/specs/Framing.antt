@@ -1,6 +1,6 @@
 -- Channel messages, and how a payload is cut into blocks ([MS-RDPEGFX] 2.2.5, RDP_SEGMENTED_DATA and
 -- RDP8_BULK_ENCODED_DATA). The length before a message and its limit are this project's own.
-use Rattle.std.specs.Prelude.{◌≡◌, ℕ, zero, suc, ◌+◌, ◌/◌, ◌%◌, Bool, true, false, not, ◌&&◌, ◌||◌, ◌==◌, nat_lt, nat_le, if◌then◌else◌, List, [], ◌∷◌, ◌++◌, length, take, drop, Option, Some, None, is_some, Result, Ok, Err}
+use Rattle.std.specs.Prelude.{◌≡◌, ℕ, zero, suc, ◌+◌, ◌/◌, ◌%◌, Bool, true, false, not, ◌&&◌, ◌||◌, ◌==◌, nat_lt, nat_le, if◌then◌else◌, List, [], ◌∷◌, ◌++◌, length, take, drop, Option, Some, None, is_some, is_none, Result, Ok, Err}
 use Rattle.std.specs.Int.{w16, w32, to_le_bytes, div_ceil}
 use Rattle.std.specs.Option.{ok_or}
 use Rattle.gfx_base.specs.Field.{field}
@@ -9,7 +9,8 @@ use Rattle.gfx_base.specs.declared.refusal.Refusal.{Refusal}
 use Rattle.gfx_base.specs.declared.refusal.Refusal.TheVariants.{ChannelTruncated, ChannelLength, Descriptor, SegmentSize, BulkCompressed}
 use Rattle.gfx_base.specs.declared.answer.Cause.{Cause}
 use Rattle.gfx_base.specs.declared.answer.Cause.TheVariants.{Refused, Memory}
-use Rattle.gfx_segment.specs.declared.profile.TheConstants.{PREFIX, MOST_MESSAGE, SINGLE, MULTIPART, SIZE_AT, SEGMENTS_AT, TYPES, RDP8, COMPRESSED, MOST_BLOCK}
+use Rattle.gfx_base.specs.declared.TheConstants.{MOST_MESSAGE}
+use Rattle.gfx_segment.specs.declared.profile.TheConstants.{PREFIX, SINGLE, MULTIPART, SIZE_AT, SEGMENTS_AT, TYPES, RDP8, COMPRESSED, MOST_BLOCK}
 
 -- what bytes begin with: a whole message and the bytes after it, too few bytes yet, or a length that
 -- no message has
@@ -149,6 +150,21 @@ abbrev pub is_short : Front → Bool
 is_short (Whole message after) = false
 is_short Short = true
 is_short Bad = false
+
+-- a message begins with a known descriptor
+unfoldable pub is_described : List ℕ → Bool
+is_described [] = false
+is_described (descriptor ∷ rest) = (descriptor == SINGLE) || (descriptor == MULTIPART)
+
+-- these bytes begin with such a message
+unfoldable pub begins_described : Front → Bool
+begins_described (Whole message after) = is_described message
+begins_described Short = false
+begins_described Bad = false
+
+-- there may be a payload to take: no refusal is kept, and the bytes begin with such a message
+unfoldable pub may_give : Splitter → Bool
+may_give held = is_none held.refusal && begins_described (front held.rest)
 
 -- no message can be taken any more
 unfoldable pub is_drained : Splitter → Bool

@@ -1,6 +1,6 @@
 ghost use Rattle.std.specs.Prelude.{◌≡◌, ◌==◌, ◌&&◌, length, List, ◌++◌, take, drop, Ok, Err, MatchResult};
-ghost use Rattle.gfx_base.specs.Outcome.{Gives};
-ghost use Rattle.gfx_segment.specs.Framing.{block_data, next_block, blocks, segments, payload};
+ghost use Rattle.gfx_base.specs.Outcome.{Gives, WantsOnlyIf};
+ghost use Rattle.gfx_segment.specs.Framing.{block_data, next_block, blocks, segments, payload, is_described};
 ghost use Rattle.gfx_segment.specs.Pieces.{onto};
 
 use crate::profile::{
@@ -104,9 +104,10 @@ fn append_blocks<'a>(count: u16, bytes: &'a [u8], payload: &mut Bytes) -> Result
 }
 
 /// The payload of a channel message.
-#[tactic(auto, unfolding(crate::specs::Framing::payload))]
+#[tactic(auto, unfolding(crate::specs::Framing::payload, crate::specs::Framing::is_described))]
 pub(crate) fn read_payload(alloc: Global, message: &[u8]) -> Result<Bytes, Fault>
-    ensures { Gives (λ p. p) result (payload message.now) }
+    ensures value { Gives (λ p. p) result (payload message.now) }
+    ensures memory { WantsOnlyIf result (is_described message.now) }
 {
     let [descriptor, rest @ ..] = message else {
         return Err(Fault::Refused(Refusal::Descriptor));

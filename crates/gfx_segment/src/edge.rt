@@ -2,8 +2,8 @@ ghost use Rattle.std.specs.Prelude.{◌≡◌, ◌+◌, ◌≤◌, ◌<◌, ℕ,
 ghost use Rattle.gfx_segment.specs.Framing.{Front, Whole, Short, Bad, front};
 ghost use Rattle.gfx_segment.specs.Edge.{IsEdge};
 
-use crate::profile::{MOST_MESSAGE, PREFIX};
-use gfx_base::field_u32;
+use crate::profile::PREFIX;
+use gfx_base::{MOST_MESSAGE, field_u32};
 
 /// What bytes begin with.
 #[derive(Clone, Copy, Debug, PartialEq, Eq)]

@@ -1,6 +1,6 @@
 ghost use Rattle.std.specs.Prelude.{◌≡◌, ℕ, ◌<◌, ◌≤◌, List, ◌++◌, length};
 ghost use Rattle.gfx_segment.specs.Framing.{AnyCutting, Whole, Short, front, prefixed};
-ghost use Rattle.gfx_segment.specs.declared.profile.TheConstants.{MOST_MESSAGE};
+ghost use Rattle.gfx_base.specs.declared.TheConstants.{MOST_MESSAGE};
 
 /// A law, which does nothing when it is called: however bytes are cut into pieces, a splitter gives
 /// the same messages from them, and the same refusal behind those.

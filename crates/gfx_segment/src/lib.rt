@@ -14,8 +14,8 @@ mod writing;
 
 pub use laws::{a_prefixed_message_is_whole, any_cutting_gives_the_same};
 pub use profile::{
-    COMPRESSED, MOST_BLOCK, MOST_MESSAGE, MOST_PAYLOAD, MULTIPART, PREFIX, RDP8, SEGMENTS_AT,
-    SINGLE, SIZE_AT, TYPES,
+    COMPRESSED, MOST_BLOCK, MOST_PAYLOAD, MULTIPART, PREFIX, RDP8, SEGMENTS_AT, SINGLE, SIZE_AT,
+    TYPES,
 };
 pub use splitter::Splitter;
 pub use writing::{prefix, wrap};

@@ -3,9 +3,6 @@
 /// How many bytes the length before a channel message has, and likewise the size before a block.
 pub const PREFIX: usize = 4;
 
-/// No channel message is longer: this project's own rule.
-pub const MOST_MESSAGE: u32 = 67_108_864;
-
 /// No payload that is wrapped is longer: this project's own rule.
 pub const MOST_PAYLOAD: usize = 67_000_000;
 

@@ -1,5 +1,6 @@
-ghost use Rattle.std.specs.Prelude.{◌≡◌, ℕ, List, [], Result, ◌++◌, ◌+◌, ◌≤◌, length, take, drop, IsTrue, OnOk, OnErr, IfOk, Ok};
-ghost use Rattle.gfx_segment.specs.Framing.{Splitter, holding, refused, fed, payload, next, after_next, Answers, Stands, TakesIn, GivesOut, taken, is_drained, ended};
+ghost use Rattle.std.specs.Prelude.{◌≡◌, ℕ, List, [], Result, ◌++◌, ◌+◌, ◌≤◌, length, take, drop, IsTrue, OnOk, OnErr, IfOk, Ok, is_ok};
+ghost use Rattle.gfx_base.specs.Outcome.{WantsOnlyIf};
+ghost use Rattle.gfx_segment.specs.Framing.{Splitter, holding, refused, fed, payload, next, after_next, Answers, Stands, TakesIn, GivesOut, taken, is_drained, may_give, ended};
 ghost use Rattle.gfx_base.specs.declared.refusal.Refusal.{Refusal};
 
 use crate::blocks::read_payload;
@@ -66,20 +67,23 @@ impl Splitter {
 
     /// The payload of the next whole channel message ([MS-RDPEGFX] 2.2.5.1); None exactly where the
     /// bytes left hold no whole one and no refusal. Refused with ChannelLength, Descriptor,
-    /// SegmentSize or BulkCompressed, which it keeps and answers again. Without memory all stays as it was.
+    /// SegmentSize or BulkCompressed, which it keeps and answers again. Without memory all stays as it was;
+    /// memory is taken only behind a whole message's known descriptor.
     pub fn next_message(&mut self) -> Result<Option<Bytes>, Fault>
         ensures exact { Answers result self.old self.new (next payload self.old) (after_next payload self.old) }
         ensures law { GivesOut payload self.old self.new (taken result) }
+        ensures memory { WantsOnlyIf result (may_give self.old) }
     {
         self.take_message()
     }
 
     /// The next whole channel message as it stands, without its length; None exactly where the bytes
     /// left hold no whole one and no refusal. Refused with ChannelLength, or with the refusal that is
-    /// kept. Without memory all stays as it was.
+    /// kept. Without memory all stays as it was; a refusal takes none.
     pub fn next_raw(&mut self) -> Result<Option<Bytes>, Fault>
         ensures exact { Answers result self.old self.new (next Ok self.old) (after_next Ok self.old) }
         ensures law { GivesOut Ok self.old self.new (taken result) }
+        ensures memory { WantsOnlyIf result (is_ok (next Ok self.old)) }
     {
         self.take_raw()
     }
@@ -143,7 +147,8 @@ impl Splitter {
     }
 
     fn take_message(&mut self) -> Result<Option<Bytes>, Fault>
-        ensures { Answers result self.old self.new (next payload self.old) (after_next payload self.old) }
+        ensures exact { Answers result self.old self.new (next payload self.old) (after_next payload self.old) }
+        ensures memory { WantsOnlyIf result (may_give self.old) }
     {
         if let Some(refusal) = self.kept() {
             return Err(Fault::Refused(refusal));
@@ -171,7 +176,8 @@ impl Splitter {
     }
 
     fn take_raw(&mut self) -> Result<Option<Bytes>, Fault>
-        ensures { Answers result self.old self.new (next Ok self.old) (after_next Ok self.old) }
+        ensures exact { Answers result self.old self.new (next Ok self.old) (after_next Ok self.old) }
+        ensures memory { WantsOnlyIf result (is_ok (next Ok self.old)) }
     {
         if let Some(refusal) = self.kept() {
             return Err(Fault::Refused(refusal));

@@ -3,10 +3,8 @@ ghost use Rattle.std.specs.Int.{w32, to_le_bytes};
 ghost use Rattle.gfx_segment.specs.Framing.{prefixed, wrapped, sized_block, sized_blocks, ReadBack};
 ghost use Rattle.gfx_segment.specs.Pieces.{Puts};
 
-use crate::profile::{
-    MOST_BLOCK, MOST_MESSAGE, MOST_PAYLOAD, MULTIPART, PREFIX, RDP8, SEGMENTS_AT, SINGLE,
-};
-use gfx_base::{Bytes, NoMemory};
+use crate::profile::{MOST_BLOCK, MOST_PAYLOAD, MULTIPART, PREFIX, RDP8, SEGMENTS_AT, SINGLE};
+use gfx_base::{Bytes, MOST_MESSAGE, NoMemory};
 
 /// A message's descriptor is one byte.
 const DESCRIPTOR: usize = 1;

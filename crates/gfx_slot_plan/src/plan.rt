@@ -1,4 +1,5 @@
-ghost use Rattle.std.specs.Prelude.{◌≡◌, [], IfOk};
+ghost use Rattle.std.specs.Prelude.{◌≡◌, [], is_ok, IfOk};
+ghost use Rattle.gfx_base.specs.Outcome.{WantsOnlyIf};
 ghost use Rattle.gfx_slot_plan.specs.Plan.{plan, IsPlan, keeps, slot_of, touched, forgotten, Chooses};
 
 use crate::kept::{Kept, Slots};
@@ -49,10 +50,11 @@ impl SlotPlan {
     }
 
     /// Keeps a key's bitmap of these sides in a slot, and says which slots are emptied for it. Any
-    /// fault leaves all as it was.
+    /// fault leaves all as it was; one that is refused takes no memory.
     #[tactic(auto, unfolding(crate::specs::Plan::keeps, gfx_base::specs::Results::and_then))]
     pub fn keep(&mut self, alloc: Global, key: u64, width: u16, height: u16) -> Result<Kept, Fault>
         ensures chosen { Chooses result self.old self.new (keeps self.old key width height) }
+        ensures memory { WantsOnlyIf result (is_ok (keeps self.old key width height)) }
         ensures plan { IsPlan self.new }
     {
         let bytes = bytes_for(width, height);

@@ -11,12 +11,13 @@ use Rattle.gfx_base.specs.declared.geometry.Rect.{Rect}
 use Rattle.gfx_base.specs.declared.pixel.Pixel.{Pixel}
 use Rattle.gfx_base.specs.declared.refusal.Refusal.{Refusal}
 use Rattle.gfx_base.specs.declared.refusal.Refusal.TheVariants.{SurfaceExists, SurfaceSize, SurfaceBudget}
+use Rattle.gfx_base.specs.Cells.{cells_along}
 use Rattle.gfx_base.specs.Geometry.{lies_in}
 use Rattle.gfx_base.specs.Results.{◌>>=◌, check}
 use Rattle.gfx_surface.specs.declared.TheConstants.{MOST_SIDE}
 use Rattle.gfx_surface.specs.Codes.{picture_code}
 use Rattle.gfx_surface.specs.Picture.{Picture, blank, filled}
-use Rattle.gfx_surface_map.specs.declared.TheConstants.{CELL_SIDE, MOST_SURFACES, MOST_CELLS}
+use Rattle.gfx_surface_map.specs.declared.TheConstants.{MOST_SURFACES, MOST_CELLS}
 
 -- pictures by their ids
 abbrev pub Surfaces : Type 0
@@ -25,10 +26,6 @@ Surfaces = FinMap nat_cmp Picture
 -- how they are coded, as the value of a model has to be
 abbrev pub surfaces_code : Coded Surfaces
 surfaces_code = finmap.code coded_ℕ picture_code
-
--- how many cells a side meets, a part cell counted whole
-abbrev pub cells_along : ℕ → ℕ
-cells_along side = (side + (CELL_SIDE - 1)) / CELL_SIDE
 
 -- how many cells a surface of these sides has
 abbrev pub cells : ℕ → ℕ → ℕ

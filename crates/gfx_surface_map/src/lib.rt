@@ -18,9 +18,6 @@ pub use map::SurfaceMap;
 pub use place::{MOST_OUTPUT_SIDE, Output, Place};
 pub use size::{count_cells, fits_size};
 
-/// The side of a cell, in pixels ([MS-RDPRFX] cuts a surface into tiles of this side).
-pub const CELL_SIDE: u16 = 64;
-
 /// The most surfaces at one time. This project's own rule.
 pub const MOST_SURFACES: usize = 1024;
 

@@ -1,9 +1,9 @@
-ghost use Rattle.std.specs.Prelude.{◌≡◌, ℕ, ◌≤◌, ◌<◌, ◌*◌, ◌^◌, [], slice_index_or, IfSome, IsSomeAnd, IsTrue, OnOk, length};
+ghost use Rattle.std.specs.Prelude.{◌≡◌, ℕ, ◌≤◌, ◌<◌, ◌*◌, ◌^◌, [], slice_index_or, IfSome, IsSomeAnd, IsTrue, OnOk, is_ok, false, length};
 ghost use Rattle.std.specs.Option.{option_copied, option_copied_mut};
 ghost use Rattle.std.specs.Borrow.{sem};
 ghost use Rattle.std.specs.FinMap as map;
 ghost use Rattle.gfx_base.specs.Geometry.{lies_in, width_of, height_of, fit_all};
-ghost use Rattle.gfx_base.specs.Outcome.{Applies, Performs};
+ghost use Rattle.gfx_base.specs.Outcome.{Applies, Performs, WantsOnlyIf};
 ghost use Rattle.gfx_surface_map.specs.Shown.{nothing_shown, with_picture, surface_made, surface_deleted, copied_to, output_reset, output_mapped};
 ghost use Rattle.gfx_surface_map.specs.Composed.{output_row, PaintsMap};
 ghost use Rattle.gfx_surface_map.specs.declared.place.Place.{Place as AnyPlace};
@@ -103,8 +103,9 @@ impl SurfaceMap {
 
     /// Makes a surface of zero colour ([MS-RDPEGFX] RDPGFX_CREATE_SURFACE_PDU). An id that is taken,
     /// sides out of range and the limits on all surfaces are refused in this order, and any fault
-    /// leaves all as it was but for the room, which never shrinks.
-    #[tactic(auto, unfolding(crate::specs::Shown::surface_made, gfx_base::specs::Results::and_then))]
+    /// leaves all as it was but for the room, which never shrinks; one that is refused leaves the room, too, and
+    /// takes no memory.
+    #[tactic(auto, unfolding(crate::specs::Shown::surface_made, crate::specs::Surfaces::created, gfx_base::specs::Results::and_then))]
     pub fn create(
         &mut self,
         alloc: Global,
@@ -116,6 +117,8 @@ impl SurfaceMap {
         ensures made { Applies result self.old.shown self.new.shown (surface_made self.old.shown id width height format) }
         ensures room { self.old.room ≤ self.new.room }
         ensures enough { OnOk result (width * height ≤ self.new.room) }
+        ensures memory { WantsOnlyIf result (is_ok (surface_made self.old.shown id width height format)) }
+        ensures refused { is_ok (surface_made self.old.shown id width height format) ≡ false → self.new.room ≡ self.old.room }
     {
         self.table.may_create(id, width, height)?;
         self.make_room(usize::from(width) * usize::from(height))?;
@@ -166,6 +169,7 @@ impl SurfaceMap {
     #[tactic(auto, unfolding(crate::specs::Shown::output_mapped, gfx_base::specs::Results::and_then))]
     pub fn map_output(&mut self, id: u16, x: u32, y: u32) -> Result<(), Fault>
         ensures mapped { Applies result self.old.shown self.new.shown (output_mapped self.old.shown id (record { x = x; y = y })) }
+        ensures memory { WantsOnlyIf result (is_ok (output_mapped self.old.shown id (record { x = x; y = y }))) }
         ensures room { self.new.room ≡ self.old.room }
     {
         if !self.table.contains(id) {

@@ -1,8 +1,8 @@
 //! Sides of surfaces, and the cells that they take.
 ghost use Rattle.std.specs.Prelude.{◌≡◌, ◌≤◌, ◌*◌};
-ghost use Rattle.gfx_surface_map.specs.Surfaces.{cells, cells_along, is_side, is_size};
+ghost use Rattle.gfx_surface_map.specs.Surfaces.{cells, is_side, is_size};
 
-use crate::CELL_SIDE;
+use gfx_base::cells_along;
 use gfx_surface::MOST_SIDE;
 
 /// Whether a surface may have these sides: 1 to 8,192 pixels each.
@@ -24,13 +24,5 @@ pub fn count_cells(width: u16, height: u16) -> u32
     ensures cells { result ≡ cells width height }
     ensures small { result ≤ 1024 * 1024 }
 {
-    count_along(width) * count_along(height)
-}
-
-/// How many cells a side meets.
-fn count_along(side: u16) -> u32
-    ensures count { result ≡ cells_along side }
-    ensures small { result ≤ 1024 }
-{
-    u32::from(side).div_ceil(u32::from(CELL_SIDE))
+    u32::from(cells_along(width)) * u32::from(cells_along(height))
 }

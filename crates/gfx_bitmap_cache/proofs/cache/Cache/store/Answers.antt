@@ -1,4 +1,5 @@
 use Rattle.std.proofs.Common.{◌≡◌, ◌≤◌, ◌∙◌, ap, sym, refl, subst, arith, true, false, nat_le, Ok, ℕ}
+use Rattle.gfx_base.proofs.Wanting.{wants_due}
 use Rattle.std.specs.FinMap.{insert, from_entries}
 use Rattle.std.proofs.lemmas.Bool.Decides.{nat_tests}
 use Rattle.gfx_bitmap_cache.specs.Slots.{total, bytes_with, cached, entry, image_of, takes_slot, has_room, budget}
@@ -7,8 +8,8 @@ use Rattle.gfx_bitmap_cache.proofs.Totals.{total-with}
 use Rattle.gfx_bitmap_cache.proofs.Sound.{kept-insert, stored-ok, stored-full}
 use Rattle.gfx_bitmap_cache.proofs.cache.Cache.store.Goals as goal
 
-pub returns-then-bytes-budget : goal.returns-then-bytes-budget
-returns-then-bytes-budget c =
+pub returns-then-bytes-budget-clause-stored : goal.returns-then-bytes-budget-clause-stored
+returns-then-bytes-budget-clause-stored c =
     let taken : takes_slot c.args.self.now.small c.args.slot ≡ true = sym c.takes_slot.ensures ∙ c.if-not-takes_slot.false in
     let above : nat_le c.bytes_with-bytes.result c.budget.result ≡ false = grind (arith, nat_tests, c.if-bytes-budget.true) in
     let full : has_room c.args.self.now c.args.slot c.args.bitmap.width c.args.bitmap.height ≡ false =
@@ -32,8 +33,19 @@ invariant_of-self-2 c =
           new taken within c.self.invariant.kept;
     }
 
-pub returns : goal.returns
-returns c =
+pub returns-in_err-insert-clause-memory : goal.returns-in_err-insert-clause-memory
+returns-in_err-insert-clause-memory c =
+    let held = entry c.args.key (image_of c.args.bitmap) in
+    let taken : takes_slot c.args.self.now.small c.args.slot ≡ true = sym c.takes_slot.ensures ∙ c.if-not-takes_slot.false in
+    let bytes = c.bytes_with-bytes.ensures ∙ sym (total-with c.args.self.now.slots c.args.slot held) in
+    let most = c.budget.ensures ∙ ap (λ a. budget a.small) c.self.view_is in
+    let below : c.bytes_with-bytes.result ≤ c.budget.result = grind (arith, nat_tests, c.if-bytes-budget.false) in
+    let within : total (insert c.args.self.now.slots c.args.slot held) ≤ budget c.args.self.now.small =
+    subst (λ (z : ℕ × ℕ). z.0 ≤ z.1) (λ i. (bytes i, most i)) below in
+    wants_due c.from_residual.result _ _ (stored-ok c.args.self.now c.args.slot held taken within)
+
+pub returns-clause-stored : goal.returns-clause-stored
+returns-clause-stored c =
     let held = entry c.args.key (image_of c.args.bitmap) in
     let new = inserted_map c.self.inside.slots.entries c.insert.new.self.entries c.args.slot c.new-held.result c.in_ok-insert.ensures.updates.0 in
     let taken : takes_slot c.args.self.now.small c.args.slot ≡ true = sym c.takes_slot.ensures ∙ c.if-not-takes_slot.false in

@@ -16,7 +16,9 @@ use Rattle.gfx_pdu.specs.declared.pdu.Monitor.{Monitor}
 use Rattle.gfx_pdu.specs.declared.pdu.Pdu.{Pdu}
 use Rattle.gfx_pdu.specs.declared.pdu.Pdu.TheVariants as pdus
 use Rattle.gfx_pdu.specs.Layouts.{monitor, wire_to_surface_1, wire_to_surface_2, delete_encoding_context, solid_fill, surface_to_surface, surface_to_cache, cache_to_surface, evict_cache_entry, create_surface, delete_surface, start_frame, end_frame, reset_graphics, map_surface_to_output, caps_confirm, layout_of}
-use Rattle.gfx_pdu.specs.Reading.{refused, body_of}
+use Rattle.gfx_layout.specs.Header.{refused}
+use Rattle.gfx_layout.proofs.Headers.{refused-ok}
+use Rattle.gfx_pdu.specs.Reading.{body_of}
 use Rattle.gfx_pdu.specs.Spelling.{id_of, parts_of, padding_of, body, size, IsMonitor, NumbersFit, CountsFit, Fits}
 
 -- ---- numbers that fit
@@ -125,10 +127,6 @@ found_body ids.ResetGraphics p fit =
 found_body ids.MapSurfaceToOutput p fit =
     plain ids.MapSurfaceToOutput (made map_surface_to_output p) _ refl refl (fit.0.0, fit.1.0.0, fit.1.1.0.0, fit.1.1.1.0.0) tt refl
 found_body ids.CapsConfirm p fit = plain ids.CapsConfirm (made caps_confirm p) _ refl refl fit.0.0 tt refl
-
-refused-ok : (read : Result Pdu Stop) (pdu : Pdu) → refused read ≡ Ok pdu → read ≡ Ok pdu
-refused-ok (Ok p) pdu e = let same : p ≡ pdu = cc in ap (λ q. Ok q) same
-refused-ok (Err stop) pdu e = absurd cc
 
 pub body_of-read : (id : Id) (bytes : List ℕ) (pdu : Pdu) → IsBytes bytes → body_of id bytes ≡ Ok pdu → IsBody id bytes pdu
 unfolding body_of

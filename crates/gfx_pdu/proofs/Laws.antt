@@ -18,13 +18,15 @@ use Rattle.gfx_layout.proofs.FoundLaws.{length-spelled}
 use Rattle.gfx_pdu.specs.declared.id.Id.{Id}
 use Rattle.gfx_pdu.specs.declared.pdu.Pdu.{Pdu}
 use Rattle.gfx_pdu.specs.Id.{number_of}
-use Rattle.gfx_pdu.specs.Reading.{body_of, size_of, kind_of, front, message_at, placed, next_pdu}
+use Rattle.gfx_layout.specs.Header.{size_of, header, no_flags}
+use Rattle.gfx_layout.proofs.Headers.{length-header, whole-header, IsSize, size_of-ok, size_of-cut, header-read}
+use Rattle.gfx_pdu.specs.Reading.{body_of, kind_of, front, message_at, placed, next_pdu}
 use Rattle.gfx_pdu.specs.Layouts.{layout_of}
-use Rattle.gfx_pdu.specs.Spelling.{id_of, parts_of, padding_of, body, no_padding, size, header, no_flags, spelling, written_body, Spells, Begins, Fits}
+use Rattle.gfx_pdu.specs.Spelling.{id_of, parts_of, padding_of, body, no_padding, size, spelling, written_body, Spells, Begins, Fits}
 use Rattle.gfx_pdu.specs.Laws.{ReadIsSpelled, SpelledIsRead, WrittenIsSpelled, CutIsTruncated}
 use Rattle.gfx_pdu.proofs.Sizes.{size-padded, size-least}
 use Rattle.gfx_pdu.proofs.Bodies.{body_of-again, IsBody, body_of-read}
-use Rattle.gfx_pdu.proofs.Framing.{front-header, length-header, whole-header, IsSize, size_of-ok, kind_of-ok, size_of-cut}
+use Rattle.gfx_pdu.proofs.Framing.{front-header, kind_of-ok}
 
 -- a message is its header and its body
 pub size-body : (pdu : Pdu) (padding : List ℕ) → length padding ≡ padding_of pdu → size pdu ≡ 8 + length (body pdu padding)
@@ -33,8 +35,8 @@ size-body pdu padding e = size-padded pdu padding e ∙ ap (λ n. 8 + n) (sym (l
 -- a spelling is as long as it says
 pub length-spells : (text : List ℕ) (pdu : Pdu) → Spells text pdu → length text ≡ size pdu
 length-spells text pdu s =
-    ap length s.bytes_are ∙ length-append (header (id_of pdu) s.flags (size pdu)) (body pdu s.padding)
-    ∙ ap (λ n. n + length (body pdu s.padding)) (length-header (id_of pdu) s.flags (size pdu) s.two) ∙ sym (size-body pdu s.padding s.as_long)
+    ap length s.bytes_are ∙ length-append (header (number_of (id_of pdu)) s.flags (size pdu)) (body pdu s.padding)
+    ∙ ap (λ n. n + length (body pdu s.padding)) (length-header (number_of (id_of pdu)) s.flags (size pdu) s.two) ∙ sym (size-body pdu s.padding s.as_long)
 
 -- ---- what is written is a spelling
 
@@ -67,14 +69,7 @@ message_at-spelling pdu more fits = message_at-spells (spelling pdu) more pdu fi
 
 -- ---- what is read is spelled
 
--- a header and what stands behind it
-header-read : (bytes : List ℕ) (id : Id) (whole : ℕ) → IsBytes bytes → 8 ≤ length bytes → number_of id ≡ number_at w16 bytes 0 → number_at w32 bytes 4 ≡ whole → bytes ≡ header id (digits u16 (number_in u16 (drop 2 bytes))) whole ++ drop 8 bytes
-unfolding header
-header-read bytes id whole all long named sized =
-    let there : number_in u32 (drop 2 (drop 2 bytes)) ≡ whole = ap (number_in u32) (drop-drop 2 2 bytes) ∙ sized in
-    row_digits-row_in (u16 ∷ u16 ∷ u32 ∷ []) bytes all long ∙ rw (there, sym named) refl
-
-header-same : (id id' : Id) (flags : List ℕ) (whole whole' : ℕ) → id ≡ id' → whole ≡ whole' → header id flags whole ≡ header id' flags whole'
+header-same : (id id' : Id) (flags : List ℕ) (whole whole' : ℕ) → id ≡ id' → whole ≡ whole' → header (number_of id) flags whole ≡ header (number_of id') flags whole'
 header-same id id' flags whole whole' p q = rw (p, q) refl
 
 -- a message by what its header says and the body behind it
@@ -86,20 +81,20 @@ begins bytes id pdu whole all sized named reads =
     let flags = digits u16 (number_in u16 (drop 2 bytes)) in
     let long : length behind ≡ whole - 8 = omega (arith, length-take (whole - 8) (drop 8 bytes), length-drop 8 bytes, sized.within) in
     let exact : size pdu ≡ whole = size-body pdu read.padding read.as_long ∙ ap (λ t. 8 + length t) (sym read.spelled_so) ∙ omega (arith, long, sized.least) in
-    let head = header id flags whole in
+    let head = header (number_of id) flags whole in
     record {
       text = head ++ behind;
       more = more;
-      cut = header-read bytes id whole all (omega (arith, sized.least, sized.within)) named sized.is
+      cut = header-read bytes (number_of id) whole all (omega (arith, sized.least, sized.within)) named sized.is
           ∙ ap (λ t. head ++ t) (sym (take-append-drop (whole - 8) (drop 8 bytes))) ∙ sym (append_assoc head behind more);
-      long = length-append head behind ∙ ap (λ n. n + length behind) (length-header id flags whole refl) ∙ omega (arith, long, sized.least);
+      long = length-append head behind ∙ ap (λ n. n + length behind) (length-header (number_of id) flags whole refl) ∙ omega (arith, long, sized.least);
       fits = record { numbers = read.numbers; spellable = record { counts = read.counts; short = rw (exact, sym sized.is) (number_in-fits u32 (drop 4 bytes) (IsBytes-drop 4 bytes all)) } };
       spells = record {
         flags = flags;
         two = refl;
         padding = read.padding;
         as_long = read.as_long;
-        bytes_are = ap (λ t. t ++ behind) (header-same id (id_of pdu) flags whole (size pdu) (sym read.same) (sym exact)) ∙ ap (λ t. header (id_of pdu) flags (size pdu) ++ t) read.spelled_so;
+        bytes_are = ap (λ t. t ++ behind) (header-same id (id_of pdu) flags whole (size pdu) (sym read.same) (sym exact)) ∙ ap (λ t. header (number_of (id_of pdu)) flags (size pdu) ++ t) read.spelled_so;
       };
     }
 
@@ -137,7 +132,7 @@ unfolding message_at front and_then
 message_at-cut text begin rest pdu fits s cut some left =
     let long = length-spells text pdu s in
     let short : length begin < size pdu = omega (arith, ap length cut, length-append begin rest) in
-    let whole : 8 ≤ length begin → number_at w32 begin 4 ≡ size pdu = λ enough. sym (number_at-append w32 begin rest 4 (omega arith)) ∙ ap (λ t. number_at w32 t 4) (sym cut ∙ s.bytes_are) ∙ whole-header (id_of pdu) s.flags (size pdu) (body pdu s.padding) s.two fits.short in
+    let whole : 8 ≤ length begin → number_at w32 begin 4 ≡ size pdu = λ enough. sym (number_at-append w32 begin rest 4 (omega arith)) ∙ ap (λ t. number_at w32 t 4) (sym cut ∙ s.bytes_are) ∙ whole-header (number_of (id_of pdu)) s.flags (size pdu) (body pdu s.padding) s.two fits.short in
     let test : eqb (length begin) 0 ≡ false = ne_eqb (length begin) 0 (λ z. absurd (omega arith)) in
     rw (test, size_of-cut begin (size pdu) short (size-least pdu) whole) refl
 

@@ -2,7 +2,7 @@
 use Rattle.std.specs.Prelude.{◌≡◌, ℕ, ◌+◌, ◌-◌, ◌*◌, ◌≤◌, ◌<◌, ◌^◌, List, [], ◌∷◌, ◌++◌, length, replicate}
 use Rattle.std.specs.List.{AllByRecursion}
 use Rattle.gfx_base.specs.Geometry.{IsPoint, IsRect}
-use Rattle.gfx_layout.specs.Shape.{digits, u16, u32}
+use Rattle.gfx_layout.specs.Header.{header, no_flags}
 use Rattle.gfx_layout.specs.Layout.{Parts, spelled, measured}
 use Rattle.gfx_pdu.specs.declared.id.Id.{Id}
 use Rattle.gfx_pdu.specs.declared.id.Id.TheVariants as ids
@@ -69,17 +69,9 @@ written_body pdu = body pdu (no_padding pdu)
 unfoldable pub size : Pdu → ℕ
 size pdu = 8 + measured (layout_of (id_of pdu)) (parts_of pdu (no_padding pdu))
 
--- a header ([MS-RDPEGFX] 2.2.1.5): id, flags, length of the whole message
-unfoldable pub header : Id → List ℕ → ℕ → List ℕ
-header id flags whole = digits u16 (number_of id) ++ (flags ++ digits u32 whole)
-
--- the flags that are written
-abbrev pub no_flags : List ℕ
-no_flags = 0 ∷ 0 ∷ []
-
 -- the one spelling that is written: flags and padding are zero
 unfoldable pub spelling : Pdu → List ℕ
-spelling pdu = header (id_of pdu) no_flags (size pdu) ++ written_body pdu
+spelling pdu = header (number_of (id_of pdu)) no_flags (size pdu) ++ written_body pdu
 
 -- these bytes are this message; its flags and its padding may be anything
 pub record Spells (bytes : List ℕ) (pdu : Pdu) : Type 0 where
@@ -87,7 +79,7 @@ pub record Spells (bytes : List ℕ) (pdu : Pdu) : Type 0 where
   pub two : length flags ≡ 2
   pub padding : List ℕ
   pub as_long : length padding ≡ padding_of pdu
-  pub bytes_are : bytes ≡ header (id_of pdu) flags (size pdu) ++ body pdu padding
+  pub bytes_are : bytes ≡ header (number_of (id_of pdu)) flags (size pdu) ++ body pdu padding
 
 -- each count fits its field, and there are at most 16 monitors
 abbrev pub CountsFit : Pdu → Type 0

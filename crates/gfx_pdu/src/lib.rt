@@ -17,7 +17,6 @@ mod reading;
 mod writing;
 
 pub use codec::{CLEAR_CODEC, PROGRESSIVE, UNCOMPRESSED};
-pub use header::read_size;
 pub use id::Id;
 pub use pdu::{MOST_MONITORS, Monitor, Monitors, Pdu};
 pub use promises::{

@@ -1,8 +1,10 @@
 //! Reading a message.
 
 ghost use Rattle.std.specs.Prelude.{◌≡◌, ◌+◌, ◌-◌, ◌<◌, ◌≤◌, length, drop, IfOk, IfSome};
-ghost use Rattle.gfx_base.specs.Outcome.{Gives};
+ghost use Rattle.gfx_base.specs.Outcome.{Gives, WantsOnlyIf};
+ghost use Rattle.gfx_layout.specs.Header.{is_headed};
 ghost use Rattle.gfx_layout.specs.Reading.{read_whole};
+ghost use Rattle.gfx_pdu.specs.Id.{id_of_number};
 ghost use Rattle.gfx_pdu.specs.Layouts.{layout_of};
 ghost use Rattle.gfx_pdu.specs.Reading.{body_of, front, next_pdu};
 ghost use Rattle.gfx_pdu.specs.Spelling.{Begins};
@@ -11,7 +13,7 @@ use crate::drawing::{
     read_cache_to_surface, read_delete_encoding_context, read_evict_cache_entry, read_solid_fill,
     read_surface_to_cache, read_surface_to_surface, read_wire_to_surface_1, read_wire_to_surface_2,
 };
-use crate::header::{HEADER, read_kind, read_size};
+use crate::header::read_kind;
 use crate::id::Id;
 use crate::output::{
     read_caps_confirm, read_create_surface, read_delete_surface, read_end_frame,
@@ -19,7 +21,7 @@ use crate::output::{
 };
 use crate::pdu::Pdu;
 use gfx_base::{Cause, Fault, Refusal};
-use gfx_layout::Stop;
+use gfx_layout::{HEADER, Stop, read_size};
 use std::alloc::Global;
 
 /// Reads the body of a message with this id by its layout.
@@ -63,6 +65,7 @@ fn read_body(alloc: Global, id: Id, body: &[u8]) -> Result<Pdu, Fault>
 fn read_front(alloc: Global, bytes: &[u8]) -> Result<(Pdu, usize), Fault>
     ensures value { Gives (λ m. m) result (front bytes.now) }
     ensures within { IfOk result (λ m. (8 ≤ m.1) × (m.1 ≤ length bytes.now)) }
+    ensures memory { WantsOnlyIf result (is_headed id_of_number bytes.now) }
 {
     let size = read_size(bytes)?;
     let id = read_kind(bytes)?;
@@ -77,6 +80,7 @@ fn read_front(alloc: Global, bytes: &[u8]) -> Result<(Pdu, usize), Fault>
 fn read_next(alloc: Global, payload: &[u8], at: usize) -> Result<Option<(Pdu, usize)>, Fault>
     ensures value { Gives (λ found. found) result (next_pdu payload.now at) }
     ensures within { IfOk result (λ found. IfSome found (λ m. (at < m.1) × (m.1 ≤ length payload.now))) }
+    ensures memory { WantsOnlyIf result (is_headed id_of_number (drop at payload.now)) }
 {
     if at >= payload.len() {
         return Ok(None);
@@ -90,10 +94,11 @@ fn read_next(alloc: Global, payload: &[u8], at: usize) -> Result<Option<(Pdu, us
 /// the payload ends at or before that place.
 ///
 /// Refusals are PduTruncated, PduLength, PduUnknown, CountMismatch and MonitorCount, by the first of
-/// the checks of `specs/Reading` that fails.
+/// the checks of `specs/Reading` that fails. Memory is wanted only behind a header that is accepted.
 pub fn read_pdu(alloc: Global, payload: &[u8], at: usize) -> Result<Option<(Pdu, usize)>, Fault>
     ensures value { Gives (λ found. found) result (next_pdu payload.now at) }
     ensures within { IfOk result (λ found. IfSome found (λ m. (at < m.1) × (m.1 ≤ length payload.now))) }
+    ensures memory { WantsOnlyIf result (is_headed id_of_number (drop at payload.now)) }
     // What is read is spelled so, byte for byte but for flags and padding.
     ensures spelled { IfOk result (λ found. IfSome found (λ m. Begins (drop at payload.now) m.0 (m.1 - at))) }
 {

@@ -7,7 +7,8 @@ use Rattle.gfx_base.specs.Field.{IsBytes}
 use Rattle.gfx_layout.specs.declared.stop.Stop.{Stop}
 use Rattle.gfx_layout.specs.Layout.{Parts, made, Fit, spelled}
 use Rattle.gfx_layout.proofs.FoundLaws.{read_whole-spelled, read_whole-found}
-use Rattle.gfx_pdu.specs.Reading.{refused}
+use Rattle.gfx_layout.specs.Header.{refused}
+use Rattle.gfx_layout.proofs.Headers.{refused-ok}
 use Rattle.gfx_caps.specs.declared.client_id.ClientId.{ClientId}
 use Rattle.gfx_caps.specs.declared.client_id.ClientId.TheVariants as ids
 use Rattle.gfx_caps.specs.declared.message.ClientPdu.{ClientPdu}
@@ -85,10 +86,6 @@ found_body ids.CapsAdvertise p fit =
       count = subst (λ n. n < 2 ^ 16) (sym there) few;
       spelled_so = λ i. spelled caps_advertise (sym there i, (sym (made-parts parts) i, tt));
     }
-
-refused-ok : (read : Result ClientPdu Stop) (pdu : ClientPdu) → refused read ≡ Ok pdu → read ≡ Ok pdu
-refused-ok (Ok p) pdu e = let same : p ≡ pdu = cc in ap (λ q. Ok q) same
-refused-ok (Err stop) pdu e = absurd cc
 
 pub body_of-read : (id : ClientId) (bytes : List ℕ) (pdu : ClientPdu) → IsBytes bytes → body_of id bytes ≡ Ok pdu → IsBody id bytes pdu
 unfolding body_of

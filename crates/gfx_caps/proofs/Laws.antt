@@ -17,16 +17,15 @@ use Rattle.gfx_base.proofs.ResultLemmas.{and_then_ok, check_ok}
 use Rattle.gfx_layout.specs.Shape.{digits, number_in, u16, u32}
 use Rattle.gfx_layout.proofs.ShapeLaws.{row_digits-row_in, number_in-fits, number_in-digits}
 use Rattle.gfx_layout.proofs.FoundLaws.{length-spelled}
-use Rattle.gfx_pdu.specs.Reading.{size_of}
-use Rattle.gfx_pdu.specs.Spelling.{no_flags}
-use Rattle.gfx_pdu.proofs.Framing.{IsSize, size_of-ok}
+use Rattle.gfx_layout.specs.Header.{size_of, header, no_flags}
+use Rattle.gfx_layout.proofs.Headers.{head, size_of-head, kind_by-head, kind_by-ok, two_flags, find_passes, IsSize, size_of-ok, header-read}
 use Rattle.gfx_caps.specs.declared.client_id.ClientId.{ClientId}
 use Rattle.gfx_caps.specs.declared.client_id.ClientId.TheVariants as ids
 use Rattle.gfx_caps.specs.declared.message.ClientPdu.{ClientPdu}
 use Rattle.gfx_caps.specs.ClientId.{number_of, all_ids, id_of_number}
 use Rattle.gfx_caps.specs.Layouts.{layout_of}
 use Rattle.gfx_caps.specs.Reading.{body_of, kind_of, front, client_of}
-use Rattle.gfx_caps.specs.Spelling.{id_of, parts_of, body, size, header, spelling, Spells, Fits}
+use Rattle.gfx_caps.specs.Spelling.{id_of, parts_of, body, size, spelling, Spells, Fits}
 use Rattle.gfx_caps.specs.Laws.{ReadIsSpelled, SpelledIsRead, WrittenIsSpelled}
 use Rattle.gfx_caps.proofs.BodyLaws.{body_of-again, IsBody, body_of-read}
 
@@ -54,37 +53,14 @@ spelling-spells pdu = record { flags = no_flags; two = refl; bytes_are = refl }
 
 -- ---- what is spelled is read
 
--- a framed body, its flags two bytes
-abbrev head : ClientId → ℕ → ℕ → ℕ → List ℕ → List ℕ
-head id a b whole rest = digits u16 (number_of id) ++ (a ∷ b ∷ (digits u32 whole ++ rest))
-
-size_of-head : (id : ClientId) (a b whole : ℕ) (rest : List ℕ) → whole ≡ 8 + length rest → whole < 2 ^ 32 → size_of (head id a b whole rest) ≡ Ok whole
-unfolding size_of
-size_of-head id a b whole rest e fits =
-    let long : ltb (length (head id a b whole rest)) 8 ≡ false = le-ltb _ _ (omega arith) in
-    let not_below : ltb whole 8 ≡ false = le-ltb _ _ (omega arith) in
-    let not_beyond : ltb (length (head id a b whole rest)) whole ≡ false = le-ltb _ _ (omega arith) in
-    rw (long, number_in-digits u32 whole rest fits, not_below, not_beyond) refl
-
-kind_of-head : (id : ClientId) (a b whole : ℕ) (rest : List ℕ) → kind_of (head id a b whole rest) ≡ Ok id
-unfolding kind_of
-kind_of-head id a b whole rest = rw (number_in-digits u16 (number_of id) [] (number_of-fits id), id_of_number-again id) refl
-
-client_of-head : (id : ClientId) (a b whole : ℕ) (rest : List ℕ) (pdu : ClientPdu) → whole ≡ 8 + length rest → whole < 2 ^ 32 → body_of id rest ≡ Ok pdu → client_of (head id a b whole rest) ≡ Ok pdu
+client_of-head : (id : ClientId) (a b whole : ℕ) (rest : List ℕ) (pdu : ClientPdu) → whole ≡ 8 + length rest → whole < 2 ^ 32 → body_of id rest ≡ Ok pdu → client_of (head (number_of id) a b whole rest) ≡ Ok pdu
 unfolding client_of front and_then
 client_of-head id a b whole rest pdu e fits reads =
     let here : take (whole - 8) rest ≡ rest = take_all (whole - 8) rest (omega arith) in
-    let alone : eqb whole (length (head id a b whole rest)) ≡ true = eq-eqb _ _ (omega arith) in
-    rw (size_of-head id a b whole rest e fits, kind_of-head id a b whole rest, here, reads, alone) refl
+    let alone : eqb whole (length (head (number_of id) a b whole rest)) ≡ true = eq-eqb _ _ (omega arith) in
+    rw (size_of-head (number_of id) a b whole rest (omega arith) (omega arith) fits, kind_by-head id_of_number id (number_of id) a b whole rest (number_of-fits id) (id_of_number-again id), here, reads, alone) refl
 
--- flags are two bytes
-two_flags : (flags : List ℕ) → length flags ≡ 2 → (a : ℕ) × (b : ℕ) × (flags ≡ a ∷ b ∷ [])
-two_flags [] two = absurd (omega arith)
-two_flags (a ∷ []) two = absurd (omega arith)
-two_flags (a ∷ b ∷ []) two = (a, b, refl)
-two_flags (a ∷ b ∷ c ∷ others) two = absurd (omega arith)
-
-client_of-header : (id : ClientId) (flags : List ℕ) (whole : ℕ) (rest : List ℕ) (pdu : ClientPdu) → length flags ≡ 2 → whole ≡ 8 + length rest → whole < 2 ^ 32 → body_of id rest ≡ Ok pdu → client_of (header id flags whole ++ rest) ≡ Ok pdu
+client_of-header : (id : ClientId) (flags : List ℕ) (whole : ℕ) (rest : List ℕ) (pdu : ClientPdu) → length flags ≡ 2 → whole ≡ 8 + length rest → whole < 2 ^ 32 → body_of id rest ≡ Ok pdu → client_of (header (number_of id) flags whole ++ rest) ≡ Ok pdu
 unfolding header
 client_of-header id flags whole rest pdu two e fits reads =
     let f = two_flags flags two in rw f.2 (client_of-head id f.0 f.1 whole rest pdu e fits reads)
@@ -95,35 +71,15 @@ client_of-spells bytes pdu fits s =
 
 -- ---- what is read is spelled so
 
--- what is found passes the test
-find_passes : {X : Type 0} (test : X → Bool) (xs : List X) (x : X) → find test xs ≡ Some x → test x ≡ true
-find_passes test [] x e = absurd cc
-find_passes test (y ∷ ys) x e =
-    elim (cases_Bool (test y)) [
-      | inl passes ↦ let found : cond (test y) (Some y) (find test ys) ≡ Some x = e in let first = rw passes at found in let same : y ≡ x = cc in ap test (sym same) ∙ passes
-      | inr fails ↦ let found : cond (test y) (Some y) (find test ys) ≡ Some x = e in find_passes test ys x (rw fails at found)
-    ]
-
 -- the id that is found has the number
 number_of-found : (number : ℕ) (id : ClientId) → id_of_number number ≡ Some id → number_of id ≡ number
 unfolding id_of_number
 number_of-found number id e = eqb-true _ _ (find_passes (λ i. eqb (number_of i) number) all_ids id e)
 
-found_or : (number : ℕ) (found : Option ClientId) (id : ClientId) → id_of_number number ≡ found → ok_or found PduUnknown ≡ Ok id → number_of id ≡ number
-found_or number None id is e = absurd cc
-found_or number (Some other) id is e = let same : other ≡ id = cc in number_of-found number id (is ∙ ap (λ o. Some o) same)
-
 kind_of-ok : (bytes : List ℕ) (id : ClientId) → kind_of bytes ≡ Ok id → number_of id ≡ number_at w16 bytes 0
-unfolding kind_of
-kind_of-ok bytes id e = found_or (number_at w16 bytes 0) (id_of_number (number_at w16 bytes 0)) id refl e
+kind_of-ok bytes id e = number_of-found (number_at w16 bytes 0) id (kind_by-ok id_of_number bytes id e)
 
-header-read : (bytes : List ℕ) (id : ClientId) (whole : ℕ) → IsBytes bytes → 8 ≤ length bytes → number_of id ≡ number_at w16 bytes 0 → number_at w32 bytes 4 ≡ whole → bytes ≡ header id (digits u16 (number_in u16 (drop 2 bytes))) whole ++ drop 8 bytes
-unfolding header
-header-read bytes id whole all long named sized =
-    let there : number_in u32 (drop 2 (drop 2 bytes)) ≡ whole = ap (number_in u32) (drop-drop 2 2 bytes) ∙ sized in
-    row_digits-row_in (u16 ∷ u16 ∷ u32 ∷ []) bytes all long ∙ rw (there, sym named) refl
-
-header-same : (id id' : ClientId) (flags : List ℕ) (whole whole' : ℕ) → id ≡ id' → whole ≡ whole' → header id flags whole ≡ header id' flags whole'
+header-same : (id id' : ClientId) (flags : List ℕ) (whole whole' : ℕ) → id ≡ id' → whole ≡ whole' → header (number_of id) flags whole ≡ header (number_of id') flags whole'
 header-same id id' flags whole whole' p q = rw (p, q) refl
 
 -- bytes that end with their message, by what the header says and the body behind it
@@ -138,9 +94,9 @@ is_message bytes id pdu whole all sized alone named reads =
       record {
         flags = flags;
         two = refl;
-        bytes_are = header-read bytes id whole all (omega (arith, sized.least, sized.within)) named sized.is
+        bytes_are = header-read bytes (number_of id) whole all (omega (arith, sized.least, sized.within)) named sized.is
             ∙ ap (λ t. t ++ behind) (header-same id (id_of pdu) flags whole (size pdu) (sym found.same) (sym exact))
-            ∙ ap (λ t. header (id_of pdu) flags (size pdu) ++ t) found.spelled_so;
+            ∙ ap (λ t. header (number_of (id_of pdu)) flags (size pdu) ++ t) found.spelled_so;
       },
       record {
         numbers = found.numbers;

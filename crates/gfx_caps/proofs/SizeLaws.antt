@@ -11,7 +11,8 @@ use Rattle.gfx_caps.specs.declared.offer.TheConstants.{MOST_OFFERS}
 use Rattle.gfx_caps.specs.declared.sets.CapsSet.{CapsSet}
 use Rattle.gfx_caps.specs.Layouts.{caps_set, layout_of}
 use Rattle.gfx_caps.specs.Offers.{set_offered, advertised}
-use Rattle.gfx_caps.specs.Spelling.{id_of, parts_of, set_parts, size, header, spelling, IsSpellable, Fits}
+use Rattle.gfx_layout.specs.Header.{header}
+use Rattle.gfx_caps.specs.Spelling.{id_of, parts_of, set_parts, size, spelling, IsSpellable, Fits}
 
 -- a message is as long as it says
 pub length-spelling : (pdu : ClientPdu) → length (spelling pdu) ≡ size pdu

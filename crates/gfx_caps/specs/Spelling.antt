@@ -1,9 +1,8 @@
 -- The bytes of a client's message: its header ([MS-RDPEGFX] 2.2.1.5) and its body.
 use Rattle.std.specs.Prelude.{◌≡◌, ℕ, ◌+◌, ◌<◌, ◌^◌, List, ◌++◌, length, map}
 use Rattle.std.specs.List.{AllByRecursion}
-use Rattle.gfx_layout.specs.Shape.{digits, u16, u32}
+use Rattle.gfx_layout.specs.Header.{header, no_flags}
 use Rattle.gfx_layout.specs.Layout.{Parts, spelled, measured}
-use Rattle.gfx_pdu.specs.Spelling.{no_flags}
 use Rattle.gfx_caps.specs.declared.client_id.ClientId.{ClientId}
 use Rattle.gfx_caps.specs.declared.client_id.ClientId.TheVariants.{FrameAcknowledge, CapsAdvertise}
 use Rattle.gfx_caps.specs.declared.message.ClientPdu.{ClientPdu}
@@ -40,19 +39,15 @@ body pdu = spelled (layout_of (id_of pdu)) (parts_of pdu)
 unfoldable pub size : ClientPdu → ℕ
 size pdu = 8 + measured (layout_of (id_of pdu)) (parts_of pdu)
 
--- a header ([MS-RDPEGFX] 2.2.1.5): id, flags, length of the whole message
-unfoldable pub header : ClientId → List ℕ → ℕ → List ℕ
-header id flags whole = digits u16 (number_of id) ++ (flags ++ digits u32 whole)
-
 -- the one spelling that is written: flags are zero
 unfoldable pub spelling : ClientPdu → List ℕ
-spelling pdu = header (id_of pdu) no_flags (size pdu) ++ body pdu
+spelling pdu = header (number_of (id_of pdu)) no_flags (size pdu) ++ body pdu
 
 -- these bytes are this message; its flags may be anything
 pub record Spells (bytes : List ℕ) (pdu : ClientPdu) : Type 0 where
   pub flags : List ℕ
   pub two : length flags ≡ 2
-  pub bytes_are : bytes ≡ header (id_of pdu) flags (size pdu) ++ body pdu
+  pub bytes_are : bytes ≡ header (number_of (id_of pdu)) flags (size pdu) ++ body pdu
 
 -- the count of sets fits its field
 abbrev pub CountFits : ClientPdu → Type 0

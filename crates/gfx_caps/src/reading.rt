@@ -1,19 +1,20 @@
 //! Reading a client's message.
 
 ghost use Rattle.std.specs.Prelude.{◌≡◌, ◌≤◌, length, IfOk};
-ghost use Rattle.gfx_base.specs.Outcome.{Gives};
+ghost use Rattle.gfx_base.specs.Outcome.{Gives, WantsOnlyIf};
+ghost use Rattle.gfx_layout.specs.Header.{is_headed};
 ghost use Rattle.gfx_layout.specs.Reading.{read, read_whole, take_each};
+ghost use Rattle.gfx_caps.specs.ClientId.{id_of_number};
 ghost use Rattle.gfx_caps.specs.Layouts.{frame_acknowledge, caps_advertise, caps_set, layout_of};
 ghost use Rattle.gfx_caps.specs.Reading.{body_of, front, client_of};
 ghost use Rattle.gfx_caps.specs.Spelling.{Spells, Fits};
 
 use crate::client_id::ClientId;
-use crate::header::{HEADER, read_kind};
+use crate::header::read_kind;
 use crate::message::ClientPdu;
 use crate::sets::{CapsSet, CapsSets};
 use gfx_base::{Cause, Fault, Refusal};
-use gfx_layout::{Fields, Stop, kept};
-use gfx_pdu::read_size;
+use gfx_layout::{Fields, HEADER, Stop, kept, read_size};
 use std::alloc::Global;
 
 /// Reads the body of RDPGFX_FRAME_ACKNOWLEDGE_PDU ([MS-RDPEGFX] 2.2.2.13).
@@ -94,7 +95,8 @@ fn read_body(alloc: Global, id: ClientId, body: &[u8]) -> Result<ClientPdu, Faul
 /// Reads the message at the front, and says how many bytes it has.
 #[tactic(auto, unfolding(crate::specs::Reading::front, gfx_base::specs::Results::and_then))]
 fn read_front(alloc: Global, bytes: &[u8]) -> Result<(ClientPdu, usize), Fault>
-    ensures { Gives (λ m. m) result (front bytes.now) }
+    ensures value { Gives (λ m. m) result (front bytes.now) }
+    ensures memory { WantsOnlyIf result (is_headed id_of_number bytes.now) }
 {
     let size = read_size(bytes)?;
     let id = read_kind(bytes)?;
@@ -107,7 +109,8 @@ fn read_front(alloc: Global, bytes: &[u8]) -> Result<(ClientPdu, usize), Fault>
 /// Reads bytes that are one message of the client, as `read_client` does.
 #[tactic(auto, unfolding(crate::specs::Reading::client_of, gfx_base::specs::Results::and_then))]
 fn read_alone(alloc: Global, bytes: &[u8]) -> Result<ClientPdu, Fault>
-    ensures { Gives (λ p. p) result (client_of bytes.now) }
+    ensures value { Gives (λ p. p) result (client_of bytes.now) }
+    ensures memory { WantsOnlyIf result (is_headed id_of_number bytes.now) }
 {
     let (pdu, size) = read_front(alloc, bytes)?;
     if size != bytes.len() {
@@ -119,11 +122,13 @@ fn read_alone(alloc: Global, bytes: &[u8]) -> Result<ClientPdu, Fault>
 /// Reads bytes that are one message of the client.
 ///
 /// Refusals are PduTruncated, PduLength, PduUnknown and CountMismatch, by the first of the checks of
-/// `specs/Reading` that fails. Bytes behind the message are CountMismatch.
+/// `specs/Reading` that fails. Bytes behind the message are CountMismatch. Memory is wanted only behind a
+/// header that is accepted.
 pub fn read_client(alloc: Global, bytes: &[u8]) -> Result<ClientPdu, Fault>
     ensures value { Gives (λ p. p) result (client_of bytes.now) }
     // What is read is spelled so, byte for byte but for flags, and all of it fits its field.
     ensures spelled { IfOk result (λ p. Spells bytes.now p × Fits p) }
+    ensures memory { WantsOnlyIf result (is_headed id_of_number bytes.now) }
 {
     read_alone(alloc, bytes)
 }

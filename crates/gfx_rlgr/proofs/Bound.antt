@@ -8,16 +8,18 @@ use Rattle.std.proofs.Math.Pow.{pow_mono}
 use Rattle.std.proofs.lemmas.Nat.{shr_split, pow_pos}
 use Rattle.gfx_bits.specs.Bits.{digits}
 use Rattle.gfx_bits.proofs.Laws.{length-digits, length-bits_of}
+use Rattle.gfx_rlgr.specs.declared.mode.Mode.TheVariants.{Rlgr1}
 use Rattle.gfx_rlgr.specs.declared.params.Params.{Params}
 use Rattle.gfx_rlgr.specs.Bound.{AreSmall}
-use Rattle.gfx_rlgr.specs.Code.{Token, Run, LastRun, Value, start, k, kr, number_code, krp_after, folded, is_negative, code, after, IsToken, terms_of}
+use Rattle.gfx_rlgr.specs.Code.{Token, Run, LastRun, Value, Pair, start, k, kr, number_code, krp_after, folded, is_negative, code, after, IsToken, terms_of}
 use Rattle.gfx_rlgr.specs.Rlgr.{Written, codes, terms, AreTokens, AreFewest}
 use Rattle.gfx_rlgr.specs.Steps.{AreWithin}
+use Rattle.gfx_rlgr.proofs.Pairs.{modes-differ}
 use Rattle.gfx_rlgr.proofs.Reading.{within-after}
 
 -- ---- a number
 
-length-number : (low n : ℕ) → length (number_code low n) ≡ n / 2 ^ low + 1 + low
+pub length-number : (low n : ℕ) → length (number_code low n) ≡ n / 2 ^ low + 1 + low
 unfolding number_code
 length-number low n =
     omega (arith, length-append (replicate (n / 2 ^ low) true) (false ∷ digits low (n % 2 ^ low)), length-replicate (n / 2 ^ low) true, length-digits low (n % 2 ^ low))
@@ -63,7 +65,7 @@ number-paid params n magnitude extra within small allows =
     ] in
     omega (arith, length-number (kr params) n, paid (kr params) params.krp (n / 2 ^ kr params) extra (omega (arith, within.krp)) within.krp few)
 
-folded-small : (value : ℤ) → folded value ≤ 2 * unsigned_abs value
+pub folded-small : (value : ℤ) → folded value ≤ 2 * unsigned_abs value
 folded-small (pos n) = omega arith
 folded-small (negsuc n) = omega arith
 
@@ -93,10 +95,10 @@ run-paid params within = omega arith
 -- ---- places
 
 -- values from place i on are as small as their places ask
-record SmallFrom (i : ℕ) (values : List ℤ) : Type 0 where
-  low : (j : ℕ) → i + j < 4015 → unsigned_abs (get_or values j (pos 0)) ≤ 1024
-  high : (j : ℕ) → i + j < 4096 → unsigned_abs (get_or values j (pos 0)) ≤ 2048
-  none : (j : ℕ) → 4096 ≤ i + j → get_or values j (pos 0) ≡ pos 0
+pub record SmallFrom (i : ℕ) (values : List ℤ) : Type 0 where
+  pub low : (j : ℕ) → i + j < 4015 → unsigned_abs (get_or values j (pos 0)) ≤ 1024
+  pub high : (j : ℕ) → i + j < 4096 → unsigned_abs (get_or values j (pos 0)) ≤ 2048
+  pub none : (j : ℕ) → 4096 ≤ i + j → get_or values j (pos 0) ≡ pos 0
 
 -- what the places below i may cost
 abbrev budget : ℕ → ℕ
@@ -122,7 +124,7 @@ record Within (i : ℕ) (params : Params) (token : Token) : Type 0 where
   cost : length (code params token) + 28 * (80 - (after params token).krp) ≤ 28 * (80 - params.krp) + 79 + extra
   room : budget i + 79 + extra ≤ budget (min (i + length (terms_of params token)) 4096)
 
-token-within : (i : ℕ) (params : Params) (token : Token) (rest : List ℤ) → AreWithin params → IsToken params token → i < 4096
+token-within : (i : ℕ) (params : Params) (token : Token) (rest : List ℤ) → AreWithin params → IsToken Rlgr1 params token → i < 4096
     → SmallFrom i (terms_of params token ++ rest) → Within i params token
 unfolding IsToken terms_of
 token-within i params Run rest within fits here small = record {
@@ -156,8 +158,9 @@ token-within i params (Value value) rest within fits here small = record {
       let top : min (i + 1) 4096 ≡ i + 0 + 1 = omega arith in
       rw top (budget-on i (i + 0) (omega arith));
 }
+token-within i params (Pair sum one) rest within fits here small = absurd (modes-differ Rlgr1 refl fits.1)
 
-small-rest : (i : ℕ) (front rest : List ℤ) → SmallFrom i (front ++ rest) → SmallFrom (i + length front) rest
+pub small-rest : (i : ℕ) (front rest : List ℤ) → SmallFrom i (front ++ rest) → SmallFrom (i + length front) rest
 small-rest i front rest small = record {
   low = λ j h. subst (λ v. unsigned_abs v ≤ 1024) (get_or-append-add front rest j (pos 0)) (small.low (length front + j) (omega arith));
   high = λ j h. subst (λ v. unsigned_abs v ≤ 2048) (get_or-append-add front rest j (pos 0)) (small.high (length front + j) (omega arith));
@@ -165,7 +168,7 @@ small-rest i front rest small = record {
 }
 
 -- the tokens' bits are within what their places may cost
-codes-within : (i : ℕ) (params : Params) (tokens : List Token) → AreWithin params → AreTokens params tokens → AreFewest (4096 - i) params tokens
+codes-within : (i : ℕ) (params : Params) (tokens : List Token) → AreWithin params → AreTokens Rlgr1 params tokens → AreFewest (4096 - i) params tokens
     → SmallFrom i (terms params tokens) → length (codes params tokens) + budget (min i 4096) ≤ 28 * (80 - params.krp) + budget 4096
 unfolding AreTokens AreFewest codes terms
 codes-within i params [] within fits fewest small = omega arith
@@ -185,7 +188,7 @@ zero-at (suc n) zero = refl
 zero-at (suc n) (suc j) = zero-at n j
 
 -- the values of a level, and the zeros behind them
-small-values : (values : List ℤ) (more : ℕ) → length values ≡ 4096 → AreSmall values → SmallFrom 0 (values ++ replicate more (pos 0))
+pub small-values : (values : List ℤ) (more : ℕ) → length values ≡ 4096 → AreSmall values → SmallFrom 0 (values ++ replicate more (pos 0))
 unfolding AreSmall
 small-values values more count small = record {
   low = λ j h. low j (omega arith);

@@ -2,15 +2,18 @@
 use Rattle.std.proofs.Common.{◌≡◌, ◌≢◌, ℕ, ◌+◌, ◌-◌, ◌*◌, ◌/◌, ◌%◌, ◌^◌, ◌<◌, ◌≤◌, Bool, true, false, cond, ℤ, pos, List, [], ◌∷◌, ◌++◌, length, take, refl, sym, ap, ◌∙◌, arith, append_assoc, replicate, subst, min, get_or, length-append}
 use Rattle.std.specs.Prelude.{bit_and}
 use Rattle.std.specs.Int.RustNames.{unsigned_abs}
+use Rattle.std.specs.List.{list_all}
 use Rattle.std.proofs.lemmas.List.{replicate-append-replicate, take_more, length-take, take_all, append-nil}
 use Rattle.std.proofs.lemmas.Nat.{one_shl, and_mask}
 use Rattle.gfx_bits.specs.Bits.{digits, IsPadded}
+use Rattle.gfx_rlgr.specs.declared.mode.Mode.{Mode}
+use Rattle.gfx_rlgr.specs.declared.mode.Mode.TheVariants.{Rlgr1}
 use Rattle.gfx_rlgr.specs.declared.params.Params.{Params}
-use Rattle.gfx_rlgr.specs.Code.{Token, Run, LastRun, Value, start, k, kr, number_code, after_number, folded, is_negative, kp_after, code, after, IsToken, terms_of}
-use Rattle.gfx_rlgr.specs.Rlgr.{Written, codes, terms, AreTokens, AreFewest}
+use Rattle.gfx_rlgr.specs.Code.{Token, Run, LastRun, Value, start, k, kr, number_code, after_number, folded, is_negative, kp_after, code, after, IsToken, adds_up, terms_of}
+use Rattle.gfx_rlgr.specs.Rlgr.{Encodes, codes, terms, AreTokens, AreFewest}
 use Rattle.gfx_rlgr.specs.Steps.{AreWithin, WritesToken, Covers}
 use Rattle.gfx_rlgr.proofs.Reading.{with_kp, within-after}
-use Rattle.gfx_rlgr.proofs.Tokens.{after_all, AreNeeded, after_all-last, codes-last, terms-last, tokens-last, needed-last, fewest-needed}
+use Rattle.gfx_rlgr.proofs.Tokens.{after_all, AreNeeded, after_all-last, codes-last, terms-last, tokens-last, adds-last, needed-last, fewest-needed}
 
 digits-one : digits 1 1 ≡ true ∷ []
 unfolding digits
@@ -42,11 +45,12 @@ number-written old one two new low n h e f g =
 pub value-written : (old new : List Bool) (before between behind : Params) (value : ℤ) → k before ≡ 0
     → new ≡ old ++ number_code (kr before) (folded value) → between ≡ after_number before (folded value)
     → behind ≡ record between { kp = kp_after (folded value) between.kp }
-    → WritesToken old new before behind (value ∷ [])
+    → WritesToken Rlgr1 old new before behind (value ∷ [])
 unfolding code after IsToken terms_of
 value-written old new before between behind value none e f g = record {
   token = Value value;
-  fits = none;
+  fits = (none, refl);
+  adds = refl;
   spelled = e;
   params = g ∙ ap (λ p. with_kp (kp_after (folded value) p.kp) p) f;
   shows = refl;
@@ -54,16 +58,17 @@ value-written old new before between behind value none e f g = record {
 
 -- ---- a run that a value ends
 
-pub last-run-written : (old one two three new : List Bool) (before moved behind : Params) (count sign : ℕ) (value : ℤ)
+pub last-run-written : (mode : Mode) (old one two three new : List Bool) (before moved behind : Params) (count sign : ℕ) (value : ℤ)
     → 0 < k before → count < 2 ^ k before → value ≢ pos 0 → sign ≡ cond (is_negative value) 1 0
     → one ≡ old ++ digits 1 1 → two ≡ one ++ digits (k before) count → three ≡ two ++ digits 1 sign
     → moved ≡ record before { kp = before.kp - 6 }
     → new ≡ three ++ number_code (kr moved) (unsigned_abs value - 1) → behind ≡ after_number moved (unsigned_abs value - 1)
-    → WritesToken old new before behind (replicate count (pos 0) ++ value ∷ [])
+    → WritesToken mode old new before behind (replicate count (pos 0) ++ value ∷ [])
 unfolding code after IsToken terms_of
-last-run-written old one two three new before moved behind count sign value run small some signed e f g m h i = record {
+last-run-written mode old one two three new before moved behind count sign value run small some signed e f g m h i = record {
   token = LastRun count value;
   fits = (run, small, some);
+  adds = refl;
   spelled =
       h ∙ ap (λ p. three ++ number_code (kr p) (unsigned_abs value - 1)) m
       ∙ ap (λ b. b ++ tail)
@@ -81,12 +86,13 @@ last-run-written old one two three new before moved behind count sign value run 
 
 -- ---- a full run
 
-pub run-written : (old new : List Bool) (before behind : Params) → 0 < k before → new ≡ old ++ digits 1 0
-    → behind ≡ record before { kp = min 80 (before.kp + 4) } → WritesToken old new before behind (replicate (2 ^ k before) (pos 0))
+pub run-written : (mode : Mode) (old new : List Bool) (before behind : Params) → 0 < k before → new ≡ old ++ digits 1 0
+    → behind ≡ record before { kp = min 80 (before.kp + 4) } → WritesToken mode old new before behind (replicate (2 ^ k before) (pos 0))
 unfolding code after IsToken terms_of
-run-written old new before behind run e f = record {
+run-written mode old new before behind run e f = record {
   token = Run;
   fits = run;
+  adds = refl;
   spelled = e ∙ ap (λ b. old ++ b) digits-none;
   params = f;
   shows = refl;
@@ -104,9 +110,9 @@ zeros-more values at next from h zero-here so_far =
     ∙ ap (λ vs. take at values ++ vs) (replicate-append-replicate (next - at) 1 (pos 0))
     ∙ ap (λ n. take at values ++ replicate n (pos 0)) {y = next + 1 - at} (omega arith)
 
-pub covers-value : (values : List ℤ) (at : ℕ) (v : ℤ) (old new : List Bool) (before behind : Params) → AreWithin before → at < length values
-    → v ≡ get_or values at (pos 0) → WritesToken old new before behind (v ∷ []) → Covers values at (at + 1) old new before behind
-covers-value values at v old new before behind within h is written = record {
+pub covers-value : (mode : Mode) (values : List ℤ) (at : ℕ) (v : ℤ) (old new : List Bool) (before behind : Params) → AreWithin before → at < length values
+    → v ≡ get_or values at (pos 0) → WritesToken mode old new before behind (v ∷ []) → Covers mode values at (at + 1) old new before behind
+covers-value mode values at v old new before behind within h is written = record {
   shown = v ∷ [];
   written = written;
   within = rw written.params (within-after before written.token within);
@@ -116,10 +122,10 @@ covers-value values at v old new before behind within h is written = record {
   none = λ _. refl;
 }
 
-pub covers-run : (values : List ℤ) (at next run : ℕ) (old new : List Bool) (before behind : Params) → AreWithin before → at < length values → 0 < run
+pub covers-run : (mode : Mode) (values : List ℤ) (at next run : ℕ) (old new : List Bool) (before behind : Params) → AreWithin before → at < length values → 0 < run
     → next ≡ min (length values) (at + run) → take next values ≡ take at values ++ replicate (next - at) (pos 0)
-    → WritesToken old new before behind (replicate run (pos 0)) → Covers values at next old new before behind
-covers-run values at next run old new before behind within h some is zeros-are written = record {
+    → WritesToken mode old new before behind (replicate run (pos 0)) → Covers mode values at next old new before behind
+covers-run mode values at next run old new before behind within h some is zeros-are written = record {
   shown = replicate run (pos 0);
   written = written;
   within = rw written.params (within-after before written.token within);
@@ -133,10 +139,10 @@ covers-run values at next run old new before behind within h some is zeros-are w
   none = λ short. omega arith;
 }
 
-pub covers-last-run : (values : List ℤ) (at next : ℕ) (v : ℤ) (old new : List Bool) (before behind : Params) → AreWithin before → at ≤ next → next < length values
+pub covers-last-run : (mode : Mode) (values : List ℤ) (at next : ℕ) (v : ℤ) (old new : List Bool) (before behind : Params) → AreWithin before → at ≤ next → next < length values
     → v ≡ get_or values next (pos 0) → take next values ≡ take at values ++ replicate (next - at) (pos 0)
-    → WritesToken old new before behind (replicate (next - at) (pos 0) ++ v ∷ []) → Covers values at (next + 1) old new before behind
-covers-last-run values at next v old new before behind within from h is zeros-are written = record {
+    → WritesToken mode old new before behind (replicate (next - at) (pos 0) ++ v ∷ []) → Covers mode values at (next + 1) old new before behind
+covers-last-run mode values at next v old new before behind within from h is zeros-are written = record {
   shown = replicate (next - at) (pos 0) ++ v ∷ [];
   written = written;
   within = rw written.params (within-after before written.token within);
@@ -153,9 +159,10 @@ covers-last-run values at next v old new before behind within from h is zeros-ar
 -- ---- the encoder's loop
 
 -- the tokens written so far give the values so far
-pub record Writes (n : ℕ) (values : List ℤ) (bits : List Bool) (params : Params) (at : ℕ) : Type 0 where
+pub record Writes (mode : Mode) (n : ℕ) (values : List ℤ) (bits : List Bool) (params : Params) (at : ℕ) : Type 0 where
   pub tokens : List Token
-  pub tokens_fit : AreTokens start tokens
+  pub tokens_fit : AreTokens mode start tokens
+  pub add_up : list_all adds_up tokens ≡ true
   pub needed : AreNeeded n start tokens
   pub spelled : bits ≡ codes start tokens
   pub params_are : params ≡ after_all start tokens
@@ -165,11 +172,12 @@ pub record Writes (n : ℕ) (values : List ℤ) (bits : List Bool) (params : Par
   pub none : at < length values → more ≡ 0
   pub place : at ≤ length values
 
-pub begins : (n : ℕ) (values : List ℤ) → Writes n values [] start 0
+pub begins : (mode : Mode) (n : ℕ) (values : List ℤ) → Writes mode n values [] start 0
 unfolding AreTokens AreNeeded codes terms after_all
-begins n values = record {
+begins mode n values = record {
   tokens = [];
   tokens_fit = tt;
+  add_up = refl;
   needed = tt;
   spelled = refl;
   params_are = refl;
@@ -180,9 +188,9 @@ begins n values = record {
   place = omega arith;
 }
 
-pub covers-more : (n : ℕ) (values : List ℤ) (bits new : List Bool) (params behind : Params) (at next : ℕ) → n ≡ length values → at < length values
-    → Writes n values bits params at → Covers values at next bits new params behind → Writes n values new behind next
-covers-more n values bits new params behind at next count h so_far step =
+pub covers-more : (mode : Mode) (n : ℕ) (values : List ℤ) (bits new : List Bool) (params behind : Params) (at next : ℕ) → n ≡ length values → at < length values
+    → Writes mode n values bits params at → Covers mode values at next bits new params behind → Writes mode n values new behind next
+covers-more mode n values bits new params behind at next count h so_far step =
     let ts : List Token = so_far.tokens in
     let t : Token = step.written.token in
     let exact : terms start ts ≡ take at values =
@@ -190,7 +198,8 @@ covers-more n values bits new params behind at next count h so_far step =
     let long : length (terms start ts) ≡ at = ap length exact ∙ length-take at values ∙ omega arith in
     record {
       tokens = ts ++ t ∷ [];
-      tokens_fit = tokens-last start ts t so_far.tokens_fit (subst (λ p. IsToken p t) so_far.params_are step.written.fits);
+      tokens_fit = tokens-last mode start ts t so_far.tokens_fit (subst (λ p. IsToken mode p t) so_far.params_are step.written.fits);
+      add_up = adds-last ts t so_far.add_up step.written.adds;
       needed = needed-last n start ts t so_far.needed (omega (arith, long));
       spelled =
           step.written.spelled ∙ ap (λ b. b ++ code params t) so_far.spelled
@@ -208,21 +217,22 @@ covers-more n values bits new params behind at next count h so_far step =
       place = step.on.1;
     }
 
-pub written-whole : (n : ℕ) (values : List ℤ) (bits : List Bool) (params : Params) (at : ℕ) → n ≡ length values → length values ≤ at
-    → (done : Writes n values bits params at)
+pub written-whole : (mode : Mode) (n : ℕ) (values : List ℤ) (bits : List Bool) (params : Params) (at : ℕ) → n ≡ length values → length values ≤ at
+    → (done : Writes mode n values bits params at)
     → AreFewest n start done.tokens × (terms start done.tokens ≡ values ++ replicate done.more (pos 0))
-written-whole n values bits params at count all done =
+written-whole mode n values bits params at count all done =
     let gives : terms start done.tokens ≡ values ++ replicate done.more (pos 0) =
     done.gives ∙ ap (λ vs. vs ++ replicate done.more (pos 0)) (take_all at values all) in
     (fewest-needed n start done.tokens done.needed (omega (arith, ap length gives, length-append values (replicate done.more (pos 0)))), gives)
 
-pub written-bytes : (values : List ℤ) (bits : List Bool) (params : Params) (at : ℕ) (bytes : List ℕ) → 4096 ≡ length values → length values ≤ at
-    → Writes 4096 values bits params at → IsPadded bits bytes → Written values bytes
-written-bytes values bits params at bytes count all done padded =
-    let whole = written-whole 4096 values bits params at count all done in
+pub written-bytes : (mode : Mode) (values : List ℤ) (bits : List Bool) (params : Params) (at : ℕ) (bytes : List ℕ) → 4096 ≡ length values → length values ≤ at
+    → Writes mode 4096 values bits params at → IsPadded bits bytes → Encodes mode values bytes
+written-bytes mode values bits params at bytes count all done padded =
+    let whole = written-whole mode 4096 values bits params at count all done in
     record {
       tokens = done.tokens;
       tokens_fit = done.tokens_fit;
+      add_up = done.add_up;
       fewest = whole.0;
       gives = (done.more, whole.1);
       padded = subst (λ b. IsPadded b bytes) done.spelled padded;

@@ -8,9 +8,10 @@ use Rattle.std.proofs.lemmas.Nat.{pow_pos}
 use Rattle.gfx_base.specs.declared.refusal.Refusal.TheVariants.{CoefficientRange}
 use Rattle.gfx_bits.specs.Bits.{Spelled}
 use Rattle.gfx_bits.proofs.Laws.{spelled-join}
+use Rattle.gfx_rlgr.specs.declared.mode.Mode.{Mode}
 use Rattle.gfx_rlgr.specs.declared.params.Params.{Params}
 use Rattle.gfx_rlgr.specs.Bound.{greatest}
-use Rattle.gfx_rlgr.specs.Code.{Token, Run, LastRun, Value, start, k, code, after, IsToken, terms_of}
+use Rattle.gfx_rlgr.specs.Code.{Token, Run, LastRun, Value, Pair, start, k, code, after, IsToken, terms_of}
 use Rattle.gfx_rlgr.specs.Rlgr.{Reading, answer, codes, terms, AreTokens, AreFewest, in_range}
 use Rattle.gfx_rlgr.specs.Steps.{AreWithin, ReadsToken, kept, filled}
 use Rattle.gfx_rlgr.proofs.Places.{filled-whole}
@@ -18,9 +19,9 @@ use Rattle.gfx_rlgr.proofs.Reading.{within-read}
 use Rattle.gfx_rlgr.proofs.Tokens.{after_all, AreNeeded, after_all-last, codes-last, terms-last, tokens-last, needed-last, fewest-needed}
 
 -- tokens that stand at the front of the bits, as far as the decoder has come
-pub record Fills (n : ℕ) (bits rest : List Bool) (params : Params) (at : ℕ) (out : List ℤ) (most : ℕ) : Type 0 where
+pub record Fills (mode : Mode) (n : ℕ) (bits rest : List Bool) (params : Params) (at : ℕ) (out : List ℤ) (most : ℕ) : Type 0 where
   pub tokens : List Token
-  pub tokens_fit : AreTokens start tokens
+  pub tokens_fit : AreTokens mode start tokens
   pub needed : AreNeeded n start tokens
   pub spelled : Spelled bits (codes start tokens) rest
   pub params_are : params ≡ after_all start tokens
@@ -29,9 +30,9 @@ pub record Fills (n : ℕ) (bits rest : List Bool) (params : Params) (at : ℕ) 
   pub shows : out ≡ filled n (map kept (terms start tokens))
   pub most_is : most ≡ greatest (take n (map kept (terms start tokens)))
 
-pub begun : (n : ℕ) (bits : List Bool) (out : List ℤ) → out ≡ filled n [] → Fills n bits bits start 0 out 0
+pub begun : (mode : Mode) (n : ℕ) (bits : List Bool) (out : List ℤ) → out ≡ filled n [] → Fills mode n bits bits start 0 out 0
 unfolding AreTokens AreNeeded codes terms after_all greatest
-begun n bits out is = record {
+begun mode n bits out is = record {
   tokens = [];
   tokens_fit = tt;
   needed = tt;
@@ -43,12 +44,12 @@ begun n bits out is = record {
   most_is = ap greatest (sym (take_all n [] (omega arith)));
 }
 
-pub goes-on : (n : ℕ) (bits rest rest' : List Bool) (params params' : Params) (at at' : ℕ) (out out' shown : List ℤ) (magnitude most : ℕ)
-    → (so_far : Fills n bits rest params at out most) → at < n → ReadsToken rest rest' params params' shown
+pub goes-on : (mode : Mode) (n : ℕ) (bits rest rest' : List Bool) (params params' : Params) (at at' : ℕ) (out out' shown : List ℤ) (magnitude most : ℕ)
+    → (so_far : Fills mode n bits rest params at out most) → at < n → ReadsToken mode rest rest' params params' shown
     → ((values : List ℤ) → out ≡ filled n values → at ≡ length values
     → (out' ≡ filled n (values ++ shown)) × (at' ≡ min n (length (values ++ shown))) × (greatest (take n (values ++ shown)) ≡ max (greatest values) magnitude))
-    → Fills n bits rest' params' at' out' (max most magnitude)
-goes-on n bits rest rest' params params' at at' out out' shown magnitude most so_far wanted read placed =
+    → Fills mode n bits rest' params' at' out' (max most magnitude)
+goes-on mode n bits rest rest' params params' at at' out out' shown magnitude most so_far wanted read placed =
     let ts : List Token = so_far.tokens in
     let values : List ℤ = map kept (terms start ts) in
     let here : at ≡ length values = omega (arith, so_far.at_is) in
@@ -59,12 +60,12 @@ goes-on n bits rest rest' params params' at at' out out' shown magnitude most so
     ∙ ap (λ vs. values ++ vs) (sym (read.shows ∙ ap (λ p. map kept (terms_of p read.token)) so_far.params_are)) in
     record {
       tokens = ts ++ read.token ∷ [];
-      tokens_fit = tokens-last start ts read.token so_far.tokens_fit (subst (λ p. IsToken p read.token) so_far.params_are read.fits);
+      tokens_fit = tokens-last mode start ts read.token so_far.tokens_fit (subst (λ p. IsToken mode p read.token) so_far.params_are read.fits);
       needed = needed-last n start ts read.token so_far.needed (omega (arith, length-map (terms start ts) kept));
       spelled = rw (codes-last start ts read.token)
           (spelled-join bits (codes start ts) rest (code (after_all start ts) read.token) rest' so_far.spelled (subst (λ p. Spelled rest (code p read.token) rest') so_far.params_are read.spelled));
       params_are = read.params ∙ ap (λ p. after p read.token) so_far.params_are ∙ sym (after_all-last start ts read.token);
-      within = within-read rest rest' params params' shown so_far.within read;
+      within = within-read mode rest rest' params params' shown so_far.within read;
       at_is = put.1 ∙ ap (λ vs. min n (length vs)) (sym whole);
       shows = put.0 ∙ ap (filled n) (sym whole);
       most_is =
@@ -77,14 +78,15 @@ unfolding terms_of
 shown-some params Run = omega (arith, length-replicate (2 ^ k params) (pos 0), pow_pos (k params))
 shown-some params (LastRun count value) = omega (arith, length-append (replicate count (pos 0)) (value ∷ []))
 shown-some params (Value value) = omega arith
+shown-some params (Pair sum one) = omega arith
 
 -- each token takes a place
-pub further : (n : ℕ) (bits rest rest' : List Bool) (params params' : Params) (at at' : ℕ) (out out' shown : List ℤ) (magnitude most : ℕ)
-    → (so_far : Fills n bits rest params at out most) → at < n → ReadsToken rest rest' params params' shown
+pub further : (mode : Mode) (n : ℕ) (bits rest rest' : List Bool) (params params' : Params) (at at' : ℕ) (out out' shown : List ℤ) (magnitude most : ℕ)
+    → (so_far : Fills mode n bits rest params at out most) → at < n → ReadsToken mode rest rest' params params' shown
     → ((values : List ℤ) → out ≡ filled n values → at ≡ length values
     → (out' ≡ filled n (values ++ shown)) × (at' ≡ min n (length (values ++ shown))) × (greatest (take n (values ++ shown)) ≡ max (greatest values) magnitude))
     → (at < at') × (at' ≤ n)
-further n bits rest rest' params params' at at' out out' shown magnitude most so_far wanted read placed =
+further mode n bits rest rest' params params' at at' out out' shown magnitude most so_far wanted read placed =
     let values : List ℤ = map kept (terms start so_far.tokens) in
     let here : at ≡ length values = omega (arith, so_far.at_is) in
     let put = placed values so_far.shows here in
@@ -126,9 +128,9 @@ kept-all (v ∷ values) e =
     ap (λ b. cond b v (negsuc 32767) ∷ map kept values) parts.0 ∙ ap (λ vs. v ∷ vs) (kept-all values parts.1)
 
 -- with all places taken it is a reading
-reading-at : (n : ℕ) (bits rest : List Bool) (params : Params) (at : ℕ) (out : List ℤ) (most : ℕ) → (done : Fills n bits rest params at out most) → n ≤ at
+reading-at : (mode : Mode) (n : ℕ) (bits rest : List Bool) (params : Params) (at : ℕ) (out : List ℤ) (most : ℕ) → (done : Fills mode n bits rest params at out most) → n ≤ at
     → AreFewest n start done.tokens × (out ≡ map kept (take n (terms start done.tokens))) × (most ≡ greatest out)
-reading-at n bits rest params at out most done full =
+reading-at mode n bits rest params at out most done full =
     let long : n ≤ length (map kept (terms start done.tokens)) = omega (arith, done.at_is) in
     let whole : out ≡ take n (map kept (terms start done.tokens)) = done.shows ∙ filled-whole n (map kept (terms start done.tokens)) long in (
       fewest-needed n start done.tokens done.needed (omega (arith, length-map (terms start done.tokens) kept)),
@@ -136,10 +138,10 @@ reading-at n bits rest params at out most done full =
       done.most_is ∙ ap greatest (sym whole),
     )
 
-pub filled-reading : (bits rest : List Bool) (params : Params) (at : ℕ) (out : List ℤ) (most : ℕ) → Fills 4096 bits rest params at out most → 4096 ≤ at
-    → (tokens : List Token) × Reading bits tokens × (out ≡ map kept (take 4096 (terms start tokens))) × (most ≡ greatest out)
-filled-reading bits rest params at out most done full =
-    let read = reading-at 4096 bits rest params at out most done full in
+pub filled-reading : (mode : Mode) (bits rest : List Bool) (params : Params) (at : ℕ) (out : List ℤ) (most : ℕ) → Fills mode 4096 bits rest params at out most → 4096 ≤ at
+    → (tokens : List Token) × Reading mode bits tokens × (out ≡ map kept (take 4096 (terms start tokens))) × (most ≡ greatest out)
+filled-reading mode bits rest params at out most done full =
+    let read = reading-at mode 4096 bits rest params at out most done full in
     (done.tokens, record { tokens_fit = done.tokens_fit; fewest = read.0; spelled = (rest, done.spelled) }, read.1, read.2)
 
 -- what the values say

@@ -1,3 +1,4 @@
+pub mod Pairs
 pub mod Reading
 pub mod Places
 pub mod Tokens
@@ -6,7 +7,10 @@ pub mod Encoding
 pub mod Unique
 pub mod RoundTrip
 pub mod Bound
+pub mod PairBound
 pub mod OneWriting
 pub mod Numbers
+pub mod Examples
 pub mod Says
+pub mod Refused
 pub mod Writes

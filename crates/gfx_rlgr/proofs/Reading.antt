@@ -1,15 +1,18 @@
 -- Each step of the decoder reads a token.
 use Rattle.std.proofs.Common.{◌≡◌, ◌≢◌, ℕ, zero, suc, ◌+◌, ◌-◌, ◌*◌, ◌/◌, ◌%◌, ◌^◌, ◌<◌, ◌≤◌, ◌==◌, Bool, true, false, cond, ℤ, pos, negsuc, List, [], ◌∷◌, ◌++◌, map, drop, refl, sym, ap, ◌∙◌, arith, append_assoc, replicate, min, subst, inl, inr}
 use Rattle.std.specs.Int.RustNames.{unsigned_abs}
-use Rattle.std.proofs.lemmas.Bool.Decides.{leb_tells, eqb_tells}
+use Rattle.std.proofs.lemmas.Bool.Decides.{leb_tells}
 use Rattle.std.proofs.lemmas.List.{map-append, append-nil}
 use Rattle.std.proofs.lemmas.Nat.{pow_pos, mod_low, shr_high, shl_whole, one_shl}
 use Rattle.std.proofs.Math.Nat.{mul-le-mul_left}
 use Rattle.gfx_bits.specs.Bits.{Spelled, first, number, digits, ones}
 use Rattle.gfx_bits.proofs.Laws.{spelled-join, spelled-ones, spelled-number, number_below, number_1}
+use Rattle.gfx_rlgr.specs.declared.mode.Mode.{Mode}
+use Rattle.gfx_rlgr.specs.declared.mode.Mode.TheVariants.{Rlgr1}
 use Rattle.gfx_rlgr.specs.declared.params.Params.{Params}
-use Rattle.gfx_rlgr.specs.Code.{Token, Run, LastRun, Value, k, kr, number_code, krp_after, after_number, folded, is_negative, kp_after, code, after, IsToken, terms_of}
-use Rattle.gfx_rlgr.specs.Steps.{AreWithin, ReadsNumber, ReadsToken, kept, unfold_number}
+use Rattle.gfx_rlgr.specs.Code.{Token, Run, LastRun, Value, Pair, k, kr, number_code, krp_after, after_number, folded, unfold_number, is_negative, kp_after, kp_after_pair, code, after, IsToken, terms_of}
+use Rattle.gfx_rlgr.specs.Steps.{AreWithin, ReadsNumber, ReadsToken, kept}
+use Rattle.gfx_rlgr.proofs.Pairs.{folded-unfold}
 
 -- ---- a number
 
@@ -77,19 +80,15 @@ kp-same zero (suc n) kp e = absurd (omega arith)
 kp-same (suc m) zero kp e = absurd (omega arith)
 kp-same (suc m) (suc n) kp e = refl
 
-pub folded-unfold : (n : ℕ) → folded (unfold_number n) ≡ n
-folded-unfold n = elim (eqb_tells (n % 2) 0)
-    [ inl h ↦ rw h.0 (omega (arith, h.1)) | inr h ↦ rw h.0 (omega (arith, h.1)) ]
-
 pub value-read : (old new : List Bool) (before between behind : Params) (number' : ℕ) (result : ℤ)
     → k before ≡ 0 → (read : ReadsNumber old new before between number')
     → behind ≡ record between { kp = kp_after number' between.kp }
     → result ≡ kept (unfold_number read.exact)
-    → ReadsToken old new before behind (result ∷ [])
+    → ReadsToken Rlgr1 old new before behind (result ∷ [])
 unfolding code after IsToken terms_of
 value-read old new before between behind number' result none read e f = record {
   token = Value (unfold_number read.exact);
-  fits = none;
+  fits = (none, refl);
   spelled = rw (folded-unfold read.exact) read.spelled;
   params = rw (folded-unfold read.exact)
       (e ∙ ap (λ p. with_kp (kp_after number' p.kp) p) read.params ∙ ap (λ m. with_kp m (after_number before read.exact)) (sym (kp-same read.exact number' before.kp read.same)));
@@ -118,14 +117,14 @@ kept-zeros : (n : ℕ) → map kept (replicate n (pos 0)) ≡ replicate n (pos 0
 kept-zeros zero = refl
 kept-zeros (suc n) = ap (λ vs. pos 0 ∷ vs) (kept-zeros n)
 
-pub last-run-read : (old between new : List Bool) (before moved behind : Params) (count number' : ℕ) (negative : Bool) (result : ℤ)
+pub last-run-read : (mode : Mode) (old between new : List Bool) (before moved behind : Params) (count number' : ℕ) (negative : Bool) (result : ℤ)
     → 0 < k before → count ≡ number (k before) old → negative ≡ first (drop (k before) old)
     → between ≡ drop 1 (drop (k before) old)
     → (is : moved ≡ record before { kp = before.kp - 6 }) → (read : ReadsNumber between new moved behind number')
     → result ≡ kept (signed_value negative read.exact)
-    → ReadsToken (true ∷ old) new before behind (replicate count (pos 0) ++ result ∷ [])
+    → ReadsToken mode (true ∷ old) new before behind (replicate count (pos 0) ++ result ∷ [])
 unfolding code after IsToken terms_of
-last-run-read old between new before moved behind count number' negative result run counted signed on is read e = record {
+last-run-read mode old between new before moved behind count number' negative result run counted signed on is read e = record {
   token = LastRun count (signed_value negative read.exact);
   fits = (run, rw counted (number_below (k before) old), not-zero negative read.exact);
   spelled = (
@@ -150,11 +149,11 @@ no-bit bits e = go (first bits) (sym (number_1 bits) ∙ e)
     go true e = absurd (omega arith)
     go false e = refl
 
-pub run-read : (old new : List Bool) (before behind : Params) → AreWithin before → 0 < k before → number 1 old ≡ 0 → new ≡ drop 1 old
+pub run-read : (mode : Mode) (old new : List Bool) (before behind : Params) → AreWithin before → 0 < k before → number 1 old ≡ 0 → new ≡ drop 1 old
     → behind ≡ record before { kp = min 80 (before.kp + 4) }
-    → ReadsToken old new before behind (replicate (1 * 2 ^ k before % 2 ^ 32) (pos 0) ++ [])
+    → ReadsToken mode old new before behind (replicate (1 * 2 ^ k before % 2 ^ 32) (pos 0) ++ [])
 unfolding code after IsToken terms_of
-run-read old new before behind within run zero-bit on e = record {
+run-read mode old new before behind within run zero-bit on e = record {
   token = Run;
   fits = run;
   spelled = (no-bit old zero-bit, on);
@@ -173,15 +172,22 @@ kp-within : (n kp : ℕ) → kp ≤ 80 → kp_after n kp ≤ 80
 kp-within zero kp h = omega arith
 kp-within (suc n) kp h = omega arith
 
+kp-within-pair : (one other kp : ℕ) → kp ≤ 80 → kp_after_pair one other kp ≤ 80
+kp-within-pair zero zero kp h = omega arith
+kp-within-pair zero (suc other) kp h = h
+kp-within-pair (suc one) zero kp h = h
+kp-within-pair (suc one) (suc other) kp h = omega arith
+
 pub within-after : (params : Params) (token : Token) → AreWithin params → AreWithin (after params token)
 unfolding after
 within-after params Run h = record { kp = omega arith; krp = h.krp }
 within-after params (LastRun count value) h = record { kp = omega (arith, h.kp); krp = krp-within ((unsigned_abs value - 1) / 2 ^ kr params) params.krp h.krp }
 within-after params (Value value) h = record { kp = kp-within (folded value) params.kp h.kp; krp = krp-within (folded value / 2 ^ kr params) params.krp h.krp }
+within-after params (Pair sum one) h = record { kp = kp-within-pair one (sum - one) params.kp h.kp; krp = krp-within (sum / 2 ^ kr params) params.krp h.krp }
 
 -- what a token's reading leaves
-pub within-read : (old new : List Bool) (before behind : Params) (shown : List ℤ) → AreWithin before → ReadsToken old new before behind shown → AreWithin behind
-within-read old new before behind shown h read = rw read.params (within-after before read.token h)
+pub within-read : (mode : Mode) (old new : List Bool) (before behind : Params) (shown : List ℤ) → AreWithin before → ReadsToken mode old new before behind shown → AreWithin behind
+within-read mode old new before behind shown h read = rw read.params (within-after before read.token h)
 
 -- a run's first bit and the rest of it
 one-bit : (bits : List Bool) → (number 1 bits ≡ 0 → ⊥) → first bits ≡ true
@@ -191,19 +197,20 @@ one-bit bits h = go (first bits) (λ e. h (number_1 bits ∙ e))
     go true h = refl
     go false h = absurd (h refl)
 
-first-bit : (old new : List Bool) (before : Params) (token : Token) → first old ≡ true → 0 < k before → IsToken before token
+first-bit : (mode : Mode) (old new : List Bool) (before : Params) (token : Token) → first old ≡ true → 0 < k before → IsToken mode before token
     → Spelled (true ∷ drop 1 old) (code before token) new → Spelled old (code before token) new
 unfolding code IsToken
-first-bit old new before Run is run fits p = (is ∙ p.0, p.1)
-first-bit old new before (LastRun count value) is run fits p = (is ∙ p.0, p.1)
-first-bit old new before (Value value) is run fits p = absurd (omega arith)
+first-bit mode old new before Run is run fits p = (is ∙ p.0, p.1)
+first-bit mode old new before (LastRun count value) is run fits p = (is ∙ p.0, p.1)
+first-bit mode old new before (Value value) is run fits p = absurd (omega (arith, fits.0))
+first-bit mode old new before (Pair sum one) is run fits p = absurd (omega (arith, fits.0))
 
-pub with-first-bit : (old behind-it new : List Bool) (before behind : Params) (shown : List ℤ) → (number 1 old ≡ 0 → ⊥) → behind-it ≡ drop 1 old
-    → 0 < k before → ReadsToken (true ∷ behind-it) new before behind shown → ReadsToken old new before behind shown
-with-first-bit old behind-it new before behind shown one is run read = record {
+pub with-first-bit : (mode : Mode) (old behind-it new : List Bool) (before behind : Params) (shown : List ℤ) → (number 1 old ≡ 0 → ⊥) → behind-it ≡ drop 1 old
+    → 0 < k before → ReadsToken mode (true ∷ behind-it) new before behind shown → ReadsToken mode old new before behind shown
+with-first-bit mode old behind-it new before behind shown one is run read = record {
   token = read.token;
   fits = read.fits;
-  spelled = first-bit old new before read.token (one-bit old one) run read.fits (subst (λ bits. Spelled (true ∷ bits) (code before read.token) new) is read.spelled);
+  spelled = first-bit mode old new before read.token (one-bit old one) run read.fits (subst (λ bits. Spelled (true ∷ bits) (code before read.token) new) is read.spelled);
   params = read.params;
   shows = read.shows;
 }

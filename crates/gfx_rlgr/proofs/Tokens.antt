@@ -1,8 +1,11 @@
 -- Tokens one after another: the last of them.
-use Rattle.std.proofs.Common.{◌≡◌, ℕ, ◌-◌, ◌<◌, ◌≤◌, List, [], ◌∷◌, ◌++◌, length, refl, sym, ap, ◌∙◌, arith, append_assoc, length-append}
+use Rattle.std.proofs.Common.{◌≡◌, ℕ, ◌-◌, ◌<◌, ◌≤◌, true, List, [], ◌∷◌, ◌++◌, length, refl, sym, ap, ◌∙◌, arith, append_assoc, length-append}
 use Rattle.std.proofs.lemmas.List.{append-nil}
+use Rattle.std.specs.List.{list_all}
+use Rattle.std.proofs.lemmas.List.Folds.{list_all-append}
+use Rattle.gfx_rlgr.specs.declared.mode.Mode.{Mode}
 use Rattle.gfx_rlgr.specs.declared.params.Params.{Params}
-use Rattle.gfx_rlgr.specs.Code.{Token, code, after, IsToken, terms_of}
+use Rattle.gfx_rlgr.specs.Code.{Token, code, after, IsToken, adds_up, terms_of}
 use Rattle.gfx_rlgr.specs.Rlgr.{codes, terms, AreTokens, AreFewest}
 
 -- the parameters after tokens
@@ -30,10 +33,13 @@ unfolding after_all terms
 terms-last p [] t = append-nil (terms_of p t)
 terms-last p (x ∷ ts) t = ap (λ b. terms_of p x ++ b) (terms-last (after p x) ts t) ∙ sym (append_assoc (terms_of p x) (terms (after p x) ts) (terms_of (after_all (after p x) ts) t))
 
-pub tokens-last : (p : Params) (ts : List Token) (t : Token) → AreTokens p ts → IsToken (after_all p ts) t → AreTokens p (ts ++ t ∷ [])
+pub tokens-last : (mode : Mode) (p : Params) (ts : List Token) (t : Token) → AreTokens mode p ts → IsToken mode (after_all p ts) t → AreTokens mode p (ts ++ t ∷ [])
 unfolding after_all AreTokens
-tokens-last p [] t h f = (f, tt)
-tokens-last p (x ∷ ts) t h f = (h.0, tokens-last (after p x) ts t h.1 f)
+tokens-last mode p [] t h f = (f, tt)
+tokens-last mode p (x ∷ ts) t h f = (h.0, tokens-last mode (after p x) ts t h.1 f)
+
+pub adds-last : (ts : List Token) (t : Token) → list_all adds_up ts ≡ true → adds_up t ≡ true → list_all adds_up (ts ++ t ∷ []) ≡ true
+adds-last ts t all one = list_all-append adds_up ts (t ∷ []) ∙ rw (all, one) refl
 
 pub needed-last : (n : ℕ) (p : Params) (ts : List Token) (t : Token) → AreNeeded n p ts → length (terms p ts) < n → AreNeeded n p (ts ++ t ∷ [])
 unfolding AreNeeded terms

@@ -1,13 +1,16 @@
 -- One bit string has at most one reading.
-use Rattle.std.proofs.Common.{◌≡◌, ◌≢◌, ℕ, zero, suc, ◌+◌, ◌-◌, ◌*◌, ◌/◌, ◌%◌, ◌^◌, Bool, true, false, ℤ, pos, negsuc, List, [], ◌∷◌, ◌++◌, drop, take, length, refl, sym, ap, ◌∙◌, arith, append_assoc, replicate, subst, Result}
+use Rattle.std.proofs.Common.{◌≡◌, ◌≢◌, ℕ, zero, suc, ◌+◌, ◌-◌, ◌*◌, ◌/◌, ◌%◌, ◌^◌, ◌<◌, Bool, true, false, ℤ, pos, negsuc, List, [], ◌∷◌, ◌++◌, drop, take, length, refl, sym, ap, ◌∙◌, arith, append_assoc, replicate, subst, Result}
 use Rattle.std.specs.Int.RustNames.{unsigned_abs}
 use Rattle.std.proofs.lemmas.Nat.{pow_pos, mod_below, shr_split}
 use Rattle.gfx_base.specs.declared.refusal.Refusal.{Refusal}
 use Rattle.gfx_bits.specs.Bits.{Spelled, first, number, digits, ones, bits_of}
 use Rattle.gfx_bits.proofs.Laws.{spelled-apart, ones-spelled, number-spelled}
+use Rattle.gfx_rlgr.specs.declared.mode.Mode.{Mode}
+use Rattle.gfx_rlgr.specs.declared.mode.Mode.TheVariants.{Rlgr1}
 use Rattle.gfx_rlgr.specs.declared.params.Params.{Params}
-use Rattle.gfx_rlgr.specs.Code.{Token, Run, LastRun, Value, start, k, kr, number_code, folded, is_negative, code, after, IsToken, terms_of}
-use Rattle.gfx_rlgr.specs.Rlgr.{Rlgr, answer, codes, terms, AreTokens, AreFewest}
+use Rattle.gfx_rlgr.specs.Code.{Token, Run, LastRun, Value, Pair, start, k, kr, number_code, folded, is_negative, bit_length, code, after, IsToken, terms_of}
+use Rattle.gfx_rlgr.specs.Rlgr.{Decodes, Rlgr, answer, codes, terms, AreTokens, AreFewest}
+use Rattle.gfx_rlgr.proofs.Pairs.{modes-differ}
 
 true-false : true ≡ false → ⊥
 true-false e = cc
@@ -45,14 +48,33 @@ signed-only (pos (suc a)) (negsuc b) p q s e = absurd (true-false (sym s))
 signed-only (negsuc a) (pos b) p q s e = absurd (true-false s)
 signed-only (negsuc a) (negsuc b) p q s e = ap negsuc (omega arith)
 
-one-token : (params : Params) (a b : Token) (bits x y : List Bool) → IsToken params a → IsToken params b
+-- the sum of two numbers, and the first of them
+one-pair : (params : Params) (sum one sum' one' : ℕ) (bits x y : List Bool) → one < 2 ^ bit_length sum → one' < 2 ^ bit_length sum'
+    → Spelled bits (number_code (kr params) sum ++ digits (bit_length sum) one) x → Spelled bits (number_code (kr params) sum' ++ digits (bit_length sum') one') y
+    → (Pair sum one ≡ Pair sum' one') × (x ≡ y)
+one-pair params sum one sum' one' bits x y f g p q =
+    let a = spelled-apart bits (number_code (kr params) sum) (digits (bit_length sum) one) x p in
+    let b = spelled-apart bits (number_code (kr params) sum') (digits (bit_length sum') one') y q in
+    let sum-a = number-only (kr params) sum bits a.0 a.1 in
+    let sum-b = number-only (kr params) sum' bits b.0 b.1 in
+    let sums : sum ≡ sum' = sum-a.0 ∙ sym sum-b.0 in
+    let rest : a.0 ≡ b.0 = sum-a.1 ∙ sym sum-b.1 in
+    let one-a = number-spelled (bit_length sum) one a.0 x f a.2 in
+    let one-b = number-spelled (bit_length sum') one' b.0 y g b.2 in
+    let ones-are : one ≡ one' = sym one-a.0 ∙ ap (number (bit_length sum)) rest ∙ ap (λ n. number (bit_length n) b.0) sums ∙ one-b.0 in (
+      ap (λ n. Pair n one) sums ∙ ap (Pair sum') ones-are,
+      one-a.1 ∙ ap (drop (bit_length sum)) rest ∙ ap (λ n. drop (bit_length n) b.0) sums ∙ sym one-b.1,
+    )
+
+one-token : (mode : Mode) (params : Params) (a b : Token) (bits x y : List Bool) → IsToken mode params a → IsToken mode params b
     → Spelled bits (code params a) x → Spelled bits (code params b) y → (a ≡ b) × (x ≡ y)
 unfolding code IsToken
-one-token params Run Run bits x y f g p q = (refl, p.1 ∙ sym q.1)
-one-token params Run (LastRun count value) bits x y f g p q = absurd (true-false (sym q.0 ∙ p.0))
-one-token params Run (Value value) bits x y f g p q = absurd (omega arith)
-one-token params (LastRun count value) Run bits x y f g p q = absurd (true-false (sym p.0 ∙ q.0))
-one-token params (LastRun count value) (LastRun count' value') bits x y f g p q =
+one-token mode params Run Run bits x y f g p q = (refl, p.1 ∙ sym q.1)
+one-token mode params Run (LastRun count value) bits x y f g p q = absurd (true-false (sym q.0 ∙ p.0))
+one-token mode params Run (Value value) bits x y f g p q = absurd (omega (arith, f, g.0))
+one-token mode params Run (Pair sum one) bits x y f g p q = absurd (omega (arith, f, g.0))
+one-token mode params (LastRun count value) Run bits x y f g p q = absurd (true-false (sym p.0 ∙ q.0))
+one-token mode params (LastRun count value) (LastRun count' value') bits x y f g p q =
     let one = spelled-apart (drop 1 bits) (digits (k params) count) (is_negative value ∷ number_code (kr params) (unsigned_abs value - 1)) x p.1 in
     let other = spelled-apart (drop 1 bits) (digits (k params) count') (is_negative value' ∷ number_code (kr params) (unsigned_abs value' - 1)) y q.1 in
     let count-one = number-spelled (k params) count (drop 1 bits) one.0 f.1 one.1 in
@@ -66,27 +88,33 @@ one-token params (LastRun count value) (LastRun count' value') bits x y f g p q 
       ap (λ n. LastRun n value) (sym count-one.0 ∙ count-other.0) ∙ ap (LastRun count') (signed-only value value' f.2 g.2 sign below),
       below-one.1 ∙ ap (λ b. drop (kr params) (drop (suc (ones (drop 1 b))) (drop 1 b))) behind ∙ sym below-other.1,
     )
-one-token params (LastRun count value) (Value value') bits x y f g p q = absurd (omega arith)
-one-token params (Value value) Run bits x y f g p q = absurd (omega arith)
-one-token params (Value value) (LastRun count value') bits x y f g p q = absurd (omega arith)
-one-token params (Value value) (Value value') bits x y f g p q =
+one-token mode params (LastRun count value) (Value value') bits x y f g p q = absurd (omega (arith, f.0, g.0))
+one-token mode params (LastRun count value) (Pair sum one) bits x y f g p q = absurd (omega (arith, f.0, g.0))
+one-token mode params (Value value) Run bits x y f g p q = absurd (omega (arith, f.0, g))
+one-token mode params (Value value) (LastRun count value') bits x y f g p q = absurd (omega (arith, f.0, g.0))
+one-token mode params (Value value) (Pair sum one) bits x y f g p q = absurd (modes-differ mode f.1 g.1)
+one-token mode params (Value value) (Value value') bits x y f g p q =
     let one = number-only (kr params) (folded value) bits x p in
     let other = number-only (kr params) (folded value') bits y q in
     (ap Value (folded-only value value' (one.0 ∙ sym other.0)), one.1 ∙ sym other.1)
+one-token mode params (Pair sum one) Run bits x y f g p q = absurd (omega (arith, f.0, g))
+one-token mode params (Pair sum one) (LastRun count value) bits x y f g p q = absurd (omega (arith, f.0, g.0))
+one-token mode params (Pair sum one) (Value value) bits x y f g p q = absurd (modes-differ mode g.1 f.1)
+one-token mode params (Pair sum one) (Pair sum' one') bits x y f g p q = one-pair params sum one sum' one' bits x y f.2 g.2 p q
 
-one-reading : (n : ℕ) (params : Params) (xs ys : List Token) (bits x y : List Bool) → AreTokens params xs → AreTokens params ys
+one-reading : (mode : Mode) (n : ℕ) (params : Params) (xs ys : List Token) (bits x y : List Bool) → AreTokens mode params xs → AreTokens mode params ys
     → AreFewest n params xs → AreFewest n params ys → Spelled bits (codes params xs) x → Spelled bits (codes params ys) y → xs ≡ ys
 unfolding AreTokens AreFewest codes
-one-reading n params [] [] bits x y f g h i p q = refl
-one-reading n params [] (b ∷ ys) bits x y f g h i p q = absurd (omega arith)
-one-reading n params (a ∷ xs) [] bits x y f g h i p q = absurd (omega arith)
-one-reading n params (a ∷ xs) (b ∷ ys) bits x y f g h i p q =
+one-reading mode n params [] [] bits x y f g h i p q = refl
+one-reading mode n params [] (b ∷ ys) bits x y f g h i p q = absurd (omega arith)
+one-reading mode n params (a ∷ xs) [] bits x y f g h i p q = absurd (omega arith)
+one-reading mode n params (a ∷ xs) (b ∷ ys) bits x y f g h i p q =
     let one = spelled-apart bits (code params a) (codes (after params a) xs) x p in
     let other = spelled-apart bits (code params b) (codes (after params b) ys) y q in
-    let same = one-token params a b bits one.0 other.0 f.0 g.0 one.1 other.1 in
+    let same = one-token mode params a b bits one.0 other.0 f.0 g.0 one.1 other.1 in
     let rest : xs ≡ ys =
-    one-reading (n - length (terms_of params a)) (after params a) xs ys one.0 x y f.1
-    (subst (λ t. AreTokens (after params t) ys) (sym same.0) g.1)
+    one-reading mode (n - length (terms_of params a)) (after params a) xs ys one.0 x y f.1
+    (subst (λ t. AreTokens mode (after params t) ys) (sym same.0) g.1)
     h.1
     (subst (λ t. AreFewest (n - length (terms_of params t)) (after params t) ys) (sym same.0) i.1)
     one.2
@@ -94,8 +122,12 @@ one-reading n params (a ∷ xs) (b ∷ ys) bits x y f g h i p q =
     ap (λ t. t ∷ xs) same.0 ∙ ap (λ ts. b ∷ ts) rest
 
 -- bytes say one thing
-pub one-meaning : (bytes : List ℕ) (one other : Result (List ℤ) Refusal) → Rlgr bytes one → Rlgr bytes other → one ≡ other
-one-meaning bytes one other p q =
+pub one-answer : (mode : Mode) (bytes : List ℕ) (one other : Result (List ℤ) Refusal) → Decodes mode bytes one → Decodes mode bytes other → one ≡ other
+one-answer mode bytes one other p q =
     p.2 ∙ ap (λ tokens. answer (take 4096 (terms start tokens)))
-    (one-reading 4096 start p.0 q.0 (bits_of bytes) p.1.spelled.0 q.1.spelled.0 p.1.tokens_fit q.1.tokens_fit p.1.fewest q.1.fewest p.1.spelled.1 q.1.spelled.1)
+    (one-reading mode 4096 start p.0 q.0 (bits_of bytes) p.1.spelled.0 q.1.spelled.0 p.1.tokens_fit q.1.tokens_fit p.1.fewest q.1.fewest p.1.spelled.1 q.1.spelled.1)
     ∙ sym q.2
+
+-- in RLGR1
+pub one-meaning : (bytes : List ℕ) (one other : Result (List ℤ) Refusal) → Rlgr bytes one → Rlgr bytes other → one ≡ other
+one-meaning bytes one other p q = one-answer Rlgr1 bytes one other p q

@@ -1,11 +1,12 @@
 -- What one step of the decoder has read, and where the values stand meanwhile.
-use Rattle.std.specs.Prelude.{ℕ, ◌<◌, ◌≤◌, ◌≡◌, length, min, ◌/◌, ◌%◌, ◌==◌, ℤ, pos, negsuc, Bool, List, ◌++◌, map, take, replicate, if◌then◌else◌}
+use Rattle.std.specs.Prelude.{ℕ, ◌<◌, ◌≤◌, ◌≡◌, length, min, ℤ, pos, negsuc, Bool, true, List, ◌++◌, map, take, replicate, if◌then◌else◌}
 use Rattle.std.specs.Option.{option_to_list}
 use Rattle.gfx_bits.specs.Bits.{Spelled}
+use Rattle.gfx_rlgr.specs.declared.mode.Mode.{Mode}
 use Rattle.gfx_rlgr.specs.declared.params.Params.{Params}
 use Rattle.gfx_rlgr.specs.declared.params.TheConstants.{PARAMETER_MAX}
 use Rattle.gfx_rlgr.specs.declared.decoder.Terms.{Terms}
-use Rattle.gfx_rlgr.specs.Code.{Token, kr, number_code, after_number, code, after, IsToken, terms_of}
+use Rattle.gfx_rlgr.specs.Code.{Token, kr, number_code, after_number, code, after, IsToken, adds_up, terms_of}
 use Rattle.gfx_rlgr.specs.Rlgr.{in_range}
 
 -- both parameters keep to their range
@@ -24,14 +25,10 @@ pub record ReadsNumber (old new : List Bool) (before behind : Params) (number : 
 abbrev pub kept : ℤ → ℤ
 kept value = if in_range value then value else negsuc 32767
 
--- the value that a number stands for
-abbrev pub unfold_number : ℕ → ℤ
-unfold_number n = if n % 2 == 0 then pos (n / 2) else negsuc (n / 2)
-
 -- a token was read, and these are its terms
-pub record ReadsToken (old new : List Bool) (before behind : Params) (shown : List ℤ) : Type 0 where
+pub record ReadsToken (mode : Mode) (old new : List Bool) (before behind : Params) (shown : List ℤ) : Type 0 where
   pub token : Token
-  pub fits : IsToken before token
+  pub fits : IsToken mode before token
   pub spelled : Spelled old (code before token) new
   pub params : behind ≡ after before token
   pub shows : shown ≡ map kept (terms_of before token)
@@ -45,17 +42,18 @@ unfoldable pub filled : ℕ → List ℤ → List ℤ
 filled n values = take n (values ++ replicate n (pos 0))
 
 -- a token was written, and these are its terms
-pub record WritesToken (old new : List Bool) (before behind : Params) (shown : List ℤ) : Type 0 where
+pub record WritesToken (mode : Mode) (old new : List Bool) (before behind : Params) (shown : List ℤ) : Type 0 where
   pub token : Token
-  pub fits : IsToken before token
+  pub fits : IsToken mode before token
+  pub adds : adds_up token ≡ true
   pub spelled : new ≡ old ++ code before token
   pub params : behind ≡ after before token
   pub shows : shown ≡ terms_of before token
 
 -- a token was written for the values from one place to the next; the last may give zeros beyond them
-pub record Covers (values : List ℤ) (at next : ℕ) (old new : List Bool) (before behind : Params) : Type 0 where
+pub record Covers (mode : Mode) (values : List ℤ) (at next : ℕ) (old new : List Bool) (before behind : Params) : Type 0 where
   pub shown : List ℤ
-  pub written : WritesToken old new before behind shown
+  pub written : WritesToken mode old new before behind shown
   pub within : AreWithin behind
   pub on : (at < next) × (next ≤ length values)
   pub more : ℕ

@@ -2,9 +2,11 @@ ghost use Rattle.std.specs.Prelude.{All, ◌≡◌, ◌+◌, ◌<◌, ◌≤◌,
 ghost use Rattle.gfx_base.specs.declared.refusal.Refusal.TheVariants.{CoefficientRange};
 ghost use Rattle.gfx_bits.specs.Bits.{bits_of};
 ghost use Rattle.gfx_rlgr.specs.Bound.{greatest};
-ghost use Rattle.gfx_rlgr.specs.Code.{Token, start, k};
+ghost use Rattle.gfx_rlgr.specs.declared.mode.Mode.{Mode};
+ghost use Rattle.gfx_rlgr.specs.declared.mode.Mode.TheVariants.{Rlgr1};
+ghost use Rattle.gfx_rlgr.specs.Code.{Token, start, k, unfold_number};
 ghost use Rattle.gfx_rlgr.specs.Rlgr.{Rlgr, Reading, terms as terms_from};
-ghost use Rattle.gfx_rlgr.specs.Steps.{AreWithin, ReadsNumber, ReadsToken, kept, unfold_number, shown, filled};
+ghost use Rattle.gfx_rlgr.specs.Steps.{AreWithin, ReadsNumber, ReadsToken, kept, shown, filled};
 
 use crate::params::{MAGNITUDE_MAX, Params, TERMS};
 use gfx_base::Refusal;
@@ -39,7 +41,7 @@ pub fn decode(bytes: &[u8], out: &mut [i16; 4096]) -> Result<u16, Refusal>
 
 // Reads tokens until the values are there, and gives the greatest magnitude.
 fn fill(bytes: &[u8], out: &mut [i16; 4096]) -> u16
-    ensures { (tokens : List Token) × Reading (bits_of bytes.now) tokens
+    ensures { (tokens : List Token) × Reading Rlgr1 (bits_of bytes.now) tokens
         × (out.new ≡ map kept (take 4096 (terms_from start tokens)))
         × (result ≡ greatest out.new) }
 {
@@ -97,7 +99,7 @@ fn place(out: &mut [i16; 4096], at: usize, terms: Terms) -> (usize, u16)
 #[inline(always)]
 fn read_token(bits: &mut BitReader<'_>, params: &mut Params) -> Terms
     requires { AreWithin params.old }
-    ensures reads { ReadsToken bits.old bits.new params.old params.new (shown result) }
+    ensures reads { ReadsToken Rlgr1 bits.old bits.new params.old params.new (shown result) }
     ensures within { AreWithin params.new }
 {
     let k = params.k();
@@ -123,7 +125,7 @@ fn read_last_run(bits: &mut BitReader<'_>, params: &mut Params, width: u8) -> Te
     requires within { AreWithin params.old }
     requires width { width ≡ k params.old }
     requires run { 0 < width }
-    ensures { ReadsToken (true ∷ bits.old) bits.new params.old params.new (shown result) }
+    ensures { (mode : Mode) → ReadsToken mode (true ∷ bits.old) bits.new params.old params.new (shown result) }
 {
     let zeros = bits.read(width);
     let negative = bits.read(1) == 1;
@@ -140,7 +142,7 @@ fn read_last_run(bits: &mut BitReader<'_>, params: &mut Params, width: u8) -> Te
 fn read_value(bits: &mut BitReader<'_>, params: &mut Params) -> i16
     requires within { AreWithin params.old }
     requires single { k params.old ≡ 0 }
-    ensures { ReadsToken bits.old bits.new params.old params.new (result ∷ []) }
+    ensures { ReadsToken Rlgr1 bits.old bits.new params.old params.new (result ∷ []) }
 {
     let number = read_number(bits, params);
     params.after_value(number);

@@ -1,6 +1,8 @@
 ghost use Rattle.std.specs.Prelude.{◌≡◌, ◌≢◌, ◌+◌, ◌-◌, ◌*◌, ◌<◌, ◌≤◌, ◌^◌, ◌∷◌, ◌++◌, [], ℤ, pos, List, length, take, min, replicate, slice_index_or, IfOk, OnOk, Ok, true, if◌then◌else◌};
 ghost use Rattle.std.specs.List.{AllPass};
 ghost use Rattle.gfx_rlgr.specs.Bound.{AreSmall};
+ghost use Rattle.gfx_rlgr.specs.declared.mode.Mode.{Mode};
+ghost use Rattle.gfx_rlgr.specs.declared.mode.Mode.TheVariants.{Rlgr1};
 ghost use Rattle.gfx_rlgr.specs.Code.{start, k, kr, number_code, after_number, folded, is_negative};
 ghost use Rattle.gfx_rlgr.specs.Rlgr.{Rlgr, Written, in_range};
 ghost use Rattle.gfx_rlgr.specs.Steps.{AreWithin, WritesToken, Covers};
@@ -51,7 +53,7 @@ fn write_token(
     requires within { AreWithin params.old }
     requires place { at < length values.now }
     requires range { AllPass in_range values.now }
-    ensures { IfOk result (λ next. Covers values.now at next bits.old bits.new params.old params.new) }
+    ensures { IfOk result (λ next. Covers Rlgr1 values.now at next bits.old bits.new params.old params.new) }
 {
     let width = params.k();
     if width == 0 {
@@ -101,7 +103,7 @@ fn write_last_run(
     requires run { 0 < width }
     requires zeros { zeros < 2 ^ width }
     requires value { value ≢ pos 0 }
-    ensures { OnOk result (WritesToken bits.old bits.new params.old params.new (replicate zeros (pos 0) ++ value ∷ [])) }
+    ensures { OnOk result ((mode : Mode) → WritesToken mode bits.old bits.new params.old params.new (replicate zeros (pos 0) ++ value ∷ [])) }
 {
     bits.push(1, 1)?;
     bits.push(zeros, width)?;
@@ -122,7 +124,7 @@ fn write_value(bits: &mut BitWriter, params: &mut Params, value: i32) -> Result<
     requires within { AreWithin params.old }
     requires single { k params.old ≡ 0 }
     requires range { in_range value ≡ true }
-    ensures { OnOk result (WritesToken bits.old bits.new params.old params.new (value ∷ [])) }
+    ensures { OnOk result (WritesToken Rlgr1 bits.old bits.new params.old params.new (value ∷ [])) }
 {
     let number = folded_number(value);
     write_number(bits, params, number)?;

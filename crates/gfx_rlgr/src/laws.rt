@@ -1,32 +1,54 @@
-ghost use Rattle.std.specs.Prelude.{◌≡◌, ℕ, ℤ, List, length, Result};
+ghost use Rattle.std.specs.Prelude.{◌≡◌, ◌≤◌, ℕ, ℤ, List, length, false, Result, Ok, Err};
+ghost use Rattle.std.specs.List.{AllPass, list_all};
 ghost use Rattle.gfx_base.specs.declared.refusal.Refusal.{Refusal};
+ghost use Rattle.gfx_base.specs.declared.refusal.Refusal.TheVariants.{CoefficientRange};
 ghost use Rattle.gfx_base.specs.Field.{IsBytes};
-ghost use Rattle.gfx_rlgr.specs.Rlgr.{Rlgr, Written};
-ghost use Rattle.gfx_rlgr.specs.Says.{rlgr};
-ghost use Rattle.gfx_rlgr.specs.Writes.{rlgr_bytes};
+ghost use Rattle.gfx_bits.specs.Bits.{bits_of};
+ghost use Rattle.gfx_rlgr.specs.declared.mode.Mode.{Mode};
+ghost use Rattle.gfx_rlgr.specs.Bound.{AreSmall};
+ghost use Rattle.gfx_rlgr.specs.Code.{Token, adds_up};
+ghost use Rattle.gfx_rlgr.specs.Rlgr.{Reading, Decodes, Encodes, in_range};
+ghost use Rattle.gfx_rlgr.specs.Says.{decoded};
+ghost use Rattle.gfx_rlgr.specs.Writes.{encoded};
 
 use crate::params::TERMS;
 
-/// One bit string has at most one reading, so bytes say one thing.
+/// One bit string has at most one reading in a mode, so bytes say one thing.
 pub fn one_meaning()
-    ensures { (bytes : List ℕ) (one other : Result (List ℤ) Refusal) → Rlgr bytes one → Rlgr bytes other → one ≡ other }
+    ensures { (mode : Mode) (bytes : List ℕ) (one other : Result (List ℤ) Refusal) → Decodes mode bytes one → Decodes mode bytes other → one ≡ other }
 {}
 
-/// Bytes always say something, and what they say is a function of them.
+/// Bytes always say something in a mode, and what they say is a function of them.
 pub fn what_bytes_say()
-    ensures says { (bytes : List ℕ) → Rlgr bytes (rlgr bytes) }
-    ensures only { (bytes : List ℕ) (due : Result (List ℤ) Refusal) → Rlgr bytes due → due ≡ rlgr bytes }
+    ensures says { (mode : Mode) (bytes : List ℕ) → Decodes mode bytes (decoded mode bytes) }
+    ensures only { (mode : Mode) (bytes : List ℕ) (due : Result (List ℤ) Refusal) → Decodes mode bytes due → due ≡ decoded mode bytes }
 {}
 
-/// Values have one spelling, so the bytes that a server writes for them follow from them alone.
+/// Bytes with a pair whose first number is above the sum are refused, whatever place the pair has.
+pub fn broken_pairs_are_refused()
+    ensures { (mode : Mode) (bytes : List ℕ) (tokens : List Token) → Reading mode (bits_of bytes) tokens → list_all adds_up tokens ≡ false → decoded mode bytes ≡ Err CoefficientRange }
+{}
+
+/// Values have one spelling in a mode, so the bytes that a server writes for them follow from them
+/// alone.
 pub fn one_writing()
-    ensures { (values : List ℤ) (one other : List ℕ) → IsBytes one → IsBytes other → Written values one → Written values other → one ≡ other }
+    ensures { (mode : Mode) (values : List ℤ) (one other : List ℕ) → IsBytes one → IsBytes other → Encodes mode values one → Encodes mode values other → one ≡ other }
 {}
 
 /// Values always have such a spelling, and the bytes that a server writes for them are a function
 /// of them.
 pub fn what_is_written()
-    ensures written { (values : List ℤ) → length values ≡ TERMS → Written values (rlgr_bytes values) }
-    ensures bytes { (values : List ℤ) → IsBytes (rlgr_bytes values) }
-    ensures only { (values : List ℤ) (bytes : List ℕ) → length values ≡ TERMS → IsBytes bytes → Written values bytes → bytes ≡ rlgr_bytes values }
+    ensures written { (mode : Mode) (values : List ℤ) → length values ≡ TERMS → Encodes mode values (encoded mode values) }
+    ensures bytes { (mode : Mode) (values : List ℤ) → IsBytes (encoded mode values) }
+    ensures only { (mode : Mode) (values : List ℤ) (bytes : List ℕ) → length values ≡ TERMS → IsBytes bytes → Encodes mode values bytes → bytes ≡ encoded mode values }
+{}
+
+/// The bytes that a server writes for values in range say these values.
+pub fn written_is_read()
+    ensures { (mode : Mode) (values : List ℤ) (bytes : List ℕ) → length values ≡ TERMS → AllPass in_range values → Encodes mode values bytes → Decodes mode bytes (Ok values) }
+{}
+
+/// Values as small as those of a level of a tile have codes that fit a tile's 16-bit lengths.
+pub fn codes_are_short()
+    ensures { (mode : Mode) (values : List ℤ) (bytes : List ℕ) → length values ≡ TERMS → AreSmall values → Encodes mode values bytes → length bytes ≤ 65535 }
 {}

@@ -7,10 +7,10 @@ use Rattle.gfx_rlgr.proofs.Reading.{last-run-read, sign-bit}
 use Rattle.gfx_rlgr.proofs.decoder.read_last_run.Goals as goal
 
 pub returns : goal.returns
-returns c =
+returns c mode =
     let fits : FitsSigned w16 c.signed.result = search rules in
     rw (to_z-of_z w16 c.signed.result fits)
-    (last-run-read c.args.bits.now c.read-negative.new.self c.read_number-below.new.bits c.args.params.now c.after_last_run.new.self c.read_number-below.new.params
+    (last-run-read mode c.args.bits.now c.read-negative.new.self c.read_number-below.new.bits c.args.params.now c.after_last_run.new.self c.read_number-below.new.params
     c.read-zeros.result c.read_number-below.result (c.read-negative.result == 1) c.signed.result
     (subst (λ n. 0 < n) c.requires.width c.requires.run)
     (c.read-zeros.ensures.value ∙ ap (λ n. number n c.args.bits.now) c.requires.width)

@@ -12,7 +12,7 @@ pub returns : goal.returns
 returns c =
     let plain : to_z w32 (of_z w32 c.args.value) ≡ c.args.value = to_z-of_z w32 c.args.value c.ranges.value in
     on_ok_weaker c.write_number.result
-    (λ written. last-run-written c.args.bits.now c.push.new.self c.push-2.new.self c.push-3.new.self c.write_number.new.bits
+    (λ written mode. last-run-written mode c.args.bits.now c.push.new.self c.push-2.new.self c.push-3.new.self c.write_number.new.bits
     c.args.params.now c.after_last_run.new.self c.write_number.new.params c.args.zeros c.sign_of.result c.args.value
     (subst (λ n. 0 < n) c.requires.width c.requires.run)
     (subst (λ n. c.args.zeros < 2 ^ n) c.requires.width c.requires.zeros)

@@ -13,7 +13,8 @@ use Rattle.gfx_base.specs.declared.refusal.Refusal.TheVariants.{ClearLengths, Ba
 use Rattle.gfx_base.specs.Results.{check}
 use Rattle.gfx_base.proofs.FieldLemmas.{number_at-written_2}
 use Rattle.gfx_base.proofs.ResultLemmas.{and_then_at}
-use Rattle.gfx_clear_store.specs.Rings.{Places, Rings, IsRing, AreRings, added, next_place, slot_at, same_colour, stands, least_place, with_short}
+use Rattle.gfx_base.specs.Colour.{same_colour}
+use Rattle.gfx_clear_store.specs.Rings.{Places, Rings, IsRing, AreRings, added, next_place, slot_at, stands, least_place, with_short}
 use Rattle.gfx_clear_store.specs.declared.store.TheConstants.{BARS, SHORTS, MOST_BAR}
 use Rattle.gfx_clear_store.proofs.Walks.{same_colour-Decides, stands_is}
 use Rattle.gfx_clear_bands.specs.Bars.{Bar, kept_bar, bar, worded_bar, word_of, hit_bar, short_bar, missed_bar, made_bar, colours}

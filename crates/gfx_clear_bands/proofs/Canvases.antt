@@ -5,7 +5,8 @@ use Rattle.gfx_base.specs.declared.pixel.Pixel.{Pixel}
 use Rattle.gfx_base.specs.declared.pixel.Rgb.{Rgb}
 use Rattle.gfx_clear_store.specs.Rings.{Rings}
 use Rattle.gfx_clear_bands.specs.Bands.{drawing, drawn_down}
-use Rattle.gfx_clear_bands.specs.Canvas.{opaque, colour_of, is_drawn, on_canvas}
+use Rattle.gfx_clear_bands.specs.Canvas.{is_drawn, on_canvas}
+use Rattle.gfx_base.specs.Colour.{opaque, colour_of}
 use Rattle.gfx_clear_bands.proofs.Drawings.{draw_step}
 
 -- one pixel more

@@ -9,7 +9,8 @@ use Rattle.gfx_base.proofs.ResultLemmas.{and_then_at, and_then_refused}
 use Rattle.gfx_clear_store.specs.Rings.{Rings}
 use Rattle.gfx_clear_store.specs.declared.store.TheConstants.{MOST_BAR}
 use Rattle.gfx_clear_bands.specs.Bars.{Bar, bar}
-use Rattle.gfx_clear_bands.specs.Bands.{Drawing, drawing, Stop, stopped, here, drawn_down, is_shaped, IsShaped, band_head, height_of, draws_bar, columns, one_band, bands_within}
+use Rattle.gfx_clear_bands.specs.Bands.{Drawing, drawing, Stop, stopped, here, drawn_down, is_shaped, band_head, height_of, draws_bar, columns, one_band, bands_within}
+use Rattle.gfx_clear_bands.specs.Inner.{IsShaped}
 use Rattle.gfx_clear_bands.specs.declared.band.Band.{Band}
 use Rattle.gfx_clear_bands.specs.declared.band.TheConstants.{HEAD}
 

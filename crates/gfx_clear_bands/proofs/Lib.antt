@@ -6,4 +6,6 @@ pub mod Outputs
 pub mod Again
 pub mod Painted
 pub mod ReadAgain
+pub mod Shown
+pub mod ColumnsShown
 pub mod Numbers

@@ -2,7 +2,7 @@
 use Rattle.std.proofs.Common.{◌≡◌, ℕ, suc, ◌+◌, ◌-◌, ◌<◌, ◌≤◌, Bool, true, false, not, cond, List, [], ◌∷◌, ◌++◌, length, take, drop, get_or, refl, sym, ap, ◌∙◌, arith, add-one, drop-cons, append_assoc, append-nil, length-drop}
 use Rattle.std.proofs.lemmas.List.{take_more}
 use Rattle.gfx_base.specs.declared.pixel.Rgb.{Rgb}
-use Rattle.gfx_clear_store.specs.Rings.{same_colour}
+use Rattle.gfx_base.specs.Colour.{same_colour}
 use Rattle.gfx_clear_bands.specs.Writing.{black, column, without_front, without_end, before, short_of, row_of, row_unless_none}
 
 pub front_pass : (background c : Rgb) (cs : List Rgb) → same_colour c background ≡ true → without_front background (c ∷ cs) ≡ without_front background cs

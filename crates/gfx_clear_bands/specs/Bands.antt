@@ -1,6 +1,6 @@
 -- Bands, read into a picture ([MS-RDPEGFX] 2.2.4.1.1.2, CLEARCODEC_BAND). The order of the checks is this
 -- project's own rule.
-use Rattle.std.specs.Prelude.{◌≡◌, ℕ, zero, suc, ◌+◌, ◌-◌, ◌*◌, ◌<◌, ◌≤◌, Bool, true, ◌&&◌, nat_le, nat_lt, List, [], ◌∷◌, length, drop, slice_set, Result, Ok, Err}
+use Rattle.std.specs.Prelude.{◌≡◌, ℕ, zero, suc, ◌+◌, ◌-◌, ◌*◌, Bool, true, ◌&&◌, nat_le, nat_lt, List, [], ◌∷◌, length, drop, slice_set, Result, Ok, Err}
 use Rattle.std.specs.Int.{w16}
 use Rattle.gfx_base.specs.declared.answer.Cause.{Cause}
 use Rattle.gfx_base.specs.declared.answer.Cause.TheVariants.{Refused, Memory}
@@ -57,13 +57,6 @@ abbrev pub is_shaped : ℕ → ℕ → Band → Bool
 is_shaped width height band =
     nat_le band.left band.right && nat_lt band.right width && nat_le band.top band.bottom && nat_lt band.bottom height
     && nat_lt (band.bottom - band.top) MOST_BAR
-
-pub record IsShaped (width height : ℕ) (band : Band) : Type 0 where
-  pub sides : band.left ≤ band.right
-  pub inside : band.right < width
-  pub rows : band.top ≤ band.bottom
-  pub above : band.bottom < height
-  pub low : band.bottom - band.top < MOST_BAR
 
 unfoldable pub band_head : ℕ → ℕ → List ℕ → Result Band Refusal
 band_head width height bytes = do

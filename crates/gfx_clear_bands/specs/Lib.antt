@@ -1,6 +1,7 @@
 pub mod Bars
 pub mod Bands
 pub mod Canvas
-pub mod Reading
+pub mod Inner
 pub mod Writing
 pub mod ReadBack
+pub mod Pixels

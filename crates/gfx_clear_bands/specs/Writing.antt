@@ -4,7 +4,8 @@ use Rattle.std.specs.Prelude.{◌≡◌, ℕ, zero, suc, ◌+◌, ◌-◌, ◌*�
 use Rattle.std.specs.List.{flat_map}
 use Rattle.std.specs.Int.{w16, to_le_bytes}
 use Rattle.gfx_base.specs.declared.pixel.Rgb.{Rgb}
-use Rattle.gfx_clear_store.specs.Rings.{Rings, Marked, with_mark, same_colour, least_place, with_bar, with_short}
+use Rattle.gfx_base.specs.Colour.{same_colour}
+use Rattle.gfx_clear_store.specs.Rings.{Rings, Marked, with_mark, least_place, with_bar, with_short}
 use Rattle.gfx_clear_store.specs.declared.store.TheConstants.{MOST_BAR}
 use Rattle.gfx_clear_bands.specs.declared.word.TheConstants.{HIT, SHORT_HIT, OFF}
 

@@ -1,6 +1,7 @@
 //! The head of a band.
 ghost use Rattle.std.specs.Prelude.{◌≡◌, ◌≤◌, true, length, IfOk, OnOk};
-ghost use Rattle.gfx_clear_bands.specs.Bands.{band_head, is_shaped, IsShaped};
+ghost use Rattle.gfx_clear_bands.specs.Bands.{band_head, is_shaped};
+ghost use Rattle.gfx_clear_bands.specs.Inner.{IsShaped};
 
 use crate::bar::colour_at;
 use gfx_base::{Refusal, Rgb};

@@ -5,7 +5,7 @@ ghost use Rattle.arrayvec.specs.ArrayVec.{array_vec_len};
 ghost use Rattle.gfx_base.specs.Outcome.{Says};
 ghost use Rattle.gfx_clear_store.specs.Rings.{with_mark, with_bar, with_short};
 ghost use Rattle.gfx_clear_bands.specs.Bars.{bar, hit_bar, short_bar, missed_bar, colour_at, colours, made_bar};
-ghost use Rattle.gfx_clear_bands.specs.Reading.{read_as};
+ghost use Rattle.gfx_clear_bands.specs.Inner.{read_as};
 
 use crate::word::{Word, word_of};
 use arrayvec::ArrayVec;

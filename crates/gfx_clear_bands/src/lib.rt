@@ -14,7 +14,7 @@ mod reading;
 mod word;
 mod writing;
 
-pub use laws::written_is_read;
+pub use laws::{band_shows, written_is_read};
 pub use painting::{DRAWN, paint_bands};
 pub use reading::read_bands;
 pub use writing::write_bands;

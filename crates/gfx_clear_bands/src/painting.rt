@@ -1,9 +1,9 @@
 //! Bands painted on a canvas.
 ghost use Rattle.std.specs.Prelude.{◌≡◌, ◌<◌, ◌≤◌, ◌+◌, ◌-◌, ◌*◌, length, ℕ, ◌^◌, IfOk};
 ghost use Rattle.gfx_clear_store.specs.Rings.{Rings};
-ghost use Rattle.gfx_clear_bands.specs.Canvas.{opaque, on_canvas};
+ghost use Rattle.gfx_clear_bands.specs.Canvas.{on_canvas};
 ghost use Rattle.gfx_clear_bands.specs.Bands.{drawn_down, is_shaped, height_of, columns, one_band, bands, Draws};
-ghost use Rattle.gfx_clear_bands.specs.Reading.{DrawsColumn, DrawsOn};
+ghost use Rattle.gfx_clear_bands.specs.Inner.{DrawsColumn, DrawsOn};
 
 use crate::band::{Band, HEAD, band_head};
 use crate::bar::{held_bar, read_bar};
@@ -126,20 +126,7 @@ fn paint_down(width: usize, mut at: usize, colours: &[Rgb], canvas: &mut [Pixel]
     ensures { (held : Rings) → on_canvas canvas.new held ≡ drawn_down width at colours.now (on_canvas canvas.old held) }
 {
     'colours: for colour in colours {
-        canvas[at] = opaque(*colour);
+        canvas[at] = colour.opaque();
         at += width;
-    }
-}
-
-/// A colour as a canvas has it where it is drawn.
-#[inline(always)]
-fn opaque(colour: Rgb) -> Pixel
-    ensures { result ≡ opaque colour }
-{
-    Pixel {
-        b: colour.b,
-        g: colour.g,
-        r: colour.r,
-        a: DRAWN,
     }
 }

@@ -2,7 +2,7 @@
 ghost use Rattle.std.specs.Prelude.{◌≡◌, ◌<◌, ◌≤◌, ◌+◌, ◌-◌, ◌*◌, length, ℕ, ◌^◌, IfOk};
 ghost use Rattle.gfx_clear_store.specs.Rings.{Rings};
 ghost use Rattle.gfx_clear_bands.specs.Bands.{drawing, drawn_down, is_shaped, height_of, columns, one_band, bands, Draws};
-ghost use Rattle.gfx_clear_bands.specs.Reading.{DrawsColumn, DrawsOn};
+ghost use Rattle.gfx_clear_bands.specs.Inner.{DrawsColumn, DrawsOn};
 
 use crate::band::{Band, HEAD, band_head};
 use crate::bar::read_bar;

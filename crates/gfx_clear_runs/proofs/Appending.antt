@@ -9,7 +9,8 @@ use Rattle.gfx_base.specs.declared.answer.Cause.TheVariants.{Refused, Memory}
 use Rattle.gfx_base.specs.declared.refusal.Refusal.{Refusal}
 use Rattle.gfx_base.specs.declared.refusal.Refusal.TheVariants.{RunTotal}
 use Rattle.gfx_clear_runs.specs.Elements.{Element, pixels_in, area_in}
-use Rattle.gfx_clear_runs.specs.Reading.{Part, ended, refused, behind, part_of, pixels_of, total_of, covering, reason_of}
+use Rattle.gfx_clear_runs.specs.Reading.{Part, ended, refused, behind, part_of, pixels_of, total_of, covering}
+use Rattle.gfx_clear_runs.specs.Inner.{reason_of}
 use Rattle.gfx_clear_runs.specs.Outcome.{Appends, IsBegun}
 use Rattle.gfx_clear_runs.proofs.Parts.{part_step}
 

@@ -1,53 +1,12 @@
 -- A palette grows by the colours of pixels.
-use Rattle.std.proofs.Common.{◌≡◌, ℕ, ◌+◌, ◌<◌, ◌≤◌, Bool, true, false, List, [], ◌∷◌, ◌++◌, length, take, drop, replicate, get_or, zero, suc, refl, sym, ap, ◌∙◌, arith, length-append, Some, None}
-use Rattle.std.specs.Prelude.{◌||◌}
+use Rattle.std.proofs.Common.{◌≡◌, ℕ, ◌<◌, ◌≤◌, List, [], ◌∷◌, ◌++◌, length, take, drop, replicate, get_or, zero, suc, refl, sym, ap, ◌∙◌, arith, Some, None}
 use Rattle.std.proofs.lemmas.List.{take-append-drop}
 use Rattle.std.proofs.lemmas.Bool.{lt-ltb, le-ltb, lt-leb, le-leb}
 use Rattle.gfx_clear_runs.specs.declared.palette.TheConstants.{PALETTE_MOST}
 use Rattle.gfx_base.specs.declared.pixel.Rgb.{Rgb}
-use Rattle.gfx_clear_runs.specs.Writing.{same_colour, has_colour, with_colour, with_colours, rlex_by, segments_written}
-use Rattle.gfx_clear_runs.proofs.Colours.{same_itself}
-
--- a new colour is one more
-pub length_with : (palette : List Rgb) (colour : Rgb) → has_colour palette colour ≡ false → length (with_colour palette colour) ≡ length palette + 1
-unfolding with_colour
-length_with palette colour e = rw e (length-append palette (colour ∷ []))
-
-pub with_held : (palette : List Rgb) (colour : Rgb) → has_colour palette colour ≡ true → with_colour palette colour ≡ palette
-unfolding with_colour
-with_held palette colour e = rw e refl
-
-pub with_new : (palette : List Rgb) (colour : Rgb) → has_colour palette colour ≡ false → with_colour palette colour ≡ palette ++ colour ∷ []
-unfolding with_colour
-with_new palette colour e = rw e refl
-
-or_true : (b : Bool) → (b || true) ≡ true
-or_true true = refl
-or_true false = refl
-
-has_last : (palette : List Rgb) (colour : Rgb) → has_colour (palette ++ colour ∷ []) colour ≡ true
-has_last [] colour = rw (same_itself colour) refl
-has_last (held ∷ palette) colour = rw (has_last palette colour) (or_true (same_colour colour held))
-
-has_by : (palette : List Rgb) (colour : Rgb) (held : Bool) → has_colour palette colour ≡ held → has_colour (with_colour palette colour) colour ≡ true
-has_by palette colour true e = ap (λ z. has_colour z colour) (with_held palette colour e) ∙ e
-has_by palette colour false e = ap (λ z. has_colour z colour) (with_new palette colour e) ∙ has_last palette colour
-
-longer_by : (palette : List Rgb) (colour : Rgb) (held : Bool) → has_colour palette colour ≡ held → length palette ≤ length (with_colour palette colour)
-longer_by palette colour true e = omega (arith, ap length (with_held palette colour e))
-longer_by palette colour false e = omega (arith, length_with palette colour e)
-
--- a colour that was put in is there
-pub has_with : (palette : List Rgb) (colour : Rgb) → has_colour (with_colour palette colour) colour ≡ true
-has_with palette colour = has_by palette colour (has_colour palette colour) refl
-
-longer_with : (palette : List Rgb) (colour : Rgb) → length palette ≤ length (with_colour palette colour)
-longer_with palette colour = longer_by palette colour (has_colour palette colour) refl
-
-pub longer_all : (palette pixels : List Rgb) → length palette ≤ length (with_colours palette pixels)
-unfolding with_colours
-longer_all palette [] = omega arith
-longer_all palette (pixel ∷ pixels) = omega (arith, longer_with palette pixel, longer_all (with_colour palette pixel) pixels)
+use Rattle.gfx_base.specs.Colour.{with_colour, with_colours}
+use Rattle.gfx_base.proofs.Palettes.{with_held, has_with, longer_all}
+use Rattle.gfx_clear_runs.specs.Writing.{rlex_by, segments_written}
 
 -- copies of a colour put it in once
 with_copies : (n : ℕ) (palette : List Rgb) (colour : Rgb) (rest : List Rgb) → with_colours (with_colour palette colour) (replicate n colour ++ rest) ≡ with_colours (with_colour palette colour) rest

@@ -1,26 +1,12 @@
 -- Colours that are the same, and the longest runs of pixels.
-use Rattle.std.proofs.Common.{◌≡◌, ℕ, ◌+◌, ◌<◌, ◌≤◌, Bool, true, false, List, [], ◌∷◌, ◌++◌, length, take, drop, replicate, get_or, zero, suc, refl, sym, ap, ◌∙◌, arith, eq-eqb, eqb-true}
+use Rattle.std.proofs.Common.{◌≡◌, ℕ, ◌+◌, ◌<◌, ◌≤◌, Bool, true, false, List, [], ◌∷◌, ◌++◌, length, take, drop, replicate, get_or, zero, suc, refl, sym, ap, ◌∙◌, arith}
 use Rattle.std.proofs.lemmas.List.{take_more, replicate_more, drop_more, drop_all, take-append-drop}
-use Rattle.std.specs.Prelude.{nat_eq, ◌&&◌, if◌then◌else◌}
+use Rattle.std.specs.Prelude.{if◌then◌else◌}
 use Rattle.gfx_base.specs.declared.pixel.Rgb.{Rgb}
-use Rattle.gfx_clear_runs.specs.Writing.{Run, run, same_colour, joined, longest_runs, begins}
-
-pub same_itself : (colour : Rgb) → same_colour colour colour ≡ true
-same_itself colour = rw (eq-eqb colour.b colour.b refl, eq-eqb colour.g colour.g refl, eq-eqb colour.r colour.r refl) refl
-
-and_true : (a b : Bool) → (a && b) ≡ true → (a ≡ true) × (b ≡ true)
-and_true true b e = (refl, e)
-and_true false b e = absurd cc
-
--- colours that are the same are one
-pub same_is : (c d : Rgb) → same_colour c d ≡ true → c ≡ d
-same_is c d e =
-    let first = and_true (nat_eq c.b d.b) (nat_eq c.g d.g && nat_eq c.r d.r) e in
-    let second = and_true (nat_eq c.g d.g) (nat_eq c.r d.r) first.1 in
-    let b : c.b ≡ d.b = eqb-true c.b d.b first.0 in
-    let g : c.g ≡ d.g = eqb-true c.g d.g second.0 in
-    let r : c.r ≡ d.r = eqb-true c.r d.r second.1 in
-    rw (b, g, r) refl
+use Rattle.gfx_base.specs.Colour.{same_colour}
+use Rattle.gfx_base.proofs.Palettes.{same_itself, same_is}
+use Rattle.gfx_clear_runs.specs.Writing.{Run, run, joined, longest_runs}
+use Rattle.gfx_clear_runs.specs.Inner.{begins}
 
 -- one more pixel of a run
 pub colour_more : (colour pixel : Rgb) (pixels : List Rgb) (i : ℕ) → i < length pixels → pixel ≡ get_or pixels i pixel → same_colour colour pixel ≡ true

@@ -7,4 +7,5 @@ pub mod Putting
 pub mod Collecting
 pub mod Writings
 pub mod Segmented
+pub mod Spelled
 pub mod Numbers

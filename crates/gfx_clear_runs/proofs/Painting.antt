@@ -6,8 +6,10 @@ use Rattle.gfx_base.specs.declared.pixel.Rgb.{Rgb}
 use Rattle.gfx_base.specs.declared.refusal.Refusal.{Refusal}
 use Rattle.gfx_base.specs.declared.refusal.Refusal.TheVariants.{RunTotal}
 use Rattle.gfx_clear_runs.specs.Elements.{Element, pixels_in, area_in}
-use Rattle.gfx_clear_runs.specs.Reading.{Part, ended, refused, behind, pixels_of, covering, covered, reason_of}
-use Rattle.gfx_clear_runs.specs.Outcome.{opaque, Paints}
+use Rattle.gfx_clear_runs.specs.Reading.{Part, ended, refused, behind, pixels_of, covering, covered}
+use Rattle.gfx_clear_runs.specs.Inner.{reason_of}
+use Rattle.gfx_base.specs.Colour.{opaque}
+use Rattle.gfx_clear_runs.specs.Outcome.{Paints}
 use Rattle.gfx_clear_runs.proofs.Appending.{covered_ok, covered_err, over_all, covering_other, covering_whole, total_none}
 
 -- what was painted behind so many pixels that were painted before

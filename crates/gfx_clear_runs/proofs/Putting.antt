@@ -3,8 +3,11 @@ use Rattle.std.proofs.Common.{◌≡◌, ℕ, ◌<◌, ◌≤◌, true, false, L
 use Rattle.std.specs.List.{flat_map}
 use Rattle.std.proofs.lemmas.List.{append-nil, take_at}
 use Rattle.gfx_base.specs.declared.pixel.Rgb.{Rgb}
-use Rattle.gfx_clear_runs.specs.Writing.{Run, run, longest_runs, same_colour, begins, IsGrown}
-use Rattle.gfx_clear_runs.proofs.Colours.{longest_split, same_itself}
+use Rattle.gfx_base.specs.Colour.{same_colour}
+use Rattle.gfx_base.proofs.Palettes.{same_itself}
+use Rattle.gfx_clear_runs.specs.Writing.{Run, run, longest_runs}
+use Rattle.gfx_clear_runs.specs.Inner.{begins, IsGrown}
+use Rattle.gfx_clear_runs.proofs.Colours.{longest_split}
 
 pub grown_none : (old : List ℕ) → IsGrown old old
 grown_none old = ([], sym (append-nil old))

@@ -7,15 +7,16 @@ use Rattle.std.proofs.lemmas.Bool.{le-ltb, le-leb, lt-leb, cases_lt}
 use Rattle.std.proofs.lemmas.Nat.{shr_below, shr_split}
 use Rattle.std.proofs.lemmas.List.Folds.{list_any-append}
 use Rattle.gfx_base.specs.declared.pixel.Rgb.{Rgb}
+use Rattle.gfx_base.specs.Colour.{same_colour, has_colour, with_colour, with_colours, colours_of}
+use Rattle.gfx_base.proofs.Palettes.{same_is, with_held, with_new, has_with}
 use Rattle.gfx_clear_runs.specs.Lengths.{length_spelled}
 use Rattle.gfx_clear_runs.specs.Elements.{Element, element, black, pixels_in, entry, entries, stop_bits, segment_at, segment_with, segment_from}
 use Rattle.gfx_clear_runs.specs.Reading.{behind, part_of, pixels_of, segments_behind, rlex_of, covered}
-use Rattle.gfx_clear_runs.specs.Writing.{Run, run, same_colour, has_colour, with_colour, with_colours, colours_of, joined, longest_runs, place_of, entry_spelled, segment_spelled, segments_written, rlex_by, rlex_written}
+use Rattle.gfx_clear_runs.specs.Writing.{Run, run, joined, longest_runs, place_of, entry_spelled, segment_spelled, segments_written, rlex_by, rlex_written}
 use Rattle.gfx_clear_runs.specs.Forms.{pixels_in_run, pixels_of_runs, AreLongest}
 use Rattle.gfx_clear_runs.specs.declared.palette.TheConstants.{PALETTE_MOST}
 use Rattle.gfx_clear_runs.proofs.Parts.{part_none}
-use Rattle.gfx_clear_runs.proofs.Colours.{same_is}
-use Rattle.gfx_clear_runs.proofs.Collecting.{with_held, with_new, has_with, rlex_none, rlex_much, rlex_some}
+use Rattle.gfx_clear_runs.proofs.Collecting.{rlex_none, rlex_much, rlex_some}
 use Rattle.gfx_clear_runs.proofs.Segments.{segments_read}
 use Rattle.gfx_clear_runs.proofs.Writings.{length_read, AreBelow, below_pixels, pixels_longest, are_longest, front_read, covered_whole}
 
@@ -195,7 +196,7 @@ palette_read palette more =
     (sym (drop_at (flat_map entry_spelled palette) more (3 * length palette) (length_entries_spelled palette)))
     (omega (arith, length-append (flat_map entry_spelled palette) more, length_entries_spelled palette))
 
-rlex_read : (palette : List Rgb) (more : List ℕ) → 0 < length palette → length palette ≤ 127 → rlex_of (length palette ∷ (flat_map entry_spelled palette ++ more)) ≡ part_of (segment_at palette) more
+pub rlex_read : (palette : List Rgb) (more : List ℕ) → 0 < length palette → length palette ≤ 127 → rlex_of (length palette ∷ (flat_map entry_spelled palette ++ more)) ≡ part_of (segment_at palette) more
 unfolding rlex_of
 rlex_read palette more some few = rw (ne_eqb (length palette) 0 (λ e. omega arith), le-ltb PALETTE_MOST (length palette) few) (palette_read palette more)
 

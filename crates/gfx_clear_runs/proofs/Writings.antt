@@ -12,11 +12,14 @@ use Rattle.gfx_base.specs.declared.refusal.Refusal.{Refusal}
 use Rattle.gfx_clear_runs.specs.Lengths.{lasts, length_at, middle_length, long_length, length_spelled}
 use Rattle.gfx_clear_runs.specs.Elements.{Element, element, pixels_in, run_at, run_with}
 use Rattle.gfx_clear_runs.specs.Reading.{Part, behind, part_of, pixels_of, total_of, covered, runs_of}
-use Rattle.gfx_clear_runs.specs.Writing.{Run, run, same_colour, joined, longest_runs, begins, run_spelled, runs_written}
+use Rattle.gfx_clear_runs.specs.Writing.{Run, run, joined, longest_runs, run_spelled, runs_written}
+use Rattle.gfx_clear_runs.specs.Inner.{begins}
 use Rattle.gfx_clear_runs.specs.Forms.{pixels_in_run, pixels_of_runs, starts, AreLongest, IsForm}
 use Rattle.gfx_clear_runs.proofs.Parts.{part_none, part_step}
 use Rattle.gfx_clear_runs.proofs.Appending.{covering_whole}
-use Rattle.gfx_clear_runs.proofs.Colours.{same_is, longest_front}
+use Rattle.gfx_base.specs.Colour.{same_colour}
+use Rattle.gfx_base.proofs.Palettes.{same_is}
+use Rattle.gfx_clear_runs.proofs.Colours.{longest_front}
 
 -- one more pixel
 joined_by : (colour : Rgb) (next : Run) (runs : List Run) (same : Bool) → same_colour colour next.colour ≡ same
@@ -96,11 +99,11 @@ unfolding field
 field_4 front more n fits =
     rw (le-leb (length front + 4) (length (front ++ (to_le_bytes w32 n ++ more))) (omega (arith, length-append front (to_le_bytes w32 n ++ more), length-append (to_le_bytes w32 n) more)), number_at-written_4 front more n fits) refl
 
-short_read : (n : ℕ) (more : List ℕ) → n < 255 → length_at (n ∷ more) ≡ Some (lasts n 1)
+pub short_read : (n : ℕ) (more : List ℕ) → n < 255 → length_at (n ∷ more) ≡ Some (lasts n 1)
 unfolding length_at
 short_read n more short = rw (ne_eqb n 255 (λ e. omega arith)) refl
 
-middle_read : (n : ℕ) (more : List ℕ) → n < 65535 → length_at (255 ∷ (to_le_bytes w16 n ++ more)) ≡ Some (lasts n 3)
+pub middle_read : (n : ℕ) (more : List ℕ) → n < 65535 → length_at (255 ∷ (to_le_bytes w16 n ++ more)) ≡ Some (lasts n 3)
 unfolding length_at middle_length
 middle_read n more middle = rw (field_2 (255 ∷ []) more n (omega arith), ne_eqb n 65535 (λ e. omega arith)) refl
 
@@ -108,7 +111,7 @@ marks_read : (rest : List ℕ) → field w16 (255 ∷ (255 ∷ (255 ∷ rest))) 
 unfolding field
 marks_read rest = rw (le-leb 3 (length (255 ∷ (255 ∷ (255 ∷ rest)))) (omega arith)) refl
 
-long_read : (n : ℕ) (more : List ℕ) → n < 2 ^ 32 → length_at (255 ∷ (255 ∷ (255 ∷ (to_le_bytes w32 n ++ more)))) ≡ Some (lasts n 7)
+pub long_read : (n : ℕ) (more : List ℕ) → n < 2 ^ 32 → length_at (255 ∷ (255 ∷ (255 ∷ (to_le_bytes w32 n ++ more)))) ≡ Some (lasts n 7)
 unfolding length_at middle_length long_length
 long_read n more fits = rw (field_4 (255 ∷ (255 ∷ (255 ∷ []))) more n fits, marks_read (to_le_bytes w32 n ++ more)) refl
 

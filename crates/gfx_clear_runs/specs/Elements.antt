@@ -25,12 +25,13 @@ pixels_in part = replicate part.count part.colour ++ part.more
 abbrev pub area_in : Element → ℕ
 area_in part = part.count + length part.more
 
-abbrev pub colour_of : ℕ → ℕ → ℕ → Rgb
-colour_of b g r = record { b = b; g = g; r = r }
+-- a colour by its three bytes
+abbrev pub rgb : ℕ → ℕ → ℕ → Rgb
+rgb b g r = record { b = b; g = g; r = r }
 
 -- black, which stands where a palette has no colour
 abbrev pub black : Rgb
-black = colour_of 0 0 0
+black = rgb 0 0 0
 
 -- a run is a colour and its length
 unfoldable pub run_with : Rgb → Option Length → Result Element Refusal
@@ -39,7 +40,7 @@ run_with colour (Some run) = Ok (element colour run.count [] (3 + run.size))
 
 -- the run at the front of bytes
 unfoldable pub run_at : List ℕ → Result Element Refusal
-run_at (b ∷ g ∷ r ∷ rest) = run_with (colour_of b g r) (length_at rest)
+run_at (b ∷ g ∷ r ∷ rest) = run_with (rgb b g r) (length_at rest)
 run_at _ = Err ClearLengths
 
 -- how many bits of a segment's byte say where it stops, with a palette of so many colours: enough for its last place
@@ -75,7 +76,7 @@ segment_at palette (byte ∷ rest) = segment_with palette byte (length_at rest)
 -- the entry of a palette at a place
 abbrev pub entry : List ℕ → ℕ → Rgb
 entry bytes place =
-    colour_of (slice_index bytes (3 * place)) (slice_index bytes (3 * place + 1)) (slice_index bytes (3 * place + 2))
+    rgb (slice_index bytes (3 * place)) (slice_index bytes (3 * place + 1)) (slice_index bytes (3 * place + 2))
 
 -- the first entries of a palette
 unfoldable pub entries : ℕ → List ℕ → List Rgb

@@ -2,7 +2,8 @@
 use Rattle.std.specs.Prelude.{◌≡◌, ℕ, ◌<◌, Bool, false, List, [], ◌∷◌, replicate}
 use Rattle.std.specs.List.{flat_map}
 use Rattle.gfx_base.specs.declared.pixel.Rgb.{Rgb}
-use Rattle.gfx_clear_runs.specs.Writing.{Run, run_spelled, same_colour}
+use Rattle.gfx_base.specs.Colour.{same_colour}
+use Rattle.gfx_clear_runs.specs.Writing.{Run, run_spelled}
 
 abbrev pub pixels_in_run : Run → List Rgb
 pixels_in_run part = replicate part.count part.colour

@@ -2,6 +2,8 @@ pub mod Lengths
 pub mod Elements
 pub mod Reading
 pub mod Outcome
+pub mod Inner
 pub mod Views
 pub mod Writing
 pub mod Forms
+pub mod Spelling

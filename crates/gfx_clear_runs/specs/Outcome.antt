@@ -1,5 +1,6 @@
 -- What a reader of a part did to the pixels that it appends to: this project's own rule.
 use Rattle.std.specs.Prelude.{◌≡◌, ℕ, List, ◌++◌, map, Result, Ok, Err}
+use Rattle.gfx_base.specs.Colour.{opaque}
 use Rattle.gfx_base.specs.declared.pixel.Pixel.{Pixel}
 use Rattle.gfx_base.specs.declared.pixel.Rgb.{Rgb}
 use Rattle.gfx_base.specs.declared.answer.Cause.{Cause}
@@ -16,10 +17,6 @@ abbrev pub Appends : Result (Unit {0}) (Cause Refusal) → ℕ → Part → List
 Appends (Ok x) area part old new = (covered area part ≡ Ok (pixels_of part.elements)) × (new ≡ old ++ pixels_of part.elements)
 Appends (Err Memory) area part old new = IsBegun (pixels_of part.elements) old new
 Appends (Err (Refused reason)) area part old new = (covered area part ≡ Err reason) × IsBegun (pixels_of part.elements) old new
-
--- a colour that nothing shines through
-abbrev pub opaque : Rgb → Pixel
-opaque colour = record { b = colour.b; g = colour.g; r = colour.r; a = 255 }
 
 -- what a reader of a part did to the pixels of its area: they are the part's, or it is refused for the reason that is due
 abbrev pub Paints : Result (Unit {0}) Refusal → ℕ → Part → List Pixel → Type 0

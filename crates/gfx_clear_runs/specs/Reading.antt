@@ -1,5 +1,5 @@
 -- A part of runs as a whole: its elements one after another, its area, and what is refused.
-use Rattle.std.specs.Prelude.{ℕ, ◌-◌, ◌+◌, ◌*◌, ◌==◌, zero, suc, nat_lt, List, [], ◌∷◌, ◌++◌, length, drop, Option, Some, None, unwrap_or, Result, Ok, Err, if◌then◌else◌}
+use Rattle.std.specs.Prelude.{ℕ, ◌-◌, ◌+◌, ◌*◌, ◌==◌, zero, suc, nat_lt, List, [], ◌∷◌, ◌++◌, length, drop, Option, Some, None, Result, Ok, Err, if◌then◌else◌}
 use Rattle.gfx_base.specs.declared.pixel.Rgb.{Rgb}
 use Rattle.gfx_base.specs.declared.refusal.Refusal.{Refusal}
 use Rattle.gfx_base.specs.declared.refusal.Refusal.TheVariants.{ClearLengths, PaletteRange, RunTotal}
@@ -80,7 +80,3 @@ rlex_of (colours ∷ bytes) =
     if colours == 0 then refused PaletteRange
     else if nat_lt PALETTE_MOST colours then refused PaletteRange
     else segments_behind colours bytes
-
--- why elements too many are refused: for what stands behind them, or for their number
-abbrev pub reason_of : Part → Refusal
-reason_of part = unwrap_or part.refusal RunTotal

@@ -1,4 +1,4 @@
--- What the types of the code show.
+-- Inner: what the types of the code show to each other. No clause of a public call cites it.
 use Rattle.std.specs.Prelude.{ℕ, List, Result}
 use Rattle.gfx_base.specs.declared.refusal.Refusal.{Refusal}
 use Rattle.gfx_clear_runs.specs.Elements.{Element, run_at, segment_at}

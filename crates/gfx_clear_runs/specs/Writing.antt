@@ -1,6 +1,7 @@
 -- The server's writer: this project's own rule, over the layout of [MS-RDPEGFX] 2.2.4.1.1.1 and 2.2.4.1.1.3.1.2.
-use Rattle.std.specs.Prelude.{◌≡◌, ℕ, ◌+◌, ◌-◌, Bool, true, false, ◌&&◌, nat_eq, nat_le, nat_lt, List, [], ◌∷◌, ◌++◌, length, Option, Some, None, Result, Ok, Err, if◌then◌else◌}
-use Rattle.std.specs.List.{flat_map, list_any, position_or_len}
+use Rattle.std.specs.Prelude.{◌≡◌, ℕ, ◌+◌, ◌-◌, Bool, true, false, ◌&&◌, nat_le, nat_lt, List, [], ◌∷◌, ◌++◌, length, Option, Some, None, Result, Ok, Err, if◌then◌else◌}
+use Rattle.std.specs.List.{flat_map, position_or_len}
+use Rattle.gfx_base.specs.Colour.{same_colour, colours_of}
 use Rattle.gfx_base.specs.declared.pixel.Rgb.{Rgb}
 use Rattle.gfx_base.specs.declared.answer.NoMemory.{NoMemory}
 use Rattle.gfx_clear_runs.specs.Lengths.{length_spelled}
@@ -13,9 +14,6 @@ pub record Run : Type 0 where
 
 abbrev pub run : Rgb → ℕ → Run
 run colour count = record { colour = colour; count = count }
-
-abbrev pub same_colour : Rgb → Rgb → Bool
-same_colour c d = nat_eq c.b d.b && (nat_eq c.g d.g && nat_eq c.r d.r)
 
 -- one more pixel before runs
 unfoldable pub joined : Rgb → List Run → List Run
@@ -35,21 +33,6 @@ run_spelled part = part.colour.b ∷ (part.colour.g ∷ (part.colour.r ∷ lengt
 -- a residual layer
 abbrev pub runs_written : List Rgb → List ℕ
 runs_written pixels = flat_map run_spelled (longest_runs pixels)
-
-abbrev pub has_colour : List Rgb → Rgb → Bool
-has_colour palette colour = list_any (same_colour colour) palette
-
--- a palette with a colour that it may have already
-unfoldable pub with_colour : List Rgb → Rgb → List Rgb
-with_colour palette colour = if has_colour palette colour then palette else palette ++ colour ∷ []
-
--- a palette with the colours of pixels, by first appearance
-unfoldable pub with_colours : List Rgb → List Rgb → List Rgb
-with_colours palette [] = palette
-with_colours palette (pixel ∷ pixels) = with_colours (with_colour palette pixel) pixels
-
-abbrev pub colours_of : List Rgb → List Rgb
-colours_of pixels = with_colours [] pixels
 
 abbrev pub place_of : List Rgb → Rgb → ℕ
 place_of palette colour = position_or_len (same_colour colour) palette
@@ -79,12 +62,3 @@ abbrev pub Writes : Result Bool NoMemory → Option (List ℕ) → List ℕ → 
 Writes (Ok true) due old new = (bytes : List ℕ) × (due ≡ Some bytes) × (new ≡ old ++ bytes)
 Writes (Ok false) due old new = (due ≡ None) × (new ≡ old)
 Writes (Err e) due old new = new ≡ old
-
--- nothing of what stood there was changed
-abbrev pub IsGrown : List ℕ → List ℕ → Type 0
-IsGrown old new = (more : List ℕ) × (new ≡ old ++ more)
-
--- pixels begin with a colour
-unfoldable pub begins : Rgb → List Rgb → Bool
-begins colour [] = false
-begins colour (pixel ∷ pixels) = same_colour colour pixel

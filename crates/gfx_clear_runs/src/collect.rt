@@ -1,8 +1,8 @@
 ghost use Rattle.std.specs.Prelude.{◌≡◌, ◌<◌, true, false, length, MatchOption};
-ghost use Rattle.gfx_clear_runs.specs.Writing.{colours_of, has_colour, with_colour};
+ghost use Rattle.gfx_base.specs.Colour.{colours_of, has_colour, with_colour};
 ghost use Rattle.gfx_clear_runs.specs.declared.palette.TheConstants.{PALETTE_MOST};
 
-use crate::colour::{front_run, same_colour};
+use crate::front::front_run;
 use crate::palette::Colours;
 use gfx_base::Rgb;
 
@@ -25,7 +25,7 @@ pub fn colours_of(pixels: &[Rgb]) -> Option<Colours>
 }
 
 /// Puts a colour into a palette, unless it is there; false where there is no room for it.
-#[tactic(auto, using(crate::proofs::Collecting::length_with), unfolding(crate::specs::Writing::with_colour))]
+#[tactic(auto, using(gfx_base::proofs::Palettes::length_with), unfolding(gfx_base::specs::Colour::with_colour))]
 fn take_colour(colours: &mut Colours, colour: Rgb) -> bool
     ensures taken { result ≡ true → colours.new.items ≡ with_colour colours.old.items colour }
     ensures full { result ≡ false → PALETTE_MOST < length (with_colour colours.old.items colour) }
@@ -40,8 +40,5 @@ fn take_colour(colours: &mut Colours, colour: Rgb) -> bool
 fn has_colour(colours: &Colours, colour: Rgb) -> bool
     ensures { result ≡ has_colour colours.now.items colour }
 {
-    colours
-        .as_slice()
-        .iter()
-        .any(|held| same_colour(colour, *held))
+    colours.as_slice().iter().any(|held| colour.is_same(*held))
 }

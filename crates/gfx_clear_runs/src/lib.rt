@@ -5,8 +5,8 @@
 
 mod coding;
 mod collect;
-mod colour;
 mod element;
+mod front;
 mod laws;
 mod length;
 mod paint;
@@ -14,7 +14,10 @@ mod palette;
 mod read;
 mod write;
 
-pub use laws::{one_runs_form, rlex_reads_back, runs_are_longest, runs_read_back};
+pub use laws::{
+    one_runs_form, read_runs_are_spelled, read_segments_are_spelled, rlex_reads_back,
+    runs_are_longest, runs_read_back, spelled_runs_are_read, spelled_segments_are_read,
+};
 pub use paint::{paint_rlex, paint_runs};
 pub use read::{read_rlex, read_runs};
 pub use write::{write_rlex, write_runs};

@@ -1,6 +1,7 @@
 //! Parts of runs painted where their pixels belong, with no memory taken.
 ghost use Rattle.std.specs.Prelude.{◌≡◌, ◌≤◌, ◌+◌, ◌++◌, length, map, take, replicate};
-ghost use Rattle.gfx_clear_runs.specs.Outcome.{opaque, Paints};
+ghost use Rattle.gfx_base.specs.Colour.{opaque};
+ghost use Rattle.gfx_clear_runs.specs.Outcome.{Paints};
 ghost use Rattle.gfx_clear_runs.specs.Reading.{part_of, rlex_of, runs_of, segments_behind};
 ghost use Rattle.gfx_clear_runs.specs.Views.{reading};
 
@@ -9,9 +10,6 @@ use crate::element::Stretch;
 use crate::palette::{PALETTE_MOST, Palette, read_entries, stop_bits};
 use crate::read::reason_behind;
 use gfx_base::{Pixel, Refusal, Rgb};
-
-/// The alpha of a pixel that nothing shines through.
-const OPAQUE: u8 = 255;
 
 /// Paints the pixels of a residual layer, which are to cover all of these, opaque. After a refusal any pixels
 /// may stand there.
@@ -87,7 +85,7 @@ fn paint(stretch: &Stretch<'_>, at: usize, out: &mut [Pixel])
     ensures { take (at + (stretch.now.count + length stretch.now.more.now)) out.new ≡ take at out.old ++ map opaque (replicate stretch.now.count stretch.now.colour ++ stretch.now.more.now) }
 {
     let count = stretch.count as usize;
-    paint_copies(opaque(stretch.colour), count, at, out);
+    paint_copies(stretch.colour.opaque(), count, at, out);
     paint_each(stretch.more, at + count, out);
 }
 
@@ -115,18 +113,6 @@ fn paint_each(colours: &[Rgb], at: usize, out: &mut [Pixel])
     ensures { take (at + length colours.now) out.new ≡ take at out.old ++ map opaque colours.now }
 {
     'colours: for i in 0..colours.len() {
-        out[at + i] = opaque(colours[i]);
-    }
-}
-
-#[inline(always)]
-fn opaque(colour: Rgb) -> Pixel
-    ensures { result ≡ opaque colour }
-{
-    Pixel {
-        b: colour.b,
-        g: colour.g,
-        r: colour.r,
-        a: OPAQUE,
+        out[at + i] = colours[i].opaque();
     }
 }

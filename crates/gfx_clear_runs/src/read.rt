@@ -1,7 +1,8 @@
 ghost use Rattle.std.specs.Prelude.{◌≡◌, ◌≤◌, ◌++◌, length, replicate, MatchResult, OnOk, OnErr};
 ghost use Rattle.gfx_clear_runs.specs.Elements.{pixels_in, element};
 ghost use Rattle.gfx_clear_runs.specs.Outcome.{Appends, IsBegun};
-ghost use Rattle.gfx_clear_runs.specs.Reading.{part_of, reason_of, rlex_of, runs_of, segments_behind};
+ghost use Rattle.gfx_clear_runs.specs.Inner.{reason_of};
+ghost use Rattle.gfx_clear_runs.specs.Reading.{part_of, rlex_of, runs_of, segments_behind};
 ghost use Rattle.gfx_clear_runs.specs.Views.{reading};
 
 use crate::coding::Coding;

@@ -2,11 +2,12 @@ ghost use Rattle.std.specs.Prelude.{◌≡◌, ◌+◌, ◌-◌, ◌∷◌, ◌+
 ghost use Rattle.std.specs.List.{flat_map};
 ghost use Rattle.gfx_clear_runs.specs.Lengths.{length_spelled};
 ghost use Rattle.gfx_clear_runs.specs.Views.{spelling};
-ghost use Rattle.gfx_clear_runs.specs.Writing.{IsGrown, Writes, entry_spelled, longest_runs, place_of, rlex_by, rlex_written, run, run_spelled, runs_written, segment_spelled, segments_written};
+ghost use Rattle.gfx_clear_runs.specs.Inner.{IsGrown};
+ghost use Rattle.gfx_clear_runs.specs.Writing.{Writes, entry_spelled, longest_runs, place_of, rlex_by, rlex_written, run, run_spelled, runs_written, segment_spelled, segments_written};
 
 use crate::coding::Coding;
 use crate::collect::colours_of;
-use crate::colour::{front_run, same_colour};
+use crate::front::front_run;
 use crate::palette::{Colours, PALETTE_MOST, Palette, stop_bits};
 use gfx_base::{Bytes, NoMemory, Rgb};
 
@@ -138,7 +139,7 @@ fn place_of(palette: &Colours, colour: Rgb) -> u8
 {
     let mut place = 0;
     for held in palette.as_slice() {
-        if same_colour(colour, *held) {
+        if colour.is_same(*held) {
             return place;
         }
         place += 1;

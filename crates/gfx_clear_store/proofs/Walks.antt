@@ -1,30 +1,23 @@
 -- The walk along the links of an index meets every place of the pixels that are looked for.
-use Rattle.std.proofs.Common.{◌≡◌, ◌≢◌, ◌⊎◌, inl, inr, ℕ, ◌<◌, ◌≤◌, Bool, true, false, ◌&&◌, nat_eq, nat_lt, cond, min, List, length, get_or, Some, None, refl, sym, ap, ◌∙◌, subst, arith}
+use Rattle.std.proofs.Common.{◌≡◌, ◌≢◌, ◌⊎◌, inl, inr, ℕ, ◌<◌, ◌≤◌, Bool, true, false, nat_lt, cond, min, List, length, get_or, Some, None, refl, sym, ap, ◌∙◌, subst, arith}
 use Rattle.std.specs.Bool.{Decides}
 use Rattle.std.specs.List.{position, position_or_len}
 use Rattle.std.specs.Option.{option_map}
 use Rattle.std.proofs.lemmas.Bool.{cases_eq, cases_lt}
-use Rattle.std.proofs.lemmas.Bool.Decides.{nat_tests, Decides-eqb}
+use Rattle.std.proofs.lemmas.Bool.Decides.{nat_tests}
 use Rattle.std.proofs.lemmas.Slice.Eq.{slice_eq-Decides}
 use Rattle.std.proofs.lemmas.List.{get_or_default}
 use Rattle.std.proofs.lemmas.List.Sums.{position_or_len_is}
 use Rattle.gfx_base.specs.declared.pixel.Rgb.{Rgb}
-use Rattle.gfx_clear_store.specs.Rings.{Slot, same_colour, same_pixels, stands}
+use Rattle.gfx_base.specs.Colour.{same_colour, same_pixels}
+use Rattle.gfx_base.proofs.Palettes.{same_itself, same_is}
+use Rattle.gfx_clear_store.specs.Rings.{Slot, stands}
 use Rattle.gfx_clear_store.specs.Home.{home_of}
 use Rattle.gfx_clear_store.specs.Index.{rank, home_at, Leads, IsIndex}
 use Rattle.gfx_clear_store.proofs.Written.{rank_apart, home_within}
 
 pub same_colour-Decides : (c d : Rgb) → Decides (same_colour c d) (c ≡ d)
-same_colour-Decides c d = (there (nat_eq c.b d.b) (nat_eq c.g d.g) (nat_eq c.r d.r) refl refl refl, back)
-  where
-    there : (x y z : Bool) → nat_eq c.b d.b ≡ x → nat_eq c.g d.g ≡ y → nat_eq c.r d.r ≡ z → same_colour c d ≡ true → c ≡ d
-    there true true true b g r e = λ i. record { b = (Decides-eqb c.b d.b).0 b i; g = (Decides-eqb c.g d.g).0 g i; r = (Decides-eqb c.r d.r).0 r i }
-    there true true false b g r e = let clash : false ≡ true = sym (λ i. b i && (g i && r i)) ∙ e in absurd cc
-    there true false z b g r e = let clash : false ≡ true = sym (λ i. b i && (g i && nat_eq c.r d.r)) ∙ e in absurd cc
-    there false y z b g r e = let clash : false ≡ true = sym (λ i. b i && (nat_eq c.g d.g && nat_eq c.r d.r)) ∙ e in absurd cc
-
-    back : c ≡ d → same_colour c d ≡ true
-    back e = λ i. (Decides-eqb c.b d.b).1 (ap (λ z. z.b) e) i && ((Decides-eqb c.g d.g).1 (ap (λ z. z.g) e) i && (Decides-eqb c.r d.r).1 (ap (λ z. z.r) e) i)
+same_colour-Decides c d = (same_is c d, λ e. ap (same_colour c) (sym e) ∙ same_itself c)
 
 pub same_pixels-Decides : (xs ys : List Rgb) → Decides (same_pixels xs ys) (xs ≡ ys)
 same_pixels-Decides xs ys = slice_eq-Decides same_colour-Decides xs ys (same_pixels xs ys) refl

@@ -1,7 +1,7 @@
 -- The two rings of columns that a ClearCodec decoder keeps ([MS-RDPEGFX] 2.2.4.1.1.2, the V-bar and the
 -- short V-bar storage). That a refused message leaves them as they were is this project's own rule.
-use Rattle.std.specs.Prelude.{◌≡◌, ◌≢◌, ℕ, ◌+◌, ◌<◌, ◌==◌, Bool, false, ◌&&◌, nat_eq, List, length, replicate, slice_set, slice_index_or, position, Option, Some, None, if◌then◌else◌}
-use Rattle.std.specs.Cmp.Lexicographic.{pointwise}
+use Rattle.std.specs.Prelude.{◌≡◌, ◌≢◌, ℕ, ◌+◌, ◌<◌, ◌==◌, Bool, false, List, length, replicate, slice_set, slice_index_or, position, Option, Some, None, if◌then◌else◌}
+use Rattle.gfx_base.specs.Colour.{same_pixels}
 use Rattle.gfx_base.specs.declared.pixel.Rgb.{Rgb}
 use Rattle.gfx_clear_store.specs.declared.store.TheConstants.{BARS, SHORTS}
 
@@ -31,12 +31,6 @@ added count pixels old = places (slice_set old.slots old.cursor (Some pixels)) (
 
 abbrev pub slot_at : Places → ℕ → Slot
 slot_at ring place = slice_index_or ring.slots place None
-
-abbrev pub same_colour : Rgb → Rgb → Bool
-same_colour c d = nat_eq c.b d.b && (nat_eq c.g d.g && nat_eq c.r d.r)
-
-abbrev pub same_pixels : List Rgb → List Rgb → Bool
-same_pixels = pointwise same_colour
 
 -- these pixels stand there
 abbrev pub stands : List Rgb → Slot → Bool

@@ -1,6 +1,6 @@
 //! One place of a ring.
 ghost use Rattle.std.specs.Prelude.{◌≡◌, ◌≤◌, length};
-ghost use Rattle.gfx_clear_store.specs.Rings.{same_pixels};
+ghost use Rattle.gfx_base.specs.Colour.{same_pixels};
 
 use arrayvec::ArrayVec;
 use gfx_base::Rgb;

@@ -1,7 +1,7 @@
 -- Glyphs by their index ([MS-RDPEGFX] 2.2.4.1, glyphIndex): areas that are kept as they were drawn. The order of
 -- the checks is this project's own rule.
 use Rattle.std.specs.Prelude.{ℕ, ◌*◌, Bool, false, ◌&&◌, nat_eq, nat_lt, List, replicate, slice_set, slice_index_or, position, Option, Some, None, Result, Ok, Err, if◌then◌else◌}
-use Rattle.std.specs.Cmp.Lexicographic.{pointwise}
+use Rattle.gfx_base.specs.Colour.{same_pixels}
 use Rattle.gfx_base.specs.declared.pixel.Rgb.{Rgb}
 use Rattle.gfx_base.specs.declared.refusal.Refusal.{Refusal}
 use Rattle.gfx_base.specs.declared.refusal.Refusal.TheVariants.{GlyphIndex, GlyphArea, GlyphEmpty, GlyphSize}
@@ -21,12 +21,6 @@ no_glyphs places = replicate places None
 
 abbrev pub slot_at : List Slot → ℕ → Slot
 slot_at slots index = slice_index_or slots index None
-
-abbrev pub same_colour : Rgb → Rgb → Bool
-same_colour c d = nat_eq c.b d.b && (nat_eq c.g d.g && nat_eq c.r d.r)
-
-abbrev pub same_pixels : List Rgb → List Rgb → Bool
-same_pixels = pointwise same_colour
 
 -- these pixels stand there, at this size
 abbrev pub stands : ℕ → ℕ → List Rgb → Slot → Bool

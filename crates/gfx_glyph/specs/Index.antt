@@ -1,18 +1,14 @@
 -- How a look-up is spared most glyphs: this project's own rule. No answer depends on it.
-use Rattle.std.specs.Prelude.{◌≡◌, ℕ, ◌+◌, ◌*◌, ◌/◌, ◌%◌, ◌^◌, ◌≤◌, List, length, slice_index_or, Some}
-use Rattle.std.specs.List.{fold}
+use Rattle.std.specs.Prelude.{◌≡◌, ℕ, ◌*◌, ◌/◌, ◌%◌, ◌^◌, ◌≤◌, List, length, slice_index_or, Some}
+use Rattle.gfx_base.specs.Colour.{hash_of}
 use Rattle.gfx_base.specs.declared.pixel.Rgb.{Rgb}
 use Rattle.gfx_glyph.specs.Glyphs.{Slot, slot_at}
 use Rattle.gfx_glyph.specs.declared.glyph.Glyph.{Glyph}
-use Rattle.gfx_glyph.specs.declared.print.TheConstants.{SPREAD, HOMES}
-
--- the hash with one more pixel
-unfoldable pub mixed : ℕ → Rgb → ℕ
-mixed hash pixel = (hash + (pixel.b + 256 * pixel.g + 65536 * pixel.r)) % 2 ^ 64 * SPREAD % 2 ^ 64
+use Rattle.gfx_glyph.specs.declared.print.TheConstants.{HOMES}
 
 -- the print of pixels, which is another where the pixels mostly are
 unfoldable pub print_of : List Rgb → ℕ
-print_of pixels = fold mixed (length pixels) pixels / 2 ^ 32
+print_of pixels = hash_of pixels / 2 ^ 32
 
 abbrev pub home_of : ℕ → ℕ
 home_of print = print % HOMES

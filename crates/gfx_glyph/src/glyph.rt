@@ -3,12 +3,12 @@ ghost use Rattle.gfx_base.specs.Outcome.{Says};
 
 use gfx_base::Rgbs;
 
-/// An area as it was drawn, row by row from the top.
+/// An area as it was drawn: its sides in pixels, and its pixels row by row from the top.
 #[derive(Drop)]
-pub(crate) struct Glyph {
-    pub(crate) width: u16,
-    pub(crate) height: u16,
-    pub(crate) pixels: Rgbs,
+pub struct Glyph {
+    pub width: u16,
+    pub height: u16,
+    pub pixels: Rgbs,
 }
 
 impl Glyph {

@@ -1,6 +1,6 @@
-ghost use Rattle.std.specs.Prelude.{◌≡◌, ◌*◌, ◌<◌, length, slice_set, IfOk, IfSome, Some};
-ghost use Rattle.std.specs.Option.{option_map};
-ghost use Rattle.gfx_base.specs.Outcome.{Applies, Says};
+ghost use Rattle.std.specs.Prelude.{◌≡◌, ◌*◌, ◌<◌, is_ok, length, slice_set, IfOk, IfSome, Some};
+ghost use Rattle.std.specs.Option.{option_copied, option_map};
+ghost use Rattle.gfx_base.specs.Outcome.{Applies, Says, WantsOnlyIf};
 ghost use Rattle.gfx_glyph.specs.Index.{print_of};
 ghost use Rattle.gfx_glyph.specs.Glyphs.{drawn, least_index, no_glyphs, shown, slot_at, stands, stored};
 
@@ -57,7 +57,8 @@ impl Glyphs {
         })
     }
 
-    /// Stores these pixels at an index, in the place of what stood there. Any fault leaves all as it was.
+    /// Stores these pixels at an index, in the place of what stood there. Any fault leaves all as it was; memory is
+    /// wanting only where index and area are accepted.
     #[tactic(auto, unfolding(crate::specs::Glyphs::stored))]
     pub fn store(
         &mut self,
@@ -67,7 +68,8 @@ impl Glyphs {
         pixels: &[Rgb],
     ) -> Result<(), Fault>
         requires { length pixels.now ≡ width * height }
-        ensures { Applies result self.old self.new (stored index width height pixels.now self.old) }
+        ensures stored { Applies result self.old self.new (stored index width height pixels.now self.old) }
+        ensures memory { WantsOnlyIf result (is_ok (stored index width height pixels.now self.old)) }
     {
         if index >= PLACES {
             return Err(Fault::Refused(Refusal::GlyphIndex));
@@ -161,6 +163,16 @@ impl Glyphs {
             return false;
         }
         stands(&self.slots[at], width, height, pixels)
+    }
+
+    /// The glyph at an index, if there is one.
+    pub fn get(&self, index: u16) -> Option<&Glyph>
+        ensures { option_copied result ≡ slot_at self.now index }
+    {
+        match self.slots.get(usize::from(index)) {
+            Some(Some(glyph)) => Some(glyph),
+            _ => None,
+        }
     }
 
     /// The size of the glyph at an index, if there is one.

@@ -8,4 +8,5 @@ mod glyph;
 mod glyphs;
 mod print;
 
+pub use glyph::Glyph;
 pub use glyphs::Glyphs;

@@ -1,7 +1,7 @@
 use Rattle.std.proofs.Common.{◌+◌, ◌-◌, sym, ap, ◌∙◌, subst}
 use Rattle.gfx_clear_bands.specs.Canvas.{on_canvas}
 use Rattle.gfx_clear_bands.specs.Bands.{columns}
-use Rattle.gfx_clear_bands.specs.Reading.{DrawsOn}
+use Rattle.gfx_clear_bands.specs.Inner.{DrawsOn}
 use Rattle.gfx_clear_bands.proofs.Drawings.{band_at, band_refused}
 use Rattle.gfx_clear_bands.proofs.painting.paint_band.Goals as goal
 

@@ -1,6 +1,6 @@
 use Rattle.std.proofs.Common.{◌+◌, ◌-◌, sym, ap, ◌∙◌, subst}
 use Rattle.gfx_clear_bands.specs.Bands.{drawing, columns}
-use Rattle.gfx_clear_bands.specs.Reading.{DrawsOn}
+use Rattle.gfx_clear_bands.specs.Inner.{DrawsOn}
 use Rattle.gfx_clear_bands.proofs.Drawings.{band_at, band_refused}
 use Rattle.gfx_clear_bands.proofs.reading.read_band.Goals as goal
 

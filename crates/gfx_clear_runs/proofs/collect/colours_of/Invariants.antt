@@ -1,5 +1,5 @@
 use Rattle.std.proofs.Common.{◌≡◌, length}
-use Rattle.gfx_clear_runs.specs.Writing.{colours_of, with_colours}
+use Rattle.gfx_base.specs.Colour.{colours_of, with_colours}
 use Rattle.gfx_clear_runs.proofs.collect.colours_of.Given as goal
 
 abbrev pub invariant-runs : goal.invariant-runs

@@ -1,5 +1,5 @@
 use Rattle.std.proofs.Common.{◌≡◌, ◌+◌, ◌++◌, map, take}
-use Rattle.gfx_clear_runs.specs.Outcome.{opaque}
+use Rattle.gfx_base.specs.Colour.{opaque}
 use Rattle.gfx_clear_runs.proofs.paint.paint_each.Given as goal
 
 abbrev pub invariant-colours : goal.invariant-colours

@@ -1,7 +1,7 @@
 -- One element after another is passed by.
 use Rattle.std.proofs.Common.{ap, sym, ◌∙◌, length}
 use Rattle.gfx_clear_runs.specs.Elements.{element}
-use Rattle.gfx_clear_runs.specs.Reading.{reason_of}
+use Rattle.gfx_clear_runs.specs.Inner.{reason_of}
 use Rattle.gfx_clear_runs.specs.Views.{reading}
 use Rattle.gfx_clear_runs.proofs.Parts.{part_none, part_refused}
 use Rattle.gfx_clear_runs.proofs.Appending.{reason_step, takes, is_none, is_some}

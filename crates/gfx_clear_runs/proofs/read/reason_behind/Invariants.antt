@@ -1,5 +1,6 @@
 use Rattle.std.proofs.Common.{◌≡◌, length}
-use Rattle.gfx_clear_runs.specs.Reading.{part_of, reason_of}
+use Rattle.gfx_clear_runs.specs.Reading.{part_of}
+use Rattle.gfx_clear_runs.specs.Inner.{reason_of}
 use Rattle.gfx_clear_runs.specs.Views.{reading}
 use Rattle.gfx_clear_runs.proofs.read.reason_behind.Given as goal
 

@@ -1,6 +1,6 @@
 -- Too many colours for a palette.
 use Rattle.std.proofs.Common.{refl}
-use Rattle.gfx_clear_runs.specs.Writing.{colours_of}
+use Rattle.gfx_base.specs.Colour.{colours_of}
 use Rattle.gfx_clear_runs.proofs.Collecting.{rlex_much}
 use Rattle.gfx_clear_runs.proofs.write.write_rlex.Goals as goal
 

@@ -1,15 +1,8 @@
+//! The run at the front of pixels.
 ghost use Rattle.std.specs.Prelude.{◌≡◌, ◌≤◌, false, length, take, drop, replicate};
-ghost use Rattle.gfx_clear_runs.specs.Writing.{same_colour, begins};
+ghost use Rattle.gfx_clear_runs.specs.Inner.{begins};
 
 use gfx_base::Rgb;
-
-/// Whether two colours are the same.
-#[inline(always)]
-pub fn same_colour(one: Rgb, other: Rgb) -> bool
-    ensures { result ≡ same_colour one other }
-{
-    one.b == other.b && one.g == other.g && one.r == other.r
-}
 
 /// How many pixels at the front have this colour.
 #[inline(always)]
@@ -20,7 +13,7 @@ pub fn front_run(colour: Rgb, pixels: &[Rgb]) -> usize
     ensures ended { begins colour (drop result pixels.now) ≡ false }
 {
     for (i, pixel) in pixels.iter().enumerate() {
-        if !same_colour(colour, *pixel) {
+        if !colour.is_same(*pixel) {
             return i;
         }
     }

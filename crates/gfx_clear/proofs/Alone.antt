@@ -26,7 +26,7 @@ use Rattle.gfx_clear.specs.declared.whole.Whole.TheVariants.{Runs, Raw, Palette}
 use Rattle.gfx_clear.specs.Parts.{Parts, residual, banded, covered_by}
 use Rattle.gfx_clear.specs.Subcodecs.{subcodec, subcodecs, coded, area_at, raw_colours, rows_drawn}
 use Rattle.gfx_clear.specs.Clear.{layered, undrawn}
-use Rattle.gfx_clear.specs.Painting.{colour_of}
+use Rattle.gfx_base.specs.Colour.{colour_of}
 use Rattle.gfx_clear.specs.Wholes.{whole_pixels, covers, IsWhole, CoversAll, PaintsAs}
 use Rattle.gfx_clear.proofs.Areas.{due_fault, within_none, subcodecs_from}
 use Rattle.gfx_clear.proofs.Behind.{layered_last, length-background}

@@ -21,8 +21,8 @@ use Rattle.gfx_clear.specs.declared.head.GlyphUse.TheVariants.{Unused, Stores, S
 use Rattle.gfx_clear.specs.Parts.{Parts, parts, covered_by, residual, banded}
 use Rattle.gfx_clear.specs.Subcodecs.{subcodecs}
 use Rattle.gfx_clear.specs.Clear.{layered, drawn_in_layers, drawn_by_index, drawn_as, behind_head, with_glyphs, glyphs_after}
-use Rattle.gfx_clear.specs.Painting.{colour_of, opaque}
-use Rattle.gfx_clear.specs.Inside.{Draws, with_drawn}
+use Rattle.gfx_base.specs.Colour.{colour_of, opaque}
+use Rattle.gfx_clear.specs.Inner.{Draws, with_drawn}
 use Rattle.gfx_clear.proofs.DrawnOver.{all_drawn_over}
 use Rattle.gfx_clear.proofs.Layers.{Refuses, refuses_first, refuses_next}
 

@@ -12,7 +12,8 @@ use Rattle.gfx_clear_bands.specs.Canvas.{is_drawn, on_canvas}
 use Rattle.gfx_clear.specs.Parts.{Parts}
 use Rattle.gfx_clear.specs.Subcodecs.{overwritten, row_drawn}
 use Rattle.gfx_clear.specs.Clear.{layered, undrawn}
-use Rattle.gfx_clear.specs.Painting.{colour_of, opaque, drawn_over}
+use Rattle.gfx_clear.specs.Painting.{drawn_over}
+use Rattle.gfx_base.specs.Colour.{colour_of, opaque}
 use Rattle.gfx_clear.specs.Canvas.{blank}
 use Rattle.gfx_clear.proofs.DrawnOver.{Over, over_drawn, over_kept}
 

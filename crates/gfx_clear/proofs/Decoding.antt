@@ -16,8 +16,9 @@ use Rattle.gfx_clear.specs.declared.head.Head.{Head}
 use Rattle.gfx_clear.specs.State.{State, state, next_sequence}
 use Rattle.gfx_clear.specs.Heads.{head}
 use Rattle.gfx_clear.specs.Clear.{behind_head, undrawn, rings_before, clear, cleared}
-use Rattle.gfx_clear.specs.Painting.{colour_of, Scene, scene, decoded}
-use Rattle.gfx_clear.specs.Inside.{Draws, with_drawn}
+use Rattle.gfx_clear.specs.Painting.{Scene, scene, decoded}
+use Rattle.gfx_base.specs.Colour.{colour_of}
+use Rattle.gfx_clear.specs.Inner.{Draws, with_drawn}
 use Rattle.gfx_clear.proofs.Layers.{Refuses, refuses_first}
 
 -- a head that is refused

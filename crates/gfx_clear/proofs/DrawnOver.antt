@@ -3,7 +3,8 @@ use Rattle.std.proofs.Common.{◌≡◌, ℕ, zero, suc, ◌+◌, ◌<◌, ◌�
 use Rattle.std.proofs.lemmas.List.{take_more, take_more_set, take_all, drop-set-lt, drop-drop, get_or-drop}
 use Rattle.gfx_base.specs.declared.pixel.Pixel.{Pixel}
 use Rattle.gfx_base.specs.declared.pixel.Rgb.{Rgb}
-use Rattle.gfx_clear.specs.Painting.{opaque, drawn_over}
+use Rattle.gfx_clear.specs.Painting.{drawn_over}
+use Rattle.gfx_base.specs.Colour.{opaque}
 
 pub length-drawn_over : (ps : List Pixel) (cs : List Rgb) (ds : List Bool) → length cs ≡ length ps → length ds ≡ length ps → length (drawn_over ps cs ds) ≡ length ps
 unfolding drawn_over

@@ -5,10 +5,12 @@ use Rattle.std.proofs.lemmas.Bool.{lt-ltb, le-ltb, cases_lt}
 use Rattle.std.proofs.lemmas.Bool.Decides.{nat_tests}
 use Rattle.std.proofs.lemmas.List.{length-replicate}
 use Rattle.gfx_base.specs.declared.pixel.Rgb.{Rgb}
-use Rattle.gfx_clear_store.specs.Rings.{Rings, least_place, same_colour}
+use Rattle.gfx_clear_store.specs.Rings.{Rings, least_place}
+use Rattle.gfx_base.specs.Colour.{same_colour}
 use Rattle.gfx_clear_store.specs.declared.store.TheConstants.{MOST_BAR}
 use Rattle.gfx_clear_runs.specs.Lengths.{length_spelled}
-use Rattle.gfx_clear_runs.specs.Writing.{Run, run_spelled, runs_written, longest_runs, entry_spelled, segment_spelled, segments_written, colours_of, rlex_by, rlex_written}
+use Rattle.gfx_clear_runs.specs.Writing.{Run, run_spelled, runs_written, longest_runs, entry_spelled, segment_spelled, segments_written, rlex_by, rlex_written}
+use Rattle.gfx_base.specs.Colour.{colours_of}
 use Rattle.gfx_clear_runs.specs.Forms.{pixels_in_run, pixels_of_runs, AreLongest}
 use Rattle.gfx_clear_runs.specs.declared.palette.TheConstants.{PALETTE_MOST}
 use Rattle.gfx_clear_runs.proofs.Writings.{pixels_longest, are_longest}

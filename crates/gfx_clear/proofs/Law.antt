@@ -21,7 +21,8 @@ use Rattle.gfx_clear_bands.proofs.Again.{colours_again}
 use Rattle.gfx_clear_bands.proofs.Drawings.{within_none as bands_none}
 use Rattle.gfx_clear_bands.proofs.ReadAgain.{reads_back}
 use Rattle.gfx_glyph.specs.declared.glyphs.TheConstants.{PLACES, MOST_AREA}
-use Rattle.gfx_glyph.specs.Glyphs.{Slot, glyph, slot_at, stands, same_pixels, shown, drawn}
+use Rattle.gfx_glyph.specs.Glyphs.{Slot, glyph, slot_at, stands, shown, drawn}
+use Rattle.gfx_base.specs.Colour.{same_pixels}
 use Rattle.gfx_glyph.proofs.Same.{same_pixels-Decides}
 use Rattle.gfx_clear.specs.declared.area.TheConstants.{RAW, RLEX}
 use Rattle.gfx_clear.specs.declared.head.GlyphUse.{GlyphUse}

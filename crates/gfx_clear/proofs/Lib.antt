@@ -12,4 +12,6 @@ pub mod Sent
 pub mod Law
 pub mod Step
 pub mod Alone
+pub mod RowsShown
+pub mod Wanting
 pub mod Numbers

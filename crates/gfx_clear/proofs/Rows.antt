@@ -28,7 +28,7 @@ row_within across x y width height row at long less place inside room =
     let most = mul-le-mul_left across next in
     omega (arith, most)
 
-length-overwritten : {A : Type 0} (at : ℕ) (items old : List A) → at + length items ≤ length old → length (overwritten at items old) ≡ length old
+pub length-overwritten : {A : Type 0} (at : ℕ) (items old : List A) → at + length items ≤ length old → length (overwritten at items old) ≡ length old
 length-overwritten at items old within =
     omega (arith, length-append (take at old) (items ++ drop (length items) (drop at old)), length-append items (drop (length items) (drop at old)), length-take at old, length-drop (length items) (drop at old), length-drop at old)
 

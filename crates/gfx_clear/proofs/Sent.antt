@@ -10,7 +10,8 @@ use Rattle.gfx_clear.specs.declared.head.GlyphUse.{GlyphUse}
 use Rattle.gfx_clear.specs.declared.head.GlyphUse.TheVariants.{Stores}
 use Rattle.gfx_clear.specs.declared.layer.Layer.{Layer}
 use Rattle.gfx_clear.specs.State.{State}
-use Rattle.gfx_clear.specs.Sending.{message, sent, sent_as, use_of, sequence_of, head_bytes, part_as, part_bytes, rings_after, MayUse}
+use Rattle.gfx_clear.specs.Sending.{message, sent, sent_as, use_of, sequence_of, head_bytes, part_as, part_bytes, rings_after}
+use Rattle.gfx_clear.specs.Inner.{MayUse}
 
 -- a glyph that may be stored is
 pub stored_fits : (index width height : ℕ) (pixels : List Rgb) (slots : List Slot) → index < PLACES → width * height ≤ MOST_AREA

@@ -11,10 +11,11 @@ use Rattle.gfx_clear_store.specs.Rings.{AreRings}
 use Rattle.gfx_clear.specs.declared.layer.Layer.{Layer}
 use Rattle.gfx_clear.specs.State.{State}
 use Rattle.gfx_clear.specs.Clear.{clear}
-use Rattle.gfx_clear.specs.Painting.{colour_of, opaque, scene, decoded}
+use Rattle.gfx_clear.specs.Painting.{scene, decoded}
+use Rattle.gfx_base.specs.Colour.{colour_of, opaque}
 use Rattle.gfx_clear.specs.Sending.{MaySend, sent}
 use Rattle.gfx_clear.specs.Laws.{shows}
-use Rattle.gfx_clear.specs.Inside.{sends}
+use Rattle.gfx_clear.specs.Sending.{sends}
 use Rattle.gfx_clear.proofs.Behind.{length-rect_of}
 use Rattle.gfx_clear.proofs.DrawnOver.{all_drawn_over}
 use Rattle.gfx_clear.proofs.Law.{law}

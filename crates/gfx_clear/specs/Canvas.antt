@@ -1,4 +1,4 @@
--- The canvas on which layers are drawn before the surface is.
+-- Inner: the canvas on which layers are drawn before the surface is. No clause of a public call cites it.
 use Rattle.gfx_base.specs.declared.pixel.Pixel.{Pixel}
 
 -- a pixel of the background, which isn't drawn

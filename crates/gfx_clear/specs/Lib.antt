@@ -9,3 +9,6 @@ pub mod Inside
 pub mod Laws
 pub mod Canvas
 pub mod Wholes
+pub mod Shown
+pub mod Inner
+pub mod Begun

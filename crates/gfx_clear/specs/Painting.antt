@@ -1,6 +1,7 @@
 -- A ClearCodec stream on a surface ([MS-RDPEGFX] 2.2.2.1, codec 8). That what is drawn is opaque, and what isn't
 -- stays with its alpha, is this project's own rule.
 use Rattle.std.specs.Prelude.{ℕ, Bool, true, false, List, [], ◌∷◌, map, Result, Ok}
+use Rattle.gfx_base.specs.Colour.{colour_of, opaque}
 use Rattle.gfx_base.specs.declared.geometry.Rect.{Rect}
 use Rattle.gfx_base.specs.declared.pixel.Pixel.{Pixel}
 use Rattle.gfx_base.specs.declared.pixel.Rgb.{Rgb}
@@ -10,12 +11,6 @@ use Rattle.gfx_base.specs.Results.{◌>>=◌}
 use Rattle.gfx_surface.specs.Picture.{Picture, overlaid, rect_of}
 use Rattle.gfx_clear.specs.State.{State}
 use Rattle.gfx_clear.specs.Clear.{Cleared, clear}
-
-abbrev pub colour_of : Pixel → Rgb
-colour_of pixel = record { b = pixel.b; g = pixel.g; r = pixel.r }
-
-abbrev pub opaque : Rgb → Pixel
-opaque colour = record { b = colour.b; g = colour.g; r = colour.r; a = 255 }
 
 -- pixels with the colours that are drawn over them
 unfoldable pub drawn_over : List Pixel → List Rgb → List Bool → List Pixel

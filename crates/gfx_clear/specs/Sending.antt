@@ -82,6 +82,10 @@ pub record Message : Type 0 where
   pub bytes : List ℕ
   pub state : State
 
+-- bytes that were written, and the state after them
+abbrev pub sends : List ℕ → State → Message
+sends bytes new = record { bytes = bytes; state = new }
+
 abbrev pub message : List ℕ → Rings → List Slot → ℕ → Message
 message bytes rings glyphs sequence = record { bytes = bytes; state = state rings glyphs (Some (next_sequence sequence)) }
 
@@ -98,12 +102,6 @@ sent_as Unused layer rings glyphs sequence width height pixels =
 unfoldable pub sent : State → Layer → Option ℕ → ℕ → ℕ → List Rgb → Message
 sent old layer index width height pixels =
     sent_as (use_of index width height pixels old.glyphs) layer old.rings old.glyphs (sequence_of old) width height pixels
-
--- a picture of so many pixels may be stored at an index
-abbrev pub MayUse : ℕ → GlyphUse → Type 0
-MayUse area (Stores index) = (index < PLACES) × (area ≤ MOST_AREA)
-MayUse area (Shows index) = Unit {0}
-MayUse area Unused = Unit {0}
 
 -- an index for a picture of so many pixels, or none
 abbrev pub MayStore : ℕ → Option ℕ → Type 0

@@ -1,4 +1,5 @@
--- A part that draws the whole rectangle and stands alone, as the calls between the code's functions hand it on.
+-- Inner: a part that draws the whole rectangle and stands alone, as the code's own functions hand it on. No clause
+-- of a public call cites it.
 use Rattle.std.specs.Prelude.{◌≡◌, ℕ, ◌+◌, ◌*◌, List, length, map, Result, Ok, Err}
 use Rattle.gfx_base.specs.declared.pixel.Pixel.{Pixel}
 use Rattle.gfx_base.specs.declared.pixel.Rgb.{Rgb}
@@ -12,7 +13,7 @@ use Rattle.gfx_clear.specs.declared.whole.Whole.{Whole}
 use Rattle.gfx_clear.specs.declared.whole.Whole.TheVariants.{Runs, Raw, Palette}
 use Rattle.gfx_clear.specs.Parts.{covered_by}
 use Rattle.gfx_clear.specs.Subcodecs.{raw_colours}
-use Rattle.gfx_clear.specs.Painting.{opaque}
+use Rattle.gfx_base.specs.Colour.{opaque}
 
 -- its pixels, for so many places
 abbrev pub whole_pixels : Whole → ℕ → Result (List Rgb) Refusal

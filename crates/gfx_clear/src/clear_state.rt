@@ -1,13 +1,14 @@
 //! What either end keeps from stream to stream.
 ghost use Rattle.std.specs.Prelude.{◌≡◌, Ok, ◌≤◌, ◌+◌, ◌*◌, length, IfOk, OnErr, IsTrue};
 ghost use Rattle.gfx_base.specs.Geometry.{lies_in, width_of, height_of};
-ghost use Rattle.gfx_base.specs.Outcome.{Applies};
+ghost use Rattle.gfx_base.specs.Outcome.{Applies, WantsOnlyIf};
 ghost use Rattle.gfx_clear_store.specs.Rings.{AreRings, with_mark};
+ghost use Rattle.gfx_clear.specs.Begun.{is_begun};
 ghost use Rattle.gfx_clear.specs.Clear.{rings_before};
 ghost use Rattle.gfx_clear.specs.State.{fresh, without_sequence};
 ghost use Rattle.gfx_clear.specs.Painting.{scene, decoded};
 ghost use Rattle.gfx_clear.specs.Sending.{MaySend, sent};
-ghost use Rattle.gfx_clear.specs.Inside.{sends};
+ghost use Rattle.gfx_clear.specs.Sending.{sends};
 
 use crate::canvas::Canvas;
 use crate::drawing::draw;
@@ -93,10 +94,13 @@ impl ClearState {
         self.expected = None;
     }
 
-    /// Decodes a stream into a rectangle of a surface. Any fault leaves state and surface as they were.
+    /// Decodes a stream into a rectangle of a surface. Any fault leaves state and surface as they were. Memory is
+    /// wanting only where the head is accepted, and right behind it the sizes of the three parts, or the glyph that
+    /// is shown: until then none is taken.
     pub fn decode(&mut self, surface: &mut Surface, rect: Rect, stream: &[u8]) -> Result<(), Fault>
         requires { IsTrue (lies_in surface.old.width surface.old.height rect) }
-        ensures { Applies result (scene self.old surface.old) (scene self.new surface.new) (decoded (scene self.old surface.old) rect stream.now) }
+        ensures decoded { Applies result (scene self.old surface.old) (scene self.new surface.new) (decoded (scene self.old surface.old) rect stream.now) }
+        ensures memory { WantsOnlyIf result (is_begun self.old (width_of rect) (height_of rect) stream.now) }
     {
         let area = u32::from(rect.width()) * u32::from(rect.height());
         let (head, rest) = match read_head(self.expected, area, stream) {

@@ -1,16 +1,19 @@
 //! What stands behind the head of a stream, drawn in a rectangle of a surface.
-ghost use Rattle.std.specs.Prelude.{◌≡◌, ◌*◌, length, map, IsTrue, OnOk, OnErr};
+ghost use Rattle.std.specs.Prelude.{◌≡◌, ◌*◌, is_ok, length, map, IsTrue, OnOk, OnErr};
 ghost use Rattle.gfx_base.specs.Geometry.{lies_in, width_of, height_of};
-ghost use Rattle.gfx_base.specs.Outcome.{Applies, Gives};
+ghost use Rattle.gfx_base.specs.Outcome.{Applies, Gives, WantsOnlyIf};
 ghost use Rattle.gfx_base.specs.Results.{and_then};
 ghost use Rattle.gfx_surface.specs.Picture.{overlaid, rect_of};
 ghost use Rattle.gfx_clear_store.specs.Rings.{Rings};
 ghost use Rattle.gfx_clear_bands.specs.Canvas.{is_drawn, on_canvas};
 ghost use Rattle.gfx_clear.specs.declared.head.GlyphUse.TheVariants.{Shows};
+ghost use Rattle.gfx_clear.specs.Begun.{is_begun_as};
+ghost use Rattle.gfx_clear.specs.Parts.{parts};
 ghost use Rattle.gfx_clear.specs.Clear.{layered, drawn_in_layers, behind_head, undrawn, glyphs_after, with_glyphs};
-ghost use Rattle.gfx_clear.specs.Inside.{parts_seen, Draws};
+ghost use Rattle.gfx_clear.specs.Inner.{parts_seen, Draws};
 ghost use Rattle.gfx_clear.specs.Wholes.{covers, whole_pixels};
-ghost use Rattle.gfx_clear.specs.Painting.{colour_of, opaque, drawn_over};
+ghost use Rattle.gfx_clear.specs.Painting.{drawn_over};
+ghost use Rattle.gfx_base.specs.Colour.{colour_of, opaque};
 
 use crate::canvas::{Canvas, begin, make_room};
 use crate::head::GlyphUse;
@@ -40,6 +43,7 @@ pub(crate) fn draw(
     requires { IsTrue (lies_in surface.old.width surface.old.height rect) }
     ensures draws { Draws result rect store.new.held glyphs.old glyphs.new surface.old surface.new
         (behind_head glyph (width_of rect) (height_of rect) glyphs.old (undrawn (map colour_of (rect_of surface.old rect)) store.old.held) bytes.now) }
+    ensures memory { WantsOnlyIf result (is_begun_as glyph (width_of rect) (height_of rect) glyphs.old bytes.now) }
     ensures marked { store.new.marked ≡ store.old.marked }
 {
     match glyph {
@@ -60,8 +64,9 @@ fn draw_glyph(
     bytes: &[u8],
 ) -> Result<(), Fault>
     requires { IsTrue (lies_in surface.old.width surface.old.height rect) }
-    ensures { (rings : Rings) → Draws result rect rings glyphs.now glyphs.now surface.old surface.new
+    ensures draws { (rings : Rings) → Draws result rect rings glyphs.now glyphs.now surface.old surface.new
         (behind_head (Shows index) (width_of rect) (height_of rect) glyphs.now (undrawn (map colour_of (rect_of surface.old rect)) rings) bytes.now) }
+    ensures memory { WantsOnlyIf result (is_begun_as (Shows index) (width_of rect) (height_of rect) glyphs.now bytes.now) }
 {
     if !bytes.is_empty() {
         return Err(Fault::Refused(Refusal::ClearLengths));
@@ -107,6 +112,7 @@ fn draw_parts(
     ensures draws { Draws result rect store.new.held glyphs.old glyphs.new surface.old surface.new
         (and_then (drawn_in_layers (width_of rect) (height_of rect) (undrawn (map colour_of (rect_of surface.old rect)) store.old.held) bytes.now)
         (with_glyphs glyph (width_of rect) (height_of rect) glyphs.old)) }
+    ensures memory { WantsOnlyIf result (is_ok (parts bytes.now)) }
     ensures marked { store.new.marked ≡ store.old.marked }
 {
     let parts = match read_parts(bytes) {

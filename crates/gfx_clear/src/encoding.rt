@@ -1,6 +1,7 @@
 //! Streams as a server writes them.
 ghost use Rattle.std.specs.Prelude.{◌≡◌, ◌<◌, ◌≤◌, ◌+◌, ◌*◌, ◌^◌, ◌++◌, length, IfOk, OnErr, OnOk};
-ghost use Rattle.gfx_clear.specs.Sending.{MayUse, use_of, head_bytes, message, part_as, part_bytes, rings_after, sent_as};
+ghost use Rattle.gfx_clear.specs.Sending.{use_of, head_bytes, message, part_as, part_bytes, rings_after, sent_as};
+ghost use Rattle.gfx_clear.specs.Inner.{MayUse};
 
 use crate::head::{GLYPH_HIT, GLYPH_INDEX, GlyphUse};
 use crate::layer::Layer;

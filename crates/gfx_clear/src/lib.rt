@@ -21,5 +21,5 @@ mod whole;
 
 pub use clear_state::ClearState;
 pub use encoding::MOST_PIXELS;
-pub use laws::{held_is_shown, sent_is_decoded};
+pub use laws::{held_is_shown, residual_shows, sent_is_decoded, subcodec_shows};
 pub use layer::Layer;

@@ -6,7 +6,7 @@ ghost use Rattle.gfx_base.specs.Outcome.{Gives, Says};
 ghost use Rattle.gfx_clear_store.specs.Rings.{Rings};
 ghost use Rattle.gfx_clear_bands.specs.Canvas.{on_canvas};
 ghost use Rattle.gfx_clear.specs.Parts.{parts, residual};
-ghost use Rattle.gfx_clear.specs.Inside.{parts_seen};
+ghost use Rattle.gfx_clear.specs.Inner.{parts_seen};
 
 use gfx_base::{Fault, Pixel, Refusal};
 use gfx_clear_runs::paint_runs;

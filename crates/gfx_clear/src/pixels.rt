@@ -2,14 +2,12 @@
 ghost use Rattle.std.specs.Prelude.{◌≡◌, true, List, length, map, IfOk};
 ghost use Rattle.gfx_base.specs.declared.pixel.Pixel.{Pixel as AnyPixel};
 ghost use Rattle.gfx_clear_bands.specs.Canvas.{is_drawn};
-ghost use Rattle.gfx_clear.specs.Painting.{colour_of, opaque, drawn_over};
+ghost use Rattle.gfx_clear.specs.Painting.{drawn_over};
+ghost use Rattle.gfx_base.specs.Colour.{colour_of, opaque};
 
 use gfx_base::{NoMemory, Pixel, Rgb};
 use gfx_clear_bands::DRAWN;
 use std::alloc::Global;
-
-/// The alpha of what is drawn.
-const OPAQUE: u8 = DRAWN;
 
 /// The colours of pixels.
 pub(crate) fn colours_of(alloc: Global, pixels: &[Pixel]) -> Result<Vec<Rgb>, NoMemory>
@@ -17,11 +15,7 @@ pub(crate) fn colours_of(alloc: Global, pixels: &[Pixel]) -> Result<Vec<Rgb>, No
 {
     let mut colours = Vec::with_capacity(alloc, pixels.len())?;
     'pixels: for pixel in pixels {
-        colours.push_reserved(Rgb {
-            b: pixel.b,
-            g: pixel.g,
-            r: pixel.r,
-        });
+        colours.push_reserved(pixel.colour());
     }
     Ok(colours)
 }
@@ -32,7 +26,7 @@ pub(crate) fn pixels_of(alloc: Global, colours: &[Rgb]) -> Result<Vec<Pixel>, No
 {
     let mut pixels = Vec::with_capacity(alloc, colours.len())?;
     'colours: for colour in colours {
-        pixels.push_reserved(opaque(*colour));
+        pixels.push_reserved(colour.opaque());
     }
     Ok(pixels)
 }
@@ -59,17 +53,4 @@ pub(crate) fn is_all_drawn(canvas: &[Pixel]) -> bool
         }
     }
     true
-}
-
-/// A colour that nothing shines through.
-#[inline(always)]
-pub(crate) fn opaque(colour: Rgb) -> Pixel
-    ensures { result ≡ opaque colour }
-{
-    Pixel {
-        b: colour.b,
-        g: colour.g,
-        r: colour.r,
-        a: OPAQUE,
-    }
 }

@@ -3,11 +3,10 @@ ghost use Rattle.std.specs.Prelude.{◌≡◌, ◌<◌, ◌≤◌, ◌+◌, ◌*
 ghost use Rattle.gfx_base.specs.Outcome.{Gives};
 ghost use Rattle.gfx_clear_store.specs.Rings.{Rings};
 ghost use Rattle.gfx_clear_bands.specs.Canvas.{on_canvas};
-ghost use Rattle.gfx_clear.specs.Painting.{opaque};
+ghost use Rattle.gfx_base.specs.Colour.{opaque};
 ghost use Rattle.gfx_clear.specs.Subcodecs.{overwritten, area_drawn, rows_drawn, subcodec, subcodecs};
 
 use crate::area::{AREA, Area, area_at, decode};
-use crate::pixels::opaque;
 use gfx_base::{Fault, Pixel, Rgb};
 use std::alloc::Global;
 
@@ -94,6 +93,6 @@ fn paint_row(row: &[Rgb], out: &mut [Pixel])
     ensures { out.new ≡ map opaque row.now }
 {
     'pixels: for i in 0..row.len() {
-        out[i] = opaque(row[i]);
+        out[i] = row[i].opaque();
     }
 }

@@ -1,15 +1,14 @@
 //! A part that draws the whole rectangle and stands alone: it is painted with no look at what stood there.
 ghost use Rattle.std.specs.Prelude.{◌≡◌, ◌*◌, ◌<◌, ◌^◌, true, length, map, IfSome};
 ghost use Rattle.gfx_clear_bands.specs.Bars.{colours};
-ghost use Rattle.gfx_clear.specs.Painting.{opaque};
+ghost use Rattle.gfx_base.specs.Colour.{opaque};
 ghost use Rattle.gfx_clear.specs.Clear.{layered};
 ghost use Rattle.gfx_clear.specs.Subcodecs.{subcodecs, raw_colours};
-ghost use Rattle.gfx_clear.specs.Inside.{parts_seen};
+ghost use Rattle.gfx_clear.specs.Inner.{parts_seen};
 ghost use Rattle.gfx_clear.specs.Wholes.{CoversAll, IsWhole, PaintsAs, whole_pixels};
 
 use crate::area::{AREA, Area, RAW, RLEX, area_at, colour_at};
 use crate::parts::Parts;
-use crate::pixels::opaque;
 use gfx_base::{Pixel, Refusal};
 use gfx_clear_runs::{paint_rlex, paint_runs};
 
@@ -103,6 +102,6 @@ fn paint_colours(bytes: &[u8], out: &mut [Pixel])
     ensures { out.new ≡ map opaque (colours (length out.old) bytes.now) }
 {
     'pixels: for i in 0..out.len() {
-        out[i] = opaque(colour_at(bytes, 3 * i));
+        out[i] = colour_at(bytes, 3 * i).opaque();
     }
 }

@@ -1,7 +1,7 @@
 use Rattle.std.proofs.Common.{◌≡◌, Ok, sym, subst}
 use Rattle.gfx_base.specs.Outcome.{Gives}
 use Rattle.gfx_clear_bands.specs.Canvas.{on_canvas}
-use Rattle.gfx_clear.specs.Inside.{parts_seen}
+use Rattle.gfx_clear.specs.Inner.{parts_seen}
 use Rattle.gfx_clear.specs.Parts.{residual}
 use Rattle.gfx_clear.proofs.Layers.{Refuses}
 use Rattle.gfx_clear.proofs.Behind.{layered_residual, layered_bands, layered_last}

@@ -3,8 +3,9 @@ use Rattle.gfx_base.specs.Geometry.{width_of, height_of}
 use Rattle.gfx_surface.specs.Picture.{overlaid}
 use Rattle.gfx_clear_bands.specs.Canvas.{is_drawn, on_canvas}
 use Rattle.gfx_clear.specs.Clear.{with_glyphs}
-use Rattle.gfx_clear.specs.Inside.{parts_seen}
-use Rattle.gfx_clear.specs.Painting.{colour_of, drawn_over}
+use Rattle.gfx_clear.specs.Inner.{parts_seen}
+use Rattle.gfx_clear.specs.Painting.{drawn_over}
+use Rattle.gfx_base.specs.Colour.{colour_of}
 use Rattle.gfx_clear.proofs.Layers.{Refuses, refuses_first}
 use Rattle.gfx_clear.proofs.Behind.{glyph_fault, glyph_stored, draws_fault}
 use Rattle.gfx_clear.proofs.Canvases.{layers_over}

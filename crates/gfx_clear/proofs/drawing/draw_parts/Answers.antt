@@ -3,8 +3,8 @@ use Rattle.gfx_base.specs.Geometry.{width_of, height_of}
 use Rattle.gfx_base.specs.Results.{and_then}
 use Rattle.gfx_surface.specs.Picture.{rect_of}
 use Rattle.gfx_clear.specs.Clear.{undrawn, with_glyphs}
-use Rattle.gfx_clear.specs.Inside.{Draws, parts_seen}
-use Rattle.gfx_clear.specs.Painting.{colour_of}
+use Rattle.gfx_clear.specs.Inner.{Draws, parts_seen}
+use Rattle.gfx_base.specs.Colour.{colour_of}
 use Rattle.gfx_clear.proofs.Alone.{whole_over}
 use Rattle.gfx_clear.proofs.Behind.{parts_refused, parts_read}
 use Rattle.gfx_clear.proofs.drawing.draw_parts.Goals as goal

@@ -4,7 +4,7 @@ use Rattle.gfx_base.specs.Geometry.{width_of, height_of}
 use Rattle.gfx_surface.specs.Picture.{overlaid, rect_of}
 use Rattle.gfx_clear.specs.Clear.{undrawn, with_glyphs, glyphs_after}
 use Rattle.gfx_clear.specs.Parts.{covered_by}
-use Rattle.gfx_clear.specs.Painting.{colour_of}
+use Rattle.gfx_base.specs.Colour.{colour_of}
 use Rattle.gfx_clear.specs.Wholes.{whole_pixels}
 use Rattle.gfx_base.specs.Outcome.{Applies}
 use Rattle.gfx_clear.proofs.Layers.{refuses_first}

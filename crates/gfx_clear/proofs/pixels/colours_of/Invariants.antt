@@ -1,6 +1,6 @@
 use Rattle.std.proofs.Common.{◌≡◌, length, map, take}
 use Rattle.std.specs.Vec.{vec_capacity}
-use Rattle.gfx_clear.specs.Painting.{colour_of}
+use Rattle.gfx_base.specs.Colour.{colour_of}
 use Rattle.gfx_clear.proofs.pixels.colours_of.Given as goal
 
 abbrev pub invariant-pixels : goal.invariant-pixels

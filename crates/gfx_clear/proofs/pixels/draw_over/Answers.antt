@@ -1,7 +1,7 @@
 use Rattle.std.proofs.Common.{◌+◌, map, sym, subst, ◌∙◌, arith}
 use Rattle.std.proofs.lemmas.List.{length-map}
 use Rattle.gfx_clear_bands.specs.Canvas.{is_drawn}
-use Rattle.gfx_clear.specs.Painting.{colour_of}
+use Rattle.gfx_base.specs.Colour.{colour_of}
 use Rattle.gfx_clear.proofs.DrawnOver.{Over, over_all}
 use Rattle.gfx_clear.proofs.Canvases.{canvas_drawn, canvas_kept}
 use Rattle.gfx_clear.proofs.pixels.draw_over.Goals.{then-canvas-i, else-canvas-i}

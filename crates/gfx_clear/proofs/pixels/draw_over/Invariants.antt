@@ -1,6 +1,6 @@
 use Rattle.std.proofs.Common.{map}
 use Rattle.gfx_clear_bands.specs.Canvas.{is_drawn}
-use Rattle.gfx_clear.specs.Painting.{colour_of}
+use Rattle.gfx_base.specs.Colour.{colour_of}
 use Rattle.gfx_clear.proofs.DrawnOver.{Over}
 use Rattle.gfx_clear.proofs.pixels.draw_over.Given as goal
 

@@ -1,6 +1,6 @@
 use Rattle.std.proofs.Common.{◌≡◌, length, map, take}
 use Rattle.std.specs.Vec.{vec_capacity}
-use Rattle.gfx_clear.specs.Painting.{opaque}
+use Rattle.gfx_base.specs.Colour.{opaque}
 use Rattle.gfx_clear.proofs.pixels.pixels_of.Given as goal
 
 abbrev pub invariant-colours : goal.invariant-colours

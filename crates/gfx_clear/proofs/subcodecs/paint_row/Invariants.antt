@@ -1,5 +1,5 @@
 use Rattle.std.proofs.Common.{◌≡◌, map, take}
-use Rattle.gfx_clear.specs.Painting.{opaque}
+use Rattle.gfx_base.specs.Colour.{opaque}
 use Rattle.gfx_clear.proofs.subcodecs.paint_row.Given as goal
 
 abbrev pub invariant-pixels : goal.invariant-pixels

@@ -2,7 +2,7 @@ use Rattle.std.proofs.Common.{◌*◌, ◌++◌, ◌∷◌, [], map, sym, ap, �
 use Rattle.std.proofs.lemmas.List.{take_more_set, map-append}
 use Rattle.gfx_clear_bands.proofs.Making.{colours-more, colours-none}
 use Rattle.gfx_clear_bands.specs.Bars.{colour_at, colours}
-use Rattle.gfx_clear.specs.Painting.{opaque}
+use Rattle.gfx_base.specs.Colour.{opaque}
 use Rattle.gfx_clear.proofs.whole.paint_colours.Goals as goal
 
 pub pixels-init : goal.pixels-init

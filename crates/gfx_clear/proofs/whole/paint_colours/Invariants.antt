@@ -1,6 +1,6 @@
 use Rattle.std.proofs.Common.{◌≡◌, map, take}
 use Rattle.gfx_clear_bands.specs.Bars.{colours}
-use Rattle.gfx_clear.specs.Painting.{opaque}
+use Rattle.gfx_base.specs.Colour.{opaque}
 use Rattle.gfx_clear.proofs.whole.paint_colours.Given as goal
 
 abbrev pub invariant-pixels : goal.invariant-pixels

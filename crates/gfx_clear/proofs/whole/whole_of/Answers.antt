@@ -1,7 +1,7 @@
 use Rattle.std.proofs.Common.{length, refl}
 use Rattle.gfx_clear_bands.proofs.Drawings.{none_left}
 use Rattle.gfx_clear_runs.proofs.Appending.{is_none, is_some}
-use Rattle.gfx_clear.specs.Inside.{parts_seen}
+use Rattle.gfx_clear.specs.Inner.{parts_seen}
 use Rattle.gfx_clear.proofs.Alone.{any_last_whole, runs_whole}
 use Rattle.gfx_clear.proofs.whole.whole_of.Goals as goal
 

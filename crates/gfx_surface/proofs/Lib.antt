@@ -1,4 +1,10 @@
 pub mod Places
 pub mod CopyLemmas
+pub mod CellPlaces
 pub mod PictureLemmas
+pub mod Wheres
+pub mod CellWrites
+pub mod Runs
+pub mod ViewLemmas
+pub mod LendLemmas
 pub mod Numbers

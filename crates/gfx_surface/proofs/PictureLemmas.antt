@@ -1,6 +1,6 @@
 -- Pictures from their lists of pixels, and what each change leaves.
-use Rattle.std.proofs.Common.{◌≡◌, refl, sym, ap, ◌∙◌, subst, IsTrue, true, false, Bool, if◌then◌else◌, ℕ, ◌+◌, ◌-◌, ◌*◌, ◌/◌, ◌%◌, ◌<◌, ◌≤◌, ◌&&◌, nat_le, nat_lt, List, [], ◌∷◌, map, length, take, drop, get_or, get_or-take, get_or-drop, length-take, length-drop, replicate, All, arith}
-use Rattle.std.proofs.lemmas.List.{get_or-map, drop-drop, drop-take, take-take}
+use Rattle.std.proofs.Common.{◌≡◌, refl, sym, ap, ◌∙◌, subst, IsTrue, true, false, Bool, if◌then◌else◌, ℕ, ◌+◌, ◌-◌, ◌*◌, ◌/◌, ◌%◌, ◌<◌, ◌≤◌, min, ◌&&◌, nat_le, nat_lt, List, [], ◌∷◌, map, length, take, drop, get_or, get_or-take, get_or-drop, length-take, length-drop, replicate, All, arith}
+use Rattle.std.proofs.lemmas.List.{get_or-map, ext_get_or, length-replicate, get_or-replicate}
 use Rattle.std.proofs.lemmas.List.Elements.{All-replicate, All-from_get_or, All-get_or}
 use Rattle.std.proofs.lemmas.List.FromFn.{fill_by_all, length-map-range_with_len, get_or-map-range_with_len}
 use Rattle.std.proofs.lemmas.Bool.Decides.{nat_tests}
@@ -9,16 +9,16 @@ use Rattle.gfx_base.specs.declared.format.Format.TheVariants.{Xrgb, Argb}
 use Rattle.gfx_base.specs.declared.geometry.Point.{Point}
 use Rattle.gfx_base.specs.declared.geometry.Rect.{Rect}
 use Rattle.gfx_base.specs.declared.pixel.Pixel.{Pixel}
-use Rattle.gfx_base.specs.Geometry.{holds, lies_in, width_of, height_of, moved}
-use Rattle.gfx_surface.specs.Picture.{Picture, IsPicture, filled, copied, overlaid, redrawn, rect_of, in_rect, raw_pixels, shade, zero_colour, no_pixel, pixel_at, row_of, run_of, drawn}
-use Rattle.gfx_surface.specs.Rows.{WritesRows, taken_from}
+use Rattle.gfx_base.specs.Geometry.{holds, lies_in, width_of, height_of, moved, sized}
+use Rattle.gfx_surface.specs.Picture.{Picture, IsPicture, blank, filled, copied, overlaid, redrawn, rect_of, in_rect, raw_pixels, shade, zero_colour, no_pixel, pixel_at, row_of, run_of, drawn}
+use Rattle.gfx_surface.specs.declared.TheConstants.{MOST_SIDE}
+use Rattle.gfx_surface.specs.Cells.{kept_at, place, places, shown}
+use Rattle.gfx_surface.specs.Rows.{WritesRows}
+use Rattle.gfx_surface.specs.Where.{WritesWhere, taken_from}
 use Rattle.std.proofs.lemmas.Nat.{mul-add-lt, div-mul-add, mod-mul-add, div_below, row_fits}
 use Rattle.gfx_surface.proofs.Places.{some_columns}
+use Rattle.gfx_surface.proofs.CellPlaces.{place_below}
 use Rattle.gfx_surface.proofs.CopyLemmas.{each_alike, length-raw_pixels}
-
--- a place is its row's start and its column
-same_place : (k width height : ℕ) → k < width * height → k ≡ k / width * width + k % width
-same_place k width height below = let some : 0 < width = some_columns k width height below in omega arith
 
 -- a list that is drawn has a pixel for each place
 pub length-drawn : (width height : ℕ) (f : ℕ → ℕ → Pixel) → length (drawn width height f) ≡ width * height
@@ -46,23 +46,21 @@ pub get_or-row_of : (picture : Picture) (y x : ℕ) → x < picture.width → ge
 get_or-row_of picture y x column =
     get_or-take picture.width (drop (y * picture.width) picture.pixels) x no_pixel column ∙ get_or-drop (y * picture.width) picture.pixels x no_pixel
 
--- a run of a row is a run of the pixels
-pub run_of-pixels : (picture : Picture) (x y count : ℕ) → x + count ≤ picture.width
-    → take count (drop (y * picture.width + x) picture.pixels) ≡ run_of picture x y count
-run_of-pixels picture x y count within =
-    let rest : ℕ = picture.width - x in
-    let whole : x + rest ≡ picture.width = omega arith in
-    let less : count ≤ rest = omega arith in
-    ap (take count) (sym (drop-drop x (y * picture.width) picture.pixels))
-    ∙ sym (take-take count rest (drop x (drop (y * picture.width) picture.pixels)) less)
-    ∙ ap (take count) (sym (drop-take x rest (drop (y * picture.width) picture.pixels)) ∙ ap (λ n. drop x (take n (drop (y * picture.width) picture.pixels))) whole)
-
--- and so it is where it was cut out of the pixels from its start to its end
-pub run_of-cut : (picture : Picture) (x y count start end : ℕ) (pixels run : List Pixel) → x + count ≤ picture.width → pixels ≡ picture.pixels
-    → start ≡ y * picture.width + x → end ≡ start + count → run ≡ take (end - start) (drop start pixels) → run ≡ run_of picture x y count
-run_of-cut picture x y count start end pixels run within same begins ends cut =
-    let long : end - start ≡ count = omega arith in
-    cut ∙ (λ i. take (long i) (drop (begins i) (same i))) ∙ run_of-pixels picture x y count within
+-- pixels that are a picture's are a run of its row
+pub run_read : (picture : Picture) (x y count : ℕ) (out : List Pixel) → IsPicture picture → length out ≡ count → x + count ≤ picture.width → y < picture.height
+    → ((k : ℕ) → k < count → get_or out k no_pixel ≡ pixel_at picture (x + k) y) → out ≡ run_of picture x y count
+run_read picture x y count out shape counted columns row each =
+    ext_get_or no_pixel out (run_of picture x y count) (counted ∙ sym long) (λ k below.
+    let less : k < count = omega (arith, below, counted) in
+    each k less ∙ sym (get_or-take count (drop x (row_of picture y)) k no_pixel less ∙ get_or-drop x (row_of picture y) k no_pixel
+    ∙ get_or-row_of picture y (x + k) (omega arith)))
+  where
+    long : length (run_of picture x y count) ≡ count
+    long =
+        let whole : length (row_of picture y) ≡ picture.width = length-row_of picture y shape row in
+        let rest : length (drop x (row_of picture y)) ≡ length (row_of picture y) - x = length-drop x (row_of picture y) in
+        let all : length (take count (drop x (row_of picture y))) ≡ min count (length (drop x (row_of picture y))) = length-take count (drop x (row_of picture y)) in
+        all ∙ omega (arith, columns, whole, rest)
 
 -- the row of a place, and its column, are among those there
 row_below : (k width height : ℕ) → k < width * height → k / width < height
@@ -72,35 +70,49 @@ row_below k width height below =
 column_below : (k width height : ℕ) → k < width * height → k % width < width
 column_below k width height below = let some : 0 < width = some_columns k width height below in omega arith
 
+-- functions that are alike on the places draw one list
+pub drawn_alike : (width height : ℕ) (f g : ℕ → ℕ → Pixel) → ((x y : ℕ) → x < width → y < height → f x y ≡ g x y) → drawn width height f ≡ drawn width height g
+drawn_alike width height f g alike =
+    drawn_by_all width height g no_pixel (drawn width height f) (length-drawn width height f)
+    (λ k below.
+    get_or-map-range_with_len (λ k. f (k % width) (k / width)) 0 (width * height) k k no_pixel below (omega arith)
+    ∙ alike (k % width) (k / width) (column_below k width height below) (row_below k width height below))
+
+-- the picture that cells show
+abbrev pub of_cells : ℕ → ℕ → Format → List Pixel → Picture
+of_cells width height format cells = record { width = width; height = height; format = format; pixels = shown width height cells }
+
+-- and its pixels
+pub pixel_at-of_cells : (width height : ℕ) (format : Format) (cells : List Pixel) (x y : ℕ) → x < width → y < height
+    → pixel_at (of_cells width height format cells) x y ≡ kept_at width cells x y
+pixel_at-of_cells width height format cells x y column row = pixel_at-drawn width height x y (kept_at width cells) no_pixel column row
+
 -- a choice by a test, one of whose sides is told otherwise
 pub choose : (test : Bool) (p q other : Pixel) → (test ≡ true → p ≡ q) → (if test then p else other) ≡ (if test then q else other)
 choose true p q other same = same refl
 choose false p q other same = refl
 
--- a picture whose rows are written is redrawn
-pub rows_redrawn : (picture : Picture) (rect : Rect) (f g : ℕ → ℕ → Pixel) (width : ℕ) (old new : List Pixel) → IsPicture picture
-    → width ≡ picture.width → old ≡ picture.pixels → length new ≡ length old → WritesRows width rect f old new
-    → ((x y : ℕ) → holds rect x y ≡ true → x < picture.width → y < picture.height → f x y ≡ g x y)
-    → record picture { pixels = new } ≡ redrawn picture (λ x y. if holds rect x y then g x y else pixel_at picture x y)
-rows_redrawn picture rect f g width old new shape wide pixels same rows says =
-    let full : length old ≡ picture.width * picture.height = ap length pixels ∙ shape.full in
-    ap (λ (pixels : List Pixel). record picture { pixels = pixels })
-    (drawn_by_all picture.width picture.height
-    (λ x y. if holds rect x y then g x y else pixel_at picture x y) no_pixel new (same ∙ full)
-    (λ k below. rows k no_pixel (omega arith)
-    ∙ (λ i. if holds rect (k % wide i) (k / wide i) then f (k % wide i) (k / wide i) else get_or (pixels i) k no_pixel)
-    ∙ choose (holds rect (k % picture.width) (k / picture.width)) _ _ _
-    (λ hit. says (k % picture.width) (k / picture.width) hit (column_below k picture.width picture.height below) (row_below k picture.width picture.height below))
-    ∙ ap (λ p. if holds rect (k % picture.width) (k / picture.width) then g (k % picture.width) (k / picture.width) else get_or picture.pixels p no_pixel)
-    (same_place k picture.width picture.height below)))
+-- cells with written places show a picture that is redrawn
+pub cells_redrawn : (width height : ℕ) (format : Format) (test : ℕ → ℕ → Bool) (f g : ℕ → ℕ → Pixel) (old new : List Pixel)
+    → WritesWhere width height test f old new
+    → ((x y : ℕ) → test x y ≡ true → x < width → y < height → f x y ≡ g x y)
+    → of_cells width height format new
+    ≡ redrawn (of_cells width height format old) (λ x y. if test x y then g x y else pixel_at (of_cells width height format old) x y)
+cells_redrawn width height format test f g old new writes says =
+    ap (λ (pixels : List Pixel). record { width = width; height = height; format = format; pixels = pixels })
+    (drawn_alike width height (kept_at width new) (λ x y. if test x y then g x y else pixel_at (of_cells width height format old) x y)
+    (λ x y column row.
+    writes x y no_pixel column row
+    ∙ choose (test x y) (f x y) (g x y) (kept_at width old x y) (λ hit. says x y hit column row)
+    ∙ ap (λ p. if test x y then g x y else p) (sym (pixel_at-of_cells width height format old x y column row))))
 
--- a picture whose rows are filled is the filled picture
-pub rows_filled : (picture : Picture) (rect : Rect) (colour shown : Pixel) (width : ℕ) (old new : List Pixel) → IsPicture picture
-    → width ≡ picture.width → shown ≡ shade picture.format colour → old ≡ picture.pixels → length new ≡ length old
-    → WritesRows width rect (λ _ _. shown) old new → record picture { pixels = new } ≡ filled picture rect colour
+-- cells of which a rectangle is filled
+pub cells_filled : (width height : ℕ) (format : Format) (rect : Rect) (colour kept : Pixel) (old new : List Pixel) → kept ≡ shade format colour
+    → WritesWhere width height (holds rect) (λ _ _. kept) old new
+    → of_cells width height format new ≡ filled (of_cells width height format old) rect colour
 unfolding filled
-rows_filled picture rect colour shown width old new shape wide shade_is pixels same rows =
-    rows_redrawn picture rect (λ _ _. shown) (λ _ _. shade picture.format colour) width old new shape wide pixels same rows (λ _ _ _ _ _. shade_is)
+cells_filled width height format rect colour kept old new keeps writes =
+    cells_redrawn width height format (holds rect) (λ _ _. kept) (λ _ _. shade format colour) old new writes (λ _ _ _ _ _. keeps)
 
 -- the pixel that a place of a moved rectangle comes from is in the rectangle
 came_column : (rect : Rect) (to : Point) (width height x y : ℕ) → IsTrue (lies_in width height rect) → holds (moved rect to) x y ≡ true → x - to.x + rect.left < width
@@ -116,44 +128,33 @@ shade-pixel_at picture x y shape column row =
     let place : y * picture.width + x < picture.width * picture.height = mul-add-lt y picture.width x picture.height row column in
     All-get_or (λ pixel. shade picture.format pixel ≡ pixel) picture.pixels (y * picture.width + x) no_pixel (omega (arith, shape.full)) shape.shaded
 
--- a picture whose rows are moved is a copy of itself
-pub rows_moved : (picture : Picture) (rect : Rect) (to : Point) (width : ℕ) (old new : List Pixel) → IsPicture picture
-    → IsTrue (lies_in picture.width picture.height rect) → width ≡ picture.width → old ≡ picture.pixels → length new ≡ length old
-    → WritesRows width (moved rect to) (taken_from width old rect to) old new
-    → record picture { pixels = new } ≡ copied picture rect to picture
+-- cells of which a rectangle is moved
+pub cells_moved : (width height : ℕ) (format : Format) (rect : Rect) (to : Point) (old new : List Pixel) → IsPicture (of_cells width height format old)
+    → IsTrue (lies_in width height rect)
+    → WritesWhere width height (holds (moved rect to)) (taken_from width old rect to) old new
+    → of_cells width height format new ≡ copied (of_cells width height format old) rect to (of_cells width height format old)
 unfolding copied
-rows_moved picture rect to width old new shape inside wide pixels same rows =
-    rows_redrawn picture (moved rect to) (taken_from width old rect to)
-    (λ x y. shade picture.format (pixel_at picture (x - to.x + rect.left) (y - to.y + rect.top))) width old new shape wide pixels same rows
+cells_moved width height format rect to old new shape inside writes =
+    cells_redrawn width height format (holds (moved rect to)) (taken_from width old rect to)
+    (λ x y. shade format (pixel_at (of_cells width height format old) (x - to.x + rect.left) (y - to.y + rect.top))) old new writes
     (λ x y hit _ _.
-    (λ i. taken_from (wide i) (pixels i) rect to x y)
-    ∙ sym (shade-pixel_at picture (x - to.x + rect.left) (y - to.y + rect.top) shape
-    (came_column rect to picture.width picture.height x y inside hit) (came_row rect to picture.width picture.height x y inside hit)))
+    let column = came_column rect to width height x y inside hit in
+    let row = came_row rect to width height x y inside hit in
+    sym (shade-pixel_at (of_cells width height format old) (x - to.x + rect.left) (y - to.y + rect.top) shape column row
+    ∙ pixel_at-of_cells width height format old (x - to.x + rect.left) (y - to.y + rect.top) column row))
 
--- a picture whose rows are taken from another is a copy
-pub rows_copied : (picture source : Picture) (rect : Rect) (to : Point) (format : Format) (width from_width : ℕ) (old new from : List Pixel) → IsPicture picture
-    → width ≡ picture.width → old ≡ picture.pixels → length new ≡ length old → format ≡ picture.format → from_width ≡ source.width → from ≡ source.pixels
-    → WritesRows width (moved rect to) (λ x y. shade format (taken_from from_width from rect to x y)) old new
-    → record picture { pixels = new } ≡ copied source rect to picture
+-- cells to which a rectangle of others is taken
+pub cells_copied : (width height from_width from_height : ℕ) (format from_format : Format) (rect : Rect) (to : Point) (from old new : List Pixel)
+    → IsTrue (lies_in from_width from_height rect)
+    → WritesWhere width height (holds (moved rect to)) (λ x y. shade format (taken_from from_width from rect to x y)) old new
+    → of_cells width height format new ≡ copied (of_cells from_width from_height from_format from) rect to (of_cells width height format old)
 unfolding copied
-rows_copied picture source rect to format width from_width old new from shape wide pixels same keeps from_wide from_pixels rows =
-    rows_redrawn picture (moved rect to) (λ x y. shade format (taken_from from_width from rect to x y))
-    (λ x y. shade picture.format (pixel_at source (x - to.x + rect.left) (y - to.y + rect.top))) width old new shape wide pixels same rows
-    (λ x y _ _ _ i. shade (keeps i) (taken_from (from_wide i) (from_pixels i) rect to x y))
-
--- a rectangle from the top left corner, taken to its own place
-pub moved_back : (rect : Rect) (width height : ℕ) → IsTrue (lies_in width height rect)
-    → moved (record { left = 0; top = 0; right = width_of rect; bottom = height_of rect }) (record { x = rect.left; y = rect.top }) ≡ rect
-moved_back rect width height inside =
-    let right : rect.left + (width_of rect - 0) ≡ rect.right = across rect width height inside in
-    let bottom : rect.top + (height_of rect - 0) ≡ rect.bottom = down rect width height inside in
-    λ i. record rect { right = right i; bottom = bottom i }
-  where
-    across : (rect : Rect) (width height : ℕ) → IsTrue (lies_in width height rect) → rect.left + (width_of rect - 0) ≡ rect.right
-    across rect width height inside = grind (arith, nat_tests)
-
-    down : (rect : Rect) (width height : ℕ) → IsTrue (lies_in width height rect) → rect.top + (height_of rect - 0) ≡ rect.bottom
-    down rect width height inside = grind (arith, nat_tests)
+cells_copied width height from_width from_height format from_format rect to from old new inside writes =
+    cells_redrawn width height format (holds (moved rect to)) (λ x y. shade format (taken_from from_width from rect to x y))
+    (λ x y. shade format (pixel_at (of_cells from_width from_height from_format from) (x - to.x + rect.left) (y - to.y + rect.top))) old new writes
+    (λ x y hit _ _.
+    ap (shade format) (sym (pixel_at-of_cells from_width from_height from_format from (x - to.x + rect.left) (y - to.y + rect.top)
+    (came_column rect to from_width from_height x y inside hit) (came_row rect to from_width from_height x y inside hit))))
 
 -- a place of a rectangle has a pixel among those of the rectangle
 in_its_pixels : (rect : Rect) (x y : ℕ) → holds rect x y ≡ true → (y - rect.top) * width_of rect + (x - rect.left) < width_of rect * height_of rect
@@ -165,29 +166,17 @@ in_its_pixels rect x y hit = mul-add-lt (y - rect.top) (width_of rect) (x - rect
     wide : (rect : Rect) (x y : ℕ) → holds rect x y ≡ true → x - rect.left < width_of rect
     wide rect x y hit = grind (arith, nat_tests)
 
--- a picture whose rows are put down is overlaid
-pub rows_overlaid : (picture : Picture) (rect : Rect) (format : Format) (width from_width right bottom : ℕ) (old new from : List Pixel) → IsPicture picture
-    → IsTrue (lies_in picture.width picture.height rect)
-    → width ≡ picture.width → old ≡ picture.pixels → length new ≡ length old
-    → length from ≡ width_of rect * height_of rect → map (shade format) from ≡ map (shade picture.format) from
-    → from_width ≡ width_of rect → right ≡ width_of rect → bottom ≡ height_of rect
-    → WritesRows width (moved (record { left = 0; top = 0; right = right; bottom = bottom }) (record { x = rect.left; y = rect.top }))
-    (λ x y. shade format (taken_from from_width from (record { left = 0; top = 0; right = right; bottom = bottom }) (record { x = rect.left; y = rect.top }) x y)) old new
-    → record picture { pixels = new } ≡ overlaid picture rect from
+-- cells with pixels in a rectangle
+pub cells_overlaid : (width height : ℕ) (format keeps : Format) (rect : Rect) (from old new : List Pixel)
+    → length from ≡ width_of rect * height_of rect → map (shade keeps) from ≡ map (shade format) from
+    → WritesWhere width height (holds rect) (λ x y. shade keeps (in_rect rect from x y)) old new
+    → of_cells width height format new ≡ overlaid (of_cells width height format old) rect from
 unfolding overlaid
-rows_overlaid picture rect format width from_width right bottom old new from shape inside wide pixels same whole alike from_wide rights bottoms rows =
-    let place : moved (record { left = 0; top = 0; right = right; bottom = bottom }) (record { x = rect.left; y = rect.top }) ≡ rect =
-    (λ i. moved (record { left = 0; top = 0; right = rights i; bottom = bottoms i }) (record { x = rect.left; y = rect.top }))
-    ∙ moved_back rect picture.width picture.height inside in
-    rows_redrawn picture rect (λ x y. shade format (get_or from ((y - rect.top + 0) * from_width + (x - rect.left + 0)) no_pixel))
-    (λ x y. shade picture.format (in_rect rect from x y)) width old new shape wide pixels same
-    (subst (λ r. WritesRows width r (λ x y. shade format (get_or from ((y - rect.top + 0) * from_width + (x - rect.left + 0)) no_pixel)) old new) place rows)
+cells_overlaid width height format keeps rect from old new whole alike writes =
+    cells_redrawn width height format (holds rect) (λ x y. shade keeps (in_rect rect from x y)) (λ x y. shade format (in_rect rect from x y)) old new writes
     (λ x y hit _ _.
-    let row : y - rect.top + 0 ≡ y - rect.top = omega arith in
-    let column : x - rect.left + 0 ≡ x - rect.left = omega arith in
     let below : (y - rect.top) * width_of rect + (x - rect.left) < length from = subst (λ n. (y - rect.top) * width_of rect + (x - rect.left) < n) (sym whole) (in_its_pixels rect x y hit) in
-    (λ i. shade format (get_or from (row i * from_wide i + column i) no_pixel))
-    ∙ each_alike format picture.format from ((y - rect.top) * width_of rect + (x - rect.left)) alike below)
+    each_alike keeps format from ((y - rect.top) * width_of rect + (x - rect.left)) alike below)
 
 -- data as a format keeps them that keeps what two formats keep
 raw-both : (both first second : Format) (bytes : List ℕ) → ((pixel : Pixel) → shade both pixel ≡ shade first (shade second pixel))
@@ -200,43 +189,43 @@ raw-both both first second (b ∷ []) keeps = refl
 raw-both both first second (b ∷ g ∷ []) keeps = refl
 raw-both both first second (b ∷ g ∷ r ∷ []) keeps = refl
 
--- a picture whose rows are made of data is overlaid
-pub rows_raw : (picture : Picture) (rect : Rect) (both format : Format) (width : ℕ) (old new : List Pixel) (bytes : List ℕ) → IsPicture picture
-    → width ≡ picture.width → old ≡ picture.pixels → length new ≡ length old
-    → ((pixel : Pixel) → shade both pixel ≡ shade picture.format (shade format pixel)) → length bytes ≡ 4 * (width_of rect * height_of rect)
-    → WritesRows width rect (in_rect rect (raw_pixels both bytes)) old new
-    → record picture { pixels = new } ≡ overlaid picture rect (raw_pixels format bytes)
+-- cells with the pixels of data in a rectangle
+pub cells_raw : (width height : ℕ) (format both data_format : Format) (rect : Rect) (bytes : List ℕ) (old new : List Pixel)
+    → ((pixel : Pixel) → shade both pixel ≡ shade format (shade data_format pixel)) → length bytes ≡ 4 * (width_of rect * height_of rect)
+    → WritesWhere width height (holds rect) (in_rect rect (raw_pixels both bytes)) old new
+    → of_cells width height format new ≡ overlaid (of_cells width height format old) rect (raw_pixels data_format bytes)
 unfolding overlaid
-rows_raw picture rect both format width old new bytes shape wide pixels same keeps whole rows =
-    rows_redrawn picture rect (in_rect rect (raw_pixels both bytes)) (λ x y. shade picture.format (in_rect rect (raw_pixels format bytes) x y)) width old new shape wide pixels same rows
+cells_raw width height format both data_format rect bytes old new keeps whole writes =
+    cells_redrawn width height format (holds rect) (in_rect rect (raw_pixels both bytes)) (λ x y. shade format (in_rect rect (raw_pixels data_format bytes) x y)) old new writes
     (λ x y hit _ _.
-    ap (λ (pixels : List Pixel). in_rect rect pixels x y) (raw-both both picture.format format bytes keeps)
-    ∙ get_or-map (shade picture.format) (raw_pixels format bytes) _ no_pixel no_pixel
-    (let some = in_its_pixels rect x y hit in omega (arith, length-raw_pixels format (width_of rect * height_of rect) bytes whole)))
+    ap (λ (pixels : List Pixel). in_rect rect pixels x y) (raw-both both format data_format bytes keeps)
+    ∙ get_or-map (shade format) (raw_pixels data_format bytes) _ no_pixel no_pixel
+    (let some = in_its_pixels rect x y hit in omega (arith, length-raw_pixels data_format (width_of rect * height_of rect) bytes whole)))
 
--- rows read from a picture are its rectangle's pixels
-pub rows_read : (picture : Picture) (rect : Rect) (width from_width : ℕ) (old new from : List Pixel)
-    → width ≡ width_of rect → length old ≡ width_of rect * height_of rect → length new ≡ length old → from_width ≡ picture.width → from ≡ picture.pixels
-    → WritesRows width (moved rect (record { x = 0; y = 0 })) (λ x y. shade Argb (taken_from from_width from rect (record { x = 0; y = 0 }) x y)) old new
-    → new ≡ rect_of picture rect
-rows_read picture rect width from_width old new from wide full same from_wide from_pixels rows =
-    drawn_by_all (width_of rect) (height_of rect) (λ x y. pixel_at picture (x + rect.left) (y + rect.top)) no_pixel new (same ∙ full)
+-- pixels read from cells are the rectangle's
+pub rect_read : (width height : ℕ) (format : Format) (rect : Rect) (cells old new : List Pixel)
+    → IsTrue (lies_in width height rect) → length old ≡ width_of rect * height_of rect → length new ≡ length old
+    → WritesRows (width_of rect) (sized (width_of rect) (height_of rect)) (λ x y. kept_at width cells (x + rect.left) (y + rect.top)) old new
+    → new ≡ rect_of (of_cells width height format cells) rect
+rect_read width height format rect cells old new inside full same rows =
+    drawn_by_all (width_of rect) (height_of rect) (λ x y. pixel_at (of_cells width height format cells) (x + rect.left) (y + rect.top)) no_pixel new (same ∙ full)
     (λ k below.
-    let hit : holds (moved rect (record { x = 0; y = 0 })) (k % width_of rect) (k / width_of rect) ≡ true = in_all (width_of rect) (height_of rect) (k % width_of rect) (k / width_of rect)
-    (column_below k (width_of rect) (height_of rect) below) (row_below k (width_of rect) (height_of rect) below) in
+    let column = column_below k (width_of rect) (height_of rect) below in
+    let row = row_below k (width_of rect) (height_of rect) below in
+    let hit : holds (sized (width_of rect) (height_of rect)) (k % width_of rect) (k / width_of rect) ≡ true = in_all (width_of rect) (height_of rect) (k % width_of rect) (k / width_of rect) column row in
     rows k no_pixel (omega arith)
-    ∙ (λ i. if holds (moved rect (record { x = 0; y = 0 })) (k % wide i) (k / wide i) then taken_from (from_wide i) (from_pixels i) rect (record { x = 0; y = 0 }) (k % wide i) (k / wide i) else get_or old k no_pixel)
-    ∙ ap (λ b. if b then pixel_at picture (k % width_of rect - 0 + rect.left) (k / width_of rect - 0 + rect.top) else get_or old k no_pixel) hit
-    ∙ places (k % width_of rect) (k / width_of rect))
+    ∙ ap (λ b. if b then kept_at width cells (k % width_of rect + rect.left) (k / width_of rect + rect.top) else get_or old k no_pixel) hit
+    ∙ sym (pixel_at-of_cells width height format cells (k % width_of rect + rect.left) (k / width_of rect + rect.top)
+    (wide rect width height (k % width_of rect) inside column) (high rect width height (k / width_of rect) inside row)))
   where
-    in_all : (w h x y : ℕ) → x < w → y < h → (nat_le 0 x && nat_lt x (0 + w) && nat_le 0 y && nat_lt y (0 + h)) ≡ true
+    in_all : (w h x y : ℕ) → x < w → y < h → (nat_le 0 x && nat_lt x w && nat_le 0 y && nat_lt y h) ≡ true
     in_all w h x y column row = grind (arith, nat_tests)
 
-    places : (x y : ℕ) → pixel_at picture (x - 0 + rect.left) (y - 0 + rect.top) ≡ pixel_at picture (x + rect.left) (y + rect.top)
-    places x y =
-        let column : x - 0 + rect.left ≡ x + rect.left = omega arith in
-        let row : y - 0 + rect.top ≡ y + rect.top = omega arith in
-        λ i. pixel_at picture (column i) (row i)
+    wide : (rect : Rect) (width height x : ℕ) → IsTrue (lies_in width height rect) → x < width_of rect → x + rect.left < width
+    wide rect width height x inside column = grind (arith, nat_tests)
+
+    high : (rect : Rect) (width height y : ℕ) → IsTrue (lies_in width height rect) → y < height_of rect → y + rect.top < height
+    high rect width height y inside row = grind (arith, nat_tests)
 
 -- what a format keeps it keeps again
 pub shade-shade : (format : Format) (pixel : Pixel) → shade format (shade format pixel) ≡ shade format pixel
@@ -275,7 +264,7 @@ redrawn_is_picture picture f shape keeps = record {
         ∙ sym is
 
 -- and where only some places are given new pixels
-redrawn_some : (picture : Picture) (test : ℕ → ℕ → Bool) (f : ℕ → ℕ → Pixel) → IsPicture picture
+pub redrawn_some : (picture : Picture) (test : ℕ → ℕ → Bool) (f : ℕ → ℕ → Pixel) → IsPicture picture
     → IsPicture (redrawn picture (λ x y. if test x y then shade picture.format (f x y) else pixel_at picture x y))
 redrawn_some picture test f shape =
     redrawn_is_picture picture _ shape (λ x y column row. by x y column row (test x y))
@@ -341,3 +330,26 @@ pub length-filled : (picture : Picture) (rect : Rect) (colour : Pixel) → lengt
 unfolding filled
 length-filled picture rect colour =
     length-drawn picture.width picture.height (λ x y. if holds rect x y then shade picture.format colour else pixel_at picture x y)
+
+-- new cells show a new picture
+pub blank_cells : (width height count : ℕ) (format : Format) → count ≡ places width height
+    → of_cells width height format (replicate count (zero_colour format)) ≡ blank width height format
+blank_cells width height count format counted =
+    ap (λ (pixels : List Pixel). record { width = width; height = height; format = format; pixels = pixels })
+    (sym (drawn_by_all width height (kept_at width (replicate count (zero_colour format))) no_pixel (replicate (width * height) (zero_colour format))
+    (length-replicate (width * height) (zero_colour format))
+    (λ k below.
+    let inside : place width (k % width) (k / width) < count = subst (λ m. place width (k % width) (k / width) < m) (sym counted) (place_below width height (k % width) (k / width) (column_below k width height below) (row_below k width height below)) in
+    get_or-replicate (width * height) k (zero_colour format) no_pixel below
+    ∙ sym (get_or-replicate count (place width (k % width) (k / width)) (zero_colour format) no_pixel inside))))
+
+-- and it is one
+pub blank_is_picture : (width height : ℕ) (format : Format) → 1 ≤ width → width ≤ MOST_SIDE → 1 ≤ height → height ≤ MOST_SIDE → IsPicture (blank width height format)
+blank_is_picture width height format width_from width_most height_from height_most = record {
+  width_from = width_from;
+  width_most = width_most;
+  height_from = height_from;
+  height_most = height_most;
+  full = length-replicate (width * height) (zero_colour format);
+  shaded = blank_shaded format (width * height);
+}

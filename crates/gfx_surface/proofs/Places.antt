@@ -6,7 +6,7 @@ use Rattle.std.proofs.lemmas.Bool.{cases_order, cases_lt}
 use borrow.Rule.Slice.PartMut.{put_mid}
 use Rattle.std.proofs.Math.Nat.{mul-le-mul_left}
 use Rattle.std.proofs.lemmas.Bool.Decides.{nat_tests}
-use Rattle.gfx_base.specs.Geometry.{lies_in, holds}
+use Rattle.gfx_base.specs.Geometry.{lies_in}
 use Rattle.gfx_base.specs.declared.geometry.Rect.{Rect}
 use Rattle.gfx_base.specs.declared.pixel.Pixel.{Pixel}
 use Rattle.gfx_surface.specs.Picture.{no_pixel}
@@ -34,12 +34,6 @@ one_row_more : (left right top y m q : ℕ) (c e : Pixel) → top ≤ y
     → (if nat_le left m && nat_lt m right && nat_le y q && nat_lt q (y + 1) then c else (if nat_le left m && nat_lt m right && nat_le top q && nat_lt q y then c else e))
     ≡ (if nat_le left m && nat_lt m right && nat_le top q && nat_lt q (y + 1) then c else e)
 one_row_more left right top y m q c e low = grind (arith, nat_tests)
-
--- the run of row y and a rectangle from the next row on are the rectangle from row y on
-one_row_above : (left right bottom y m q : ℕ) (c e : Pixel) → y < bottom
-    → (if nat_le left m && nat_lt m right && nat_le y q && nat_lt q (y + 1) then c else (if nat_le left m && nat_lt m right && nat_le (y + 1) q && nat_lt q bottom then c else e))
-    ≡ (if nat_le left m && nat_lt m right && nat_le y q && nat_lt q bottom then c else e)
-one_row_above left right bottom y m q c e high = grind (arith, nat_tests)
 
 -- a rectangle in an area has its sides in order
 pub left_in : (width height : ℕ) (rect : Rect) → IsTrue (lies_in width height rect) → rect.left ≤ rect.right
@@ -110,36 +104,6 @@ rows_more width y start end rect f height old mid new ordered fits full same top
     run_seen width y start end rect f height mid new k d ordered fits (omega arith) (omega arith) starts ends run
     ∙ ap (λ e. if nat_le rect.left (k % width) && nat_lt (k % width) rect.right && nat_le y (k / width) && nat_lt (k / width) (y + 1) then f (k % width) (k / width) else e) (above k d below)
     ∙ one_row_more rect.left rect.right rect.top y (k % width) (k / width) (f (k % width) (k / width)) (get_or old k d) top
-
--- one more row is done, from the bottom on
-pub rows_above : (width y start end : ℕ) (rect : Rect) (f : ℕ → ℕ → Pixel) (height : ℕ) (old mid new : List Pixel)
-    → rect.left ≤ rect.right → rect.right ≤ width → length old ≡ width * height → length mid ≡ length old → y < rect.bottom
-    → WritesRows width (record rect { top = y + 1 }) f old mid
-    → start ≡ y * width + rect.left → end ≡ y * width + rect.right → WritesRun start end (λ k. f (k % width) (k / width)) mid new
-    → WritesRows width (record rect { top = y }) f old new
-rows_above width y start end rect f height old mid new ordered fits full same bottom below_it starts ends run k d below =
-    run_seen width y start end rect f height mid new k d ordered fits (omega arith) (omega arith) starts ends run
-    ∙ ap (λ e. if nat_le rect.left (k % width) && nat_lt (k % width) rect.right && nat_le y (k / width) && nat_lt (k / width) (y + 1) then f (k % width) (k / width) else e) (below_it k d below)
-    ∙ one_row_above rect.left rect.right rect.bottom y (k % width) (k / width) (f (k % width) (k / width)) (get_or old k d) bottom
-
--- a rectangle with no rows writes nothing
-pub rows_none : (width : ℕ) (rect : Rect) (f : ℕ → ℕ → Pixel) (old : List Pixel) → rect.bottom ≤ rect.top → WritesRows width rect f old old
-rows_none width rect f old flat k d below =
-    let out : holds rect (k % width) (k / width) ≡ false = grind (arith, nat_tests) in
-    sym (ap (λ b. if b then f (k % width) (k / width) else get_or old k d) out)
-
--- a row that isn't among those done is as it was
-pub unwritten : (width : ℕ) (rect : Rect) (f : ℕ → ℕ → Pixel) (old mid : List Pixel) (y x : ℕ) (d : Pixel)
-    → x < width → y * width + x < length old → ((y < rect.top) ⊎ (rect.bottom ≤ y)) → WritesRows width rect f old mid
-    → get_or mid (y * width + x) d ≡ get_or old (y * width + x) d
-unwritten width rect f old mid y x d column below apart rows =
-    let k = y * width + x in
-    let row : k / width ≡ y = div-mul-add y width x column in
-    rows k d below ∙ ap (λ b. if b then f (k % width) (k / width) else get_or old k d) (out (k / width) row apart)
-  where
-    out : (q : ℕ) → q ≡ y → ((y < rect.top) ⊎ (rect.bottom ≤ y)) → holds rect ((y * width + x) % width) q ≡ false
-    out q same (inl over) = grind (arith, nat_tests)
-    out q same (inr under) = grind (arith, nat_tests)
 
 -- what a list holds once a run of it is overwritten
 pub run_put : (from to : ℕ) (old run : List Pixel) → from ≤ to → to ≤ length old → length run ≡ to - from

@@ -1,11 +1,9 @@
 -- Pixels that stand row by row in one list.
-use Rattle.std.specs.Prelude.{◌≡◌, ℕ, ◌+◌, ◌-◌, ◌*◌, ◌<◌, ◌/◌, ◌%◌, ◌&&◌, nat_le, nat_lt, List, length, if◌then◌else◌}
+use Rattle.std.specs.Prelude.{◌≡◌, ℕ, ◌<◌, ◌/◌, ◌%◌, ◌&&◌, nat_le, nat_lt, List, length, if◌then◌else◌}
 use Rattle.std.specs.List.{slice_index_or}
-use Rattle.gfx_base.specs.declared.geometry.Point.{Point}
 use Rattle.gfx_base.specs.declared.geometry.Rect.{Rect}
 use Rattle.gfx_base.specs.declared.pixel.Pixel.{Pixel}
 use Rattle.gfx_base.specs.Geometry.{holds}
-use Rattle.gfx_surface.specs.Picture.{no_pixel}
 
 -- each place of the rectangle has the pixel of its column and row, and each other place is as it was
 abbrev pub WritesRows : ℕ → Rect → (ℕ → ℕ → Pixel) → List Pixel → List Pixel → Type 0
@@ -18,7 +16,3 @@ abbrev pub WritesRun : ℕ → ℕ → (ℕ → Pixel) → List Pixel → List P
 WritesRun from to f old new =
     (k : ℕ) (d : Pixel) → k < length old
     → slice_index_or new k d ≡ (if nat_le from k && nat_lt k to then f k else slice_index_or old k d)
-
--- the pixel that a rectangle of rows of this width has for a place, once it is taken to a point
-abbrev pub taken_from : ℕ → List Pixel → Rect → Point → ℕ → ℕ → Pixel
-taken_from width pixels rect to x y = slice_index_or pixels ((y - to.y + rect.top) * width + (x - to.x + rect.left)) no_pixel

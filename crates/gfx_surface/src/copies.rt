@@ -1,40 +1,11 @@
-//! Rectangles of pixels taken from rows to other rows.
-ghost use Rattle.std.specs.Prelude.{◌≡◌, ◌≤◌, ◌+◌, ◌-◌, ◌*◌, length, map, slice_index_or, IsTrue};
-ghost use Rattle.gfx_base.specs.Geometry.{lies_in, moved};
-ghost use Rattle.gfx_surface.specs.Picture.{AreOpaque, shade, no_pixel};
+//! Pixels taken from one slice to another, as a format keeps them.
+ghost use Rattle.std.specs.Prelude.{◌≡◌, ◌≤◌, ◌+◌, ◌-◌, length, map, slice_index_or, IsTrue};
 ghost use Rattle.gfx_base.specs.declared.format.Format.TheVariants.{Xrgb};
-ghost use Rattle.gfx_surface.specs.Rows.{WritesRows, WritesRun, taken_from};
+ghost use Rattle.gfx_surface.specs.Picture.{AreOpaque, shade, no_pixel};
+ghost use Rattle.gfx_surface.specs.Rows.{WritesRun};
 
 use crate::colour::{OPAQUE, shaded};
-use crate::rows::{Sides, run_in_row};
-use gfx_base::{Format, Pixel, Point, Rect};
-
-/// Takes a rectangle of rows to a point of other rows, as this format keeps it.
-pub fn copy_rows(
-    from: &[Pixel],
-    from_sides: Sides,
-    rect: Rect,
-    format: Format,
-    pixels: &mut [Pixel],
-    sides: Sides,
-    to: Point,
-)
-    requires inside { IsTrue (lies_in from_sides.width from_sides.height rect) }
-    requires from_full { length from.now ≡ from_sides.width * from_sides.height }
-    requires fits { IsTrue (lies_in sides.width sides.height (moved rect to)) }
-    requires full { length pixels.old ≡ sides.width * sides.height }
-    ensures { WritesRows sides.width (moved rect to)
-        (λ x y. shade format (taken_from from_sides.width from.now rect to x y)) pixels.old pixels.new }
-{
-    let count = usize::from(rect.width());
-    'rows: for i in 0..usize::from(rect.height()) {
-        let (left, top) = (usize::from(rect.left), usize::from(rect.top));
-        let (start, end) = run_in_row(from_sides, left, top + i, count);
-        let (x, y) = (usize::from(to.x), usize::from(to.y));
-        let (at, _) = run_in_row(sides, x, y + i, count);
-        copy_run(&from[start..end], format, pixels, at);
-    }
-}
+use gfx_base::{Format, Pixel};
 
 /// Puts pixels at a place and those after it, as this format keeps them.
 pub fn copy_run(from: &[Pixel], format: Format, pixels: &mut [Pixel], at: usize)

@@ -4,14 +4,22 @@
 //! It stands on `gfx_base`; the surfaces of a client or a server stand in `gfx_surface_map` above it.
 #![tactic(auto)]
 
+mod cells;
 mod colour;
 mod copies;
+mod crossing;
+mod filling;
+mod lending;
 mod moves;
+mod putting;
 mod raw;
+mod reading;
 mod rows;
 mod surface;
+mod views;
 
 pub use surface::Surface;
+pub use views::{StripMut, TileMut};
 
 /// The longest side of a surface, in pixels. This project's own rule.
 pub const MOST_SIDE: u16 = 8192;

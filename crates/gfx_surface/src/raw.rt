@@ -1,28 +1,59 @@
 //! Pixels from their bytes: blue, green, red and alpha each.
-ghost use Rattle.std.specs.Prelude.{◌≡◌, ◌≤◌, ◌+◌, ◌-◌, ◌*◌, length, slice_index_or, IsTrue};
-ghost use Rattle.gfx_base.specs.Geometry.{lies_in, width_of, height_of};
+ghost use Rattle.std.specs.Prelude.{◌≡◌, ◌≤◌, ◌<◌, ◌+◌, ◌-◌, ◌*◌, length, slice_index_or, IsTrue};
+ghost use Rattle.gfx_base.specs.Geometry.{lies_in, holds, width_of, height_of};
+ghost use Rattle.gfx_surface.specs.Cells.{places};
 ghost use Rattle.gfx_surface.specs.Picture.{in_rect, raw_pixels, no_pixel};
-ghost use Rattle.gfx_surface.specs.Rows.{WritesRows, WritesRun};
+ghost use Rattle.gfx_surface.specs.Rows.{WritesRun};
+ghost use Rattle.gfx_surface.specs.Where.{WritesWhere, run_in};
 
+use crate::cells::{Grid, left_in_cell, run_at};
 use crate::colour::shaded;
-use crate::rows::{Sides, run_in_row};
 use gfx_base::{BYTES_PER_PIXEL, Format, Pixel, Rect};
 
-/// Puts the pixels of these bytes into a rectangle, as this format keeps them.
+/// Puts the pixels of these bytes into a rectangle, row by row from its top, as this format keeps
+/// them.
 #[tactic(auto, using(std::proofs::lemmas::Nat::rows))]
-pub fn put_rows(bytes: &[u8], format: Format, pixels: &mut [Pixel], sides: Sides, rect: Rect)
-    requires inside { IsTrue (lies_in sides.width sides.height rect) }
-    requires full { length pixels.old ≡ sides.width * sides.height }
+pub fn put_raw(cells: &mut [Pixel], grid: Grid, rect: Rect, bytes: &[u8], format: Format)
+    requires full { length cells.old ≡ places grid.width grid.height }
+    requires inside { IsTrue (lies_in grid.width grid.height rect) }
     requires whole { length bytes.now ≡ BYTES_PER_PIXEL * (width_of rect * height_of rect) }
-    ensures { WritesRows sides.width rect (in_rect rect (raw_pixels format bytes.now)) pixels.old pixels.new }
+    ensures { WritesWhere grid.width grid.height (holds rect)
+        (in_rect rect (raw_pixels format bytes.now)) cells.old cells.new }
 {
     let count = usize::from(rect.width());
-    'rows: for i in 0..usize::from(rect.height()) {
-        let (left, top) = (usize::from(rect.left), usize::from(rect.top));
-        let (at, _) = run_in_row(sides, left, top + i, count);
-        let start = BYTES_PER_PIXEL * (i * count);
+    'rows: for i in 0..rect.height() {
+        let start = BYTES_PER_PIXEL * (usize::from(i) * count);
         let row = &bytes[start..start + BYTES_PER_PIXEL * count];
-        put_run(row, format, pixels, at, count);
+        put_raw_row(cells, grid, rect.left, rect.top + i, row, count, format);
+    }
+}
+
+/// Puts so many pixels into a row, from a column on.
+fn put_raw_row(
+    cells: &mut [Pixel],
+    grid: Grid,
+    x: u16,
+    y: u16,
+    bytes: &[u8],
+    pixels: usize,
+    format: Format,
+)
+    requires full { length cells.old ≡ places grid.width grid.height }
+    requires columns { x + pixels ≤ grid.width }
+    requires row { y < grid.height }
+    requires whole { length bytes.now ≡ BYTES_PER_PIXEL * pixels }
+    ensures { WritesWhere grid.width grid.height (holds (run_in x y pixels))
+        (λ i _. slice_index_or (raw_pixels format bytes.now) (i - x) no_pixel) cells.old cells.new }
+{
+    let mut done = 0;
+    'runs: while done < pixels {
+        let column = x + done as u16;
+        let count = left_in_cell(column).min(pixels - done);
+        let at = run_at(grid, column, y, count);
+        let start = BYTES_PER_PIXEL * done;
+        let run = &bytes[start..start + BYTES_PER_PIXEL * count];
+        put_run(run, format, cells, at, count);
+        done += count;
     }
 }
 

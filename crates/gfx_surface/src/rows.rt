@@ -12,20 +12,6 @@ pub struct Sides {
     pub height: usize,
 }
 
-/// Where so many columns of a row begin and end, from a column on.
-#[tactic(auto, using(std::proofs::lemmas::Nat::rows))]
-pub fn run_in_row(sides: Sides, x: usize, y: usize, count: usize) -> (usize, usize)
-    requires columns { x + count ≤ sides.width }
-    requires row { y < sides.height }
-    requires small { sides.width * sides.height < 2 ^ 64 }
-    ensures start { result.0 ≡ y * sides.width + x }
-    ensures end { result.1 ≡ y * sides.width + (x + count) }
-    ensures within { result.1 ≤ sides.width * sides.height }
-{
-    let start = y * sides.width + x;
-    (start, start + count)
-}
-
 /// Gives the places of a rectangle this colour.
 #[tactic(auto, using(std::proofs::lemmas::Nat::rows))]
 pub fn fill_rows(pixels: &mut [Pixel], sides: Sides, rect: Rect, colour: Pixel)

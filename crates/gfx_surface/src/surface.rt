@@ -1,14 +1,24 @@
-ghost use Rattle.std.specs.Prelude.{◌≡◌, ◌≤◌, ◌<◌, ◌+◌, ◌*◌, length, map, IsTrue, IfOk};
+ghost use Rattle.std.specs.Prelude.{◌≡◌, ◌≢◌, ◌≤◌, ◌<◌, ◌+◌, ◌*◌, length, map, IsTrue, IfOk, List};
 ghost use Rattle.gfx_base.specs.Geometry.{lies_in, width_of, height_of, moved};
 ghost use Rattle.gfx_surface.specs.Picture.{IsPicture, AreOpaque, shade, blank, pixel_at, run_of, filled, copied, rect_of, overlaid, raw_pixels};
+ghost use Rattle.gfx_base.specs.declared.pixel.Pixel.{Pixel as AnyPixel};
+ghost use Rattle.std.specs.Borrow.{MutBor};
+ghost use Rattle.gfx_base.specs.Cells.{cells_along};
+ghost use Rattle.gfx_surface.specs.Lending.{PairReturns, SplitReturns};
+ghost use Rattle.gfx_surface.specs.Views.{LiesOn, IsCellOf, IsStripOf, with_cell, with_pixel};
 
 use crate::MOST_SIDE;
+use crate::cells::{CELL_PLACES, Grid, cell_start, cells_along, place_of};
 use crate::colour::{empty_colour, kept_by_both, shaded};
-use crate::copies::copy_rows;
-use crate::moves::move_rows;
-use crate::raw::put_rows;
-use crate::rows::{Sides, fill_rows};
-use gfx_base::{BYTES_PER_PIXEL, Format, NoMemory, Pixel, Point, Rect};
+use crate::copies::copy_run;
+use crate::crossing::copy_rect;
+use crate::filling::fill_cells;
+use crate::lending::{lend_pair, lend_two};
+use crate::moves::move_rect;
+use crate::putting::put_pixels;
+use crate::raw::put_raw;
+use crate::reading::{read_rect, read_row};
+use gfx_base::{BYTES_PER_PIXEL, Cell, Format, NoMemory, Pixel, Point, Rect};
 use std::alloc::Global;
 use std::marker::Model;
 
@@ -19,7 +29,7 @@ pub struct Surface {
     width: u16,
     height: u16,
     format: Format,
-    pixels: Vec<Pixel>,
+    cells: Vec<Pixel>,
 }
 
 impl Model for Surface {
@@ -43,13 +53,13 @@ impl Surface {
         requires height_most { height ≤ MOST_SIDE }
         ensures { IfOk result (λ surface. surface ≡ blank width height format) }
     {
-        let count = usize::from(width) * usize::from(height);
-        let pixels = Vec::from_elem(alloc, empty_colour(format), count)?;
+        let count = CELL_PLACES * (cells_along(width) * cells_along(height));
+        let cells = Vec::from_elem(alloc, empty_colour(format), count)?;
         Ok(Surface {
             width,
             height,
             format,
-            pixels,
+            cells,
         })
     }
 
@@ -68,25 +78,22 @@ impl Surface {
     }
 
     /// The pixel in a column of a row, both counted from 0.
-    #[tactic(auto, using(std::proofs::lemmas::Nat::rows))]
     pub fn pixel(&self, x: u16, y: u16) -> Pixel
         requires column { x < self.now.width }
         requires row { y < self.now.height }
         ensures { result ≡ pixel_at self.now x y }
     {
-        self.pixels[usize::from(y) * usize::from(self.width) + usize::from(x)]
+        self.cells[place_of(self.width, x, y)]
     }
 
     /// Reads a piece of a row into a slice, from this column on; both are counted from 0. It takes no
     /// memory.
-    #[tactic(auto, using(std::proofs::lemmas::Nat::rows))]
     pub fn read_row(&self, x: u16, y: u16, out: &mut [Pixel])
         requires columns { x + length out.old ≤ self.now.width }
         requires row { y < self.now.height }
         ensures { out.new ≡ run_of self.now x y (length out.old) }
     {
-        let start = usize::from(y) * usize::from(self.width) + usize::from(x);
-        out.copy_from_slice(&self.pixels[start..start + out.len()]);
+        read_row(&self.cells, self.grid(), x, y, out);
     }
 
     /// Gives a rectangle this colour ([MS-RDPEGFX] RDPGFX_SOLIDFILL_PDU). An XRGB surface keeps
@@ -96,8 +103,8 @@ impl Surface {
         ensures { self.new ≡ filled self.old rect colour }
     {
         let colour = shaded(self.format, colour);
-        let sides = self.sides();
-        fill_rows(&mut self.pixels, sides, rect, colour);
+        let grid = self.grid();
+        fill_cells(&mut self.cells, grid, rect, colour);
     }
 
     /// Puts pixels into a rectangle, row by row from its top. An XRGB surface keeps alpha 255, an ARGB
@@ -130,19 +137,8 @@ impl Surface {
         requires alike { map (shade format) pixels.now ≡ map (shade self.old.format) pixels.now }
         ensures { self.new ≡ overlaid self.old rect pixels.now }
     {
-        let from_sides = sides_of(rect);
-        let all = Rect {
-            left: 0,
-            top: 0,
-            right: rect.width(),
-            bottom: rect.height(),
-        };
-        let to = Point {
-            x: rect.left,
-            y: rect.top,
-        };
-        let sides = self.sides();
-        copy_rows(pixels, from_sides, all, format, &mut self.pixels, sides, to);
+        let grid = self.grid();
+        put_pixels(&mut self.cells, grid, rect, pixels, format);
     }
 
     /// Puts the pixels of uncompressed data into a rectangle, row by row from its top ([MS-RDPEGFX]
@@ -154,8 +150,8 @@ impl Surface {
         ensures { self.new ≡ overlaid self.old rect (raw_pixels format bytes.now) }
     {
         let format = kept_by_both(self.format, format);
-        let sides = self.sides();
-        put_rows(bytes, format, &mut self.pixels, sides, rect);
+        let grid = self.grid();
+        put_raw(&mut self.cells, grid, rect, bytes, format);
     }
 
     /// Copies a rectangle to a point of the same surface ([MS-RDPEGFX] RDPGFX_SURFACE_TO_SURFACE_PDU).
@@ -165,8 +161,8 @@ impl Surface {
         requires fits { IsTrue (lies_in self.old.width self.old.height (moved rect to)) }
         ensures { self.new ≡ copied self.old rect to self.old }
     {
-        let sides = self.sides();
-        move_rows(&mut self.pixels, sides, rect, to);
+        let grid = self.grid();
+        move_rect(&mut self.cells, grid, rect, to);
     }
 
     /// Copies a rectangle of another surface to a point of this one ([MS-RDPEGFX]
@@ -176,15 +172,15 @@ impl Surface {
         requires fits { IsTrue (lies_in self.old.width self.old.height (moved rect to)) }
         ensures { self.new ≡ copied from.now rect to self.old }
     {
-        let format = self.format;
-        let sides = self.sides();
-        copy_rows(
-            &from.pixels,
-            from.sides(),
+        let (format, grid) = (self.format, self.grid());
+        let from_grid = from.grid();
+        copy_rect(
+            &from.cells,
+            from_grid,
             rect,
             format,
-            &mut self.pixels,
-            sides,
+            &mut self.cells,
+            grid,
             to,
         );
     }
@@ -195,36 +191,76 @@ impl Surface {
         requires whole { length out.old ≡ width_of rect * height_of rect }
         ensures { out.new ≡ rect_of self.now rect }
     {
-        let to = Point { x: 0, y: 0 };
-        copy_rows(
-            &self.pixels,
-            self.sides(),
-            rect,
-            Format::Argb,
-            out,
-            sides_of(rect),
-            to,
-        );
+        read_rect(&self.cells, self.grid(), rect, out);
     }
 
-    fn sides(&self) -> Sides
+    /// Gives the place in a column of a row a pixel, as the format keeps it.
+    pub(crate) fn set_pixel(&mut self, x: u16, y: u16, pixel: Pixel)
+        requires column { x < self.old.width }
+        requires row { y < self.old.height }
+        ensures { self.new ≡ with_pixel self.old x y pixel }
+    {
+        let place = place_of(self.width, x, y);
+        self.cells[place] = shaded(self.format, pixel);
+    }
+
+    /// Gives a cell its 4,096 pixels, as the format keeps them.
+    pub(crate) fn put_cell(&mut self, cell: Cell, pixels: &[Pixel])
+        requires cell { LiesOn self.old cell }
+        requires whole { length pixels.now ≡ 4096 }
+        ensures { self.new ≡ with_cell self.old cell pixels.now }
+    {
+        let (format, start) = (self.format, cell_start(self.width, cell));
+        copy_run(pixels, format, &mut self.cells, start);
+    }
+
+    /// Gives a closure two different cells.
+    pub(crate) fn lend_cells<F: FnOnce(&mut [Pixel], &mut [Pixel])>(
+        &mut self,
+        first: Cell,
+        second: Cell,
+        f: F,
+    )
+        requires first { LiesOn self.old first }
+        requires second { LiesOn self.old second }
+        requires apart { first ≢ second }
+        requires callable { (p q : MutBor (List AnyPixel)) → IsCellOf self.old first p.now → IsCellOf self.old second q.now → F.pre f p q }
+        ensures { PairReturns F.FnOnce f first second self.old self.new }
+    {
+        let start = cell_start(self.width, first);
+        let other = cell_start(self.width, second);
+        let format = self.format;
+        lend_pair(&mut self.cells, start, other, CELL_PLACES, format, f);
+    }
+
+    /// Gives a closure the cells of a row of them before a column, and those from it on.
+    pub(crate) fn lend_strip<F: FnOnce(&mut [Pixel], &mut [Pixel])>(
+        &mut self,
+        row: u16,
+        column: u16,
+        f: F,
+    )
+        requires row { row < cells_along self.old.height }
+        requires within { column ≤ cells_along self.old.width }
+        requires callable { (p q : MutBor (List AnyPixel)) → IsStripOf self.old row 0 column p.now
+            → IsStripOf self.old row column (cells_along self.old.width) q.now → F.pre f p q }
+        ensures { SplitReturns F.FnOnce f row column self.old self.new }
+    {
+        let start = cell_start(self.width, Cell { x: 0, y: row });
+        let middle = cell_start(self.width, Cell { x: column, y: row });
+        let front = CELL_PLACES * usize::from(column);
+        let back = CELL_PLACES * (cells_along(self.width) - usize::from(column));
+        let format = self.format;
+        lend_two(&mut self.cells, start, front, middle, back, format, f);
+    }
+
+    fn grid(&self) -> Grid
         ensures width { result.width ≡ self.now.width }
         ensures height { result.height ≡ self.now.height }
     {
-        Sides {
-            width: usize::from(self.width),
-            height: usize::from(self.height),
+        Grid {
+            width: self.width,
+            height: self.height,
         }
-    }
-}
-
-/// The sides of the pixels of a rectangle.
-fn sides_of(rect: Rect) -> Sides
-    ensures width { result.width ≡ width_of rect }
-    ensures height { result.height ≡ height_of rect }
-{
-    Sides {
-        width: usize::from(rect.width()),
-        height: usize::from(rect.height()),
     }
 }

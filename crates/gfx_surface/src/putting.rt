@@ -1,0 +1,87 @@
+//! Pixels that are put into cells, row by row in runs of at most 64.
+ghost use Rattle.std.specs.Prelude.{◌≡◌, ◌≤◌, ◌<◌, ◌+◌, ◌-◌, ◌*◌, length, slice_index_or, IsTrue};
+ghost use Rattle.gfx_base.specs.Geometry.{lies_in, holds, width_of, height_of};
+ghost use Rattle.gfx_surface.specs.Cells.{places};
+ghost use Rattle.gfx_surface.specs.Picture.{shade, in_rect, no_pixel};
+ghost use Rattle.gfx_surface.specs.Where.{WritesWhere, IsWholeCell, run_in};
+
+use crate::cells::{CELL_PLACES, Grid, cell_start, left_in_cell, run_at};
+use crate::copies::copy_run;
+use gfx_base::{CELL_SIDE, Cell, Format, Pixel, Rect};
+
+/// Puts pixels into a rectangle, row by row from its top, as this format keeps them: a whole cell at
+/// once.
+pub fn put_pixels(cells: &mut [Pixel], grid: Grid, rect: Rect, from: &[Pixel], format: Format)
+    requires full { length cells.old ≡ places grid.width grid.height }
+    requires inside { IsTrue (lies_in grid.width grid.height rect) }
+    requires whole { length from.now ≡ width_of rect * height_of rect }
+    ensures { WritesWhere grid.width grid.height (holds rect)
+        (λ x y. shade format (in_rect rect from.now x y)) cells.old cells.new }
+{
+    if is_whole_cell(rect) {
+        put_cell(cells, grid, rect, from, format);
+    } else {
+        put_rows(cells, grid, rect, from, format);
+    }
+}
+
+/// Whether a rectangle is one cell, all of it on the surface.
+fn is_whole_cell(rect: Rect) -> bool
+    ensures { IsTrue result → IsWholeCell rect }
+{
+    (rect.left % CELL_SIDE == 0)
+        & (rect.top % CELL_SIDE == 0)
+        & (rect.width() == CELL_SIDE)
+        & (rect.height() == CELL_SIDE)
+}
+
+/// Puts pixels into a whole cell.
+fn put_cell(cells: &mut [Pixel], grid: Grid, rect: Rect, from: &[Pixel], format: Format)
+    requires cell { IsWholeCell rect }
+    requires full { length cells.old ≡ places grid.width grid.height }
+    requires inside { IsTrue (lies_in grid.width grid.height rect) }
+    requires whole { length from.now ≡ width_of rect * height_of rect }
+    ensures { WritesWhere grid.width grid.height (holds rect)
+        (λ x y. shade format (in_rect rect from.now x y)) cells.old cells.new }
+{
+    let cell = Cell {
+        x: rect.left / CELL_SIDE,
+        y: rect.top / CELL_SIDE,
+    };
+    copy_run(from, format, cells, cell_start(grid.width, cell));
+}
+
+/// Puts pixels into a rectangle, row by row from its top.
+#[tactic(auto, using(std::proofs::lemmas::Nat::rows))]
+fn put_rows(cells: &mut [Pixel], grid: Grid, rect: Rect, from: &[Pixel], format: Format)
+    requires full { length cells.old ≡ places grid.width grid.height }
+    requires inside { IsTrue (lies_in grid.width grid.height rect) }
+    requires whole { length from.now ≡ width_of rect * height_of rect }
+    ensures { WritesWhere grid.width grid.height (holds rect)
+        (λ x y. shade format (in_rect rect from.now x y)) cells.old cells.new }
+{
+    let count = usize::from(rect.width());
+    'rows: for i in 0..rect.height() {
+        let start = usize::from(i) * count;
+        let row = &from[start..start + count];
+        put_row(cells, grid, rect.left, rect.top + i, row, format);
+    }
+}
+
+/// Puts pixels into a row, from a column on, as this format keeps them.
+pub fn put_row(cells: &mut [Pixel], grid: Grid, x: u16, y: u16, from: &[Pixel], format: Format)
+    requires full { length cells.old ≡ places grid.width grid.height }
+    requires columns { x + length from.now ≤ grid.width }
+    requires row { y < grid.height }
+    ensures { WritesWhere grid.width grid.height (holds (run_in x y (length from.now)))
+        (λ i _. shade format (slice_index_or from.now (i - x) no_pixel)) cells.old cells.new }
+{
+    let mut done = 0;
+    'runs: while done < from.len() {
+        let column = x + done as u16;
+        let count = left_in_cell(column).min(from.len() - done);
+        let at = run_at(grid, column, y, count);
+        copy_run(&from[done..done + count], format, cells, at);
+        done += count;
+    }
+}

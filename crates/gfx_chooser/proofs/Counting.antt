@@ -9,13 +9,14 @@ use Rattle.std.proofs.Math.Nat.{mul_comm}
 use Rattle.std.proofs.lemmas.Bool.Decides.{nat_tests}
 use Rattle.gfx_base.specs.declared.pixel.Pixel.{Pixel}
 use Rattle.gfx_base.specs.declared.pixel.Rgb.{Rgb}
-use Rattle.gfx_clear_runs.specs.Writing.{has_colour, with_colour, with_colours, colours_of}
-use Rattle.gfx_clear_runs.proofs.Collecting.{longer_all, with_held, with_new}
+use Rattle.gfx_base.specs.Colour.{has_colour, with_colour, with_colours, colours_of}
+use Rattle.gfx_base.proofs.Palettes.{longer_all, with_held, with_new}
 use Rattle.gfx_script.specs.Patterns.{pixel_of}
 use Rattle.gfx_script.specs.declared.picture.Picture.{Picture}
 use Rattle.gfx_surface.specs.Picture.{no_pixel, drawn}
 use Rattle.gfx_surface.proofs.PictureLemmas.{length-drawn, pixel_at-drawn}
-use Rattle.gfx_chooser.specs.Facts.{colour_of, colours_in, colours_counted}
+use Rattle.gfx_chooser.specs.Facts.{colours_in, colours_counted}
+use Rattle.gfx_base.specs.Colour.{colour_of}
 use Rattle.gfx_chooser.specs.declared.facts.TheConstants.{MOST_COLOURS}
 
 -- the sides of a picture

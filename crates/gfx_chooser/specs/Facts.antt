@@ -1,9 +1,8 @@
 -- What a chooser is told of a paint that names no kind: this project's own rule.
 use Rattle.std.specs.Prelude.{ℕ, List, length, map, min, Option, Some, None}
 use Rattle.std.specs.List.{slice_get}
-use Rattle.gfx_base.specs.declared.pixel.Pixel.{Pixel}
+use Rattle.gfx_base.specs.Colour.{colour_of, colours_of}
 use Rattle.gfx_base.specs.declared.pixel.Rgb.{Rgb}
-use Rattle.gfx_clear_runs.specs.Writing.{colours_of}
 use Rattle.gfx_script.specs.Patterns.{pixel_of}
 use Rattle.gfx_script.specs.Script.{step_at}
 use Rattle.gfx_script.specs.Scripted.{Script}
@@ -13,10 +12,6 @@ use Rattle.gfx_script.specs.declared.step.Step.TheVariants.{Paint}
 use Rattle.gfx_surface.specs.Picture.{drawn}
 use Rattle.gfx_chooser.specs.declared.facts.Facts.{Facts}
 use Rattle.gfx_chooser.specs.declared.facts.TheConstants.{MOST_COLOURS}
-
--- a pixel without its alpha
-abbrev pub colour_of : Pixel → Rgb
-colour_of pixel = record { b = pixel.b; g = pixel.g; r = pixel.r }
 
 -- the colours of a picture's pixels, row by row from the top
 unfoldable pub colours_in : Picture → List Rgb

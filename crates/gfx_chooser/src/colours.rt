@@ -3,7 +3,7 @@ ghost use Rattle.std.specs.Prelude.{◌≡◌, ℕ, Some};
 ghost use Rattle.std.specs.List.{slice_get};
 ghost use Rattle.std.specs.Option.{option_map};
 ghost use Rattle.gfx_chooser.specs.Facts.{colours_counted};
-ghost use Rattle.gfx_clear_runs.specs.Writing.{has_colour};
+ghost use Rattle.gfx_base.specs.Colour.{has_colour};
 
 use crate::facts::MOST_COLOURS;
 use arrayvec::ArrayVec;

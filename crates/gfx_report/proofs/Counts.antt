@@ -45,8 +45,8 @@ seen : {A B : Type 0} (f : A → B) (o : Option A) → is_some (option_map f o) 
 seen f None = refl
 seen f (Some a) = refl
 
-pub seen_some : {A B : Type 0} (f : A → B) (o : Option A) (looked : Option B) (b : B) → looked ≡ option_map f o → looked ≡ Some b → true ≡ is_some o
-seen_some f o looked b here is = sym (ap is_some is) ∙ ap is_some here ∙ seen f o
+pub seen_some : {A : Type 0} (o looked : Option A) (b : A) → looked ≡ o → looked ≡ Some b → true ≡ is_some o
+seen_some o looked b here is = ap is_some (sym is ∙ here)
 
 -- the next place of a ring is counted
 pub place_counted : {A : Type 0} (f : A → List Rgb) (slots : List Slot) (held place from limit : ℕ) (looked : Option A) (test : Bool) (one : ℕ)

@@ -2,13 +2,13 @@
 use Rattle.std.proofs.Common.{◌≡◌, ◌∙◌, ℕ, ◌+◌, ◌-◌, ◌<◌, ◌≤◌, suc, List, [], ◌∷◌, ◌++◌, length, drop, Some, None, Option, refl, ap, sym, subst, arith}
 use Rattle.std.specs.Prelude.{slice_index_or}
 use Rattle.std.specs.List.{flat_map, range_with_len}
-use Rattle.std.specs.Option.{option_map}
 use Rattle.std.proofs.lemmas.List.{drop_more, get_or-drop}
 use Rattle.sha2.specs.declared.Sha256.{Sha256}
 use Rattle.gfx_clear_store.specs.Rings.{Slot}
 use Rattle.gfx_report.specs.Hashing.{Took}
-use Rattle.gfx_glyph.specs.Glyphs.{Slot as GlyphSlot, shown}
-use Rattle.gfx_report.specs.StateBytes.{two_bytes, sides_bytes, place_bytes, ring_bytes, shown_bytes, glyph_bytes}
+use Rattle.gfx_glyph.specs.Glyphs.{Slot as GlyphSlot}
+use Rattle.gfx_glyph.specs.declared.glyph.Glyph.{Glyph}
+use Rattle.gfx_report.specs.StateBytes.{two_bytes, sides_bytes, place_bytes, ring_bytes, colours_bytes, glyph_bytes}
 use Rattle.gfx_report.proofs.TookLemmas.{Owes, Owes_as, Owes_front, Owes_none}
 
 -- the places of a ring from one on
@@ -61,15 +61,7 @@ module _ (f : ℕ → List ℕ) where
       let none : count - index ≡ 0 = omega arith in
       Owes_none a b due _ (ap (λ n. flat_map f (range_with_len index n)) none) owes
 
--- the sides of a glyph were looked up, and with them its bytes were taken in
-pub index_taken : (a b : Sha256) (glyphs : List GlyphSlot) (index width height : ℕ) (slot : GlyphSlot) (looked : Option (ℕ × ℕ))
-    → looked ≡ option_map (λ held. (held.width, held.height)) slot → looked ≡ Some (width, height)
-    → Took a b (two_bytes index ++ (sides_bytes width height ++ shown_bytes (shown index width height glyphs)))
-    → Took a b (glyph_bytes glyphs index slot)
-index_taken a b glyphs index width height None looked here is took = let none : None ≡ Some (width, height) = sym here ∙ is in absurd cc
-index_taken a b glyphs index width height (Some held) looked here is took =
-    let same : Some (held.width, held.height) ≡ Some (width, height) = sym here ∙ is in
-    let sides : ◌≡◌ {A = ℕ × ℕ} (held.width, held.height) (width, height) = cc in
-    let wide : held.width ≡ width = ap (λ p. p.0) sides in
-    let high : held.height ≡ height = ap (λ p. p.1) sides in
-    rw (wide, high) took
+-- a glyph was looked up, and its bytes were taken in
+pub index_taken : (a b : Sha256) (index : ℕ) (slot looked : GlyphSlot) (held : Glyph) → looked ≡ slot → looked ≡ Some held
+    → Took a b (two_bytes index ++ (sides_bytes held.width held.height ++ colours_bytes held.pixels)) → Took a b (glyph_bytes index slot)
+index_taken a b index slot looked held here is took = subst (λ (z : GlyphSlot). Took a b (glyph_bytes index z)) (sym is ∙ here) took

@@ -7,10 +7,10 @@ use Rattle.std.specs.Fmt.{digits}
 use Rattle.hex.specs.Hex.{encode_with}
 use Rattle.gfx_pdu.specs.declared.pdu.Pdu.TheVariants.{StartFrame}
 use Rattle.gfx_base.specs.declared.pixel.Rgb.{Rgb}
-use Rattle.gfx_glyph.specs.Glyphs.{Slot as GlyphSlot, glyph, slot_at, shown, drawn}
+use Rattle.gfx_glyph.specs.Glyphs.{Slot as GlyphSlot, glyph}
 use Rattle.gfx_glyph.specs.declared.glyph.Glyph.{Glyph}
 use Rattle.gfx_glyph.specs.declared.glyphs.TheConstants.{PLACES, MOST_AREA}
-use Rattle.gfx_report.specs.StateBytes.{two_bytes, sides_bytes, colours_bytes, shown_bytes, ring_bytes, glyph_bytes, glyphs_bytes}
+use Rattle.gfx_report.specs.StateBytes.{two_bytes, sides_bytes, ring_bytes, glyphs_bytes}
 use Rattle.gfx_report.specs.Audit.{audit_line, key_digits, places_held, glyphs_held}
 use Rattle.gfx_report.specs.Texts.{surface_line, row_line, rows_text, surface_text, trial_text}
 
@@ -33,7 +33,7 @@ one_column = refl
 
 -- a glyph of two pixels, one over the other
 pub one_glyph : glyphs_bytes 2 (None ∷ Some (glyph 1 2 (rgb 1 2 3 ∷ rgb 4 5 6 ∷ [])) ∷ []) ≡ 1 ∷ 0 ∷ 1 ∷ 0 ∷ 2 ∷ 0 ∷ 1 ∷ 2 ∷ 3 ∷ 4 ∷ 5 ∷ 6 ∷ []
-unfolding glyphs_bytes shown drawn
+unfolding glyphs_bytes
 one_glyph = refl
 
 -- the places that hold something are counted, and an empty column is something
@@ -57,21 +57,3 @@ one_message = refl
 pub one_trial : trial_text 1 7 402 ≡ codes "trial 1 acks 7 step 402"
 unfolding digits
 one_trial = refl
-
--- a glyph that may be stored is shown whole
-shown_whole : (glyphs : List GlyphSlot) (index : ℕ) (held : Glyph) → index < PLACES → held.width * held.height ≤ MOST_AREA → slot_at glyphs index ≡ Some held
-    → shown index held.width held.height glyphs ≡ Ok held.pixels
-unfolding shown drawn
-shown_whole glyphs index held below small there =
-    let here = lt-ltb index PLACES below in
-    let fits = le-ltb MOST_AREA (held.width * held.height) small in
-    let wide = eq-eqb held.width held.width refl in
-    let high = eq-eqb held.height held.height refl in
-    rw (here, fits, there, wide, high) refl
-
--- so the digest has all its pixels
-pub whole_glyph : (glyphs : List GlyphSlot) (index : ℕ) (held : Glyph) → index < PLACES → held.width * held.height ≤ MOST_AREA → slot_at glyphs index ≡ Some held
-    → glyph_bytes glyphs index (slot_at glyphs index) ≡ two_bytes index ++ (sides_bytes held.width held.height ++ colours_bytes held.pixels)
-whole_glyph glyphs index held below small there =
-    ap (glyph_bytes glyphs index) there
-    ∙ ap (λ answer. two_bytes index ++ (sides_bytes held.width held.height ++ shown_bytes answer)) (shown_whole glyphs index held below small there)

@@ -1,6 +1,6 @@
 -- The bytes of a state, and its digest: its surfaces, its filled slots, and what its ClearCodec decoder holds.
 -- They are this project's own rule.
-use Rattle.std.specs.Prelude.{◌≡◌, ℕ, ◌+◌, List, [], ◌∷◌, ◌++◌, length, Some, None, Result, Ok, Err}
+use Rattle.std.specs.Prelude.{◌≡◌, ℕ, ◌+◌, List, [], ◌∷◌, ◌++◌, length, Some, None}
 use Rattle.std.specs.Int.{w8, w16, w64, to_le_bytes}
 use Rattle.std.specs.List.{flat_map, range_with_len}
 use Rattle.std.specs.Ordering.{nat_cmp}
@@ -9,13 +9,12 @@ use Rattle.std.specs.FinMap.{FinMap}
 use Rattle.gfx_base.specs.Format.{byte_of}
 use Rattle.gfx_base.specs.declared.pixel.Pixel.{Pixel}
 use Rattle.gfx_base.specs.declared.pixel.Rgb.{Rgb}
-use Rattle.gfx_base.specs.declared.refusal.Refusal.{Refusal}
 use Rattle.gfx_surface.specs.Picture.{Picture}
 use Rattle.gfx_surface_map.specs.Surfaces.{Surfaces}
 use Rattle.gfx_bitmap_cache.specs.Slots.{Entry}
 use Rattle.gfx_clear_store.specs.Rings.{Slot, Rings}
 use Rattle.gfx_clear_bands.specs.Writing.{colour_bytes}
-use Rattle.gfx_glyph.specs.Glyphs.{Slot as GlyphSlot, slot_at, shown}
+use Rattle.gfx_glyph.specs.Glyphs.{Slot as GlyphSlot, slot_at}
 use Rattle.gfx_glyph.specs.declared.glyphs.TheConstants.{PLACES}
 use Rattle.sha2.specs.Sha256.{sha256}
 
@@ -75,21 +74,14 @@ unfoldable pub ring_bytes : ℕ → List Slot → List ℕ
 ring_bytes place [] = []
 ring_bytes place (slot ∷ slots) = place_bytes place slot ++ ring_bytes (place + 1) slots
 
--- the pixels that are shown, row by row from the top. A glyph that was stored is shown at its own size, so these are
--- all its pixels
-abbrev pub shown_bytes : Result (List Rgb) Refusal → List ℕ
-shown_bytes (Ok pixels) = colours_bytes pixels
-shown_bytes (Err refusal) = []
-
--- an index, if a glyph is held there: the index, and the glyph's sides and pixels
-abbrev pub glyph_bytes : List GlyphSlot → ℕ → GlyphSlot → List ℕ
-glyph_bytes glyphs index None = []
-glyph_bytes glyphs index (Some held) =
-    two_bytes index ++ (sides_bytes held.width held.height ++ shown_bytes (shown index held.width held.height glyphs))
+-- an index, if a glyph is held there: the index, and the glyph's sides and pixels, row by row from the top
+abbrev pub glyph_bytes : ℕ → GlyphSlot → List ℕ
+glyph_bytes index None = []
+glyph_bytes index (Some held) = two_bytes index ++ (sides_bytes held.width held.height ++ colours_bytes held.pixels)
 
 -- the glyphs of so many indices, ascending
 unfoldable pub glyphs_bytes : ℕ → List GlyphSlot → List ℕ
-glyphs_bytes count glyphs = flat_map (λ index. glyph_bytes glyphs index (slot_at glyphs index)) (range_with_len 0 count)
+glyphs_bytes count glyphs = flat_map (λ index. glyph_bytes index (slot_at glyphs index)) (range_with_len 0 count)
 
 -- the two cursors, that of the bars first
 abbrev pub cursors_bytes : Rings → List ℕ

@@ -1,18 +1,15 @@
 //! The bytes of what a ClearCodec decoder holds, as a hasher takes them in.
-ghost use Rattle.std.specs.Prelude.{◌≡◌, List, Result, Some, is_some};
+ghost use Rattle.std.specs.Prelude.{◌≡◌, Some, is_some};
 ghost use Rattle.std.specs.Option.{option_map};
-ghost use Rattle.gfx_base.specs.Outcome.{Says};
-ghost use Rattle.gfx_base.specs.declared.pixel.Rgb.{Rgb};
-ghost use Rattle.gfx_base.specs.declared.refusal.Refusal.{Refusal};
 ghost use Rattle.gfx_clear_store.specs.Rings.{AreRings};
 ghost use Rattle.gfx_glyph.specs.Glyphs.{slot_at};
 ghost use Rattle.gfx_report.specs.Audit.{places_held, glyphs_held};
 ghost use Rattle.gfx_report.specs.Hashing.{Took};
-ghost use Rattle.gfx_report.specs.StateBytes.{place_bytes, ring_bytes, shown_bytes, glyph_bytes, glyphs_bytes, clear_bytes};
+ghost use Rattle.gfx_report.specs.StateBytes.{place_bytes, ring_bytes, glyph_bytes, glyphs_bytes, clear_bytes};
 
 use crate::colours::add_colours;
 use crate::hashing::add_sides;
-use gfx_base::{Refusal, Rgb};
+use gfx_base::Rgb;
 use gfx_clear::ClearState;
 use gfx_clear_store::Store;
 use gfx_glyph::Glyphs;
@@ -101,25 +98,16 @@ pub fn add_glyphs(glyphs: &Glyphs, count: u16, hasher: &mut Sha256) -> u16
 /// Adds an index, if a glyph is held there, and gives whether one is.
 #[inline(always)]
 fn add_index(glyphs: &Glyphs, index: u16, hasher: &mut Sha256) -> bool
-    ensures took { Took hasher.old hasher.new (glyph_bytes glyphs.now index (slot_at glyphs.now index)) }
+    ensures took { Took hasher.old hasher.new (glyph_bytes index (slot_at glyphs.now index)) }
     ensures held { result ≡ is_some (slot_at glyphs.now index) }
 {
-    match glyphs.size(index) {
-        Some((width, height)) => {
+    match glyphs.get(index) {
+        Some(glyph) => {
             hasher.update(index.to_le_bytes());
-            add_sides(width, height, hasher);
-            add_shown(glyphs.show(index, width, height), hasher);
+            add_sides(glyph.width, glyph.height, hasher);
+            add_colours(glyph.pixels.as_slice(), hasher);
             true
         }
         None => false,
-    }
-}
-
-/// Adds the pixels that are shown.
-fn add_shown(shown: Result<&[Rgb], Refusal>, hasher: &mut Sha256)
-    ensures { (due : Result (List Rgb) Refusal) → Says (λ pixels. pixels.now) shown.entry due → Took hasher.old hasher.new (shown_bytes due) }
-{
-    if let Ok(pixels) = shown {
-        add_colours(pixels, hasher);
     }
 }

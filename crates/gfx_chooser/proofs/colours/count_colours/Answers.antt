@@ -1,8 +1,8 @@
 -- One pixel after another.
 use Rattle.std.proofs.Common.{◌≡◌, ◌≤◌, length, true, false, Some, sym, ap, ◌∙◌, arith, eqb-true}
 use Rattle.std.specs.List.{slice_get}
-use Rattle.gfx_clear_runs.specs.Writing.{has_colour}
-use Rattle.gfx_chooser.specs.Facts.{colour_of}
+use Rattle.gfx_base.specs.Colour.{has_colour}
+use Rattle.gfx_base.specs.Colour.{colour_of}
 use Rattle.gfx_chooser.specs.declared.facts.TheConstants.{MOST_COLOURS}
 use Rattle.gfx_chooser.proofs.Counting.{finds_held, finds_new, counts_all, counts_full, not_full}
 use Rattle.gfx_chooser.proofs.colours.count_colours.Goals as goal

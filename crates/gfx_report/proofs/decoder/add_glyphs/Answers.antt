@@ -10,7 +10,7 @@ use Rattle.gfx_report.proofs.decoder.add_glyphs.Goals as goal
 pub indices-init : goal.indices-init
 unfolding glyphs_bytes
 indices-init c = record {
-  owes = Owes_all _ _ _ (bytes_from-zero (λ index. glyph_bytes c.args.glyphs.now index (slot_at c.args.glyphs.now index)) c.args.count);
+  owes = Owes_all _ _ _ (bytes_from-zero (λ index. glyph_bytes index (slot_at c.args.glyphs.now index)) c.args.count);
   counted = no_index_counted (λ index. is_some (slot_at c.args.glyphs.now index)) c.args.count;
 }
 
@@ -31,6 +31,6 @@ unfolding glyphs_bytes glyphs_held
 returns c =
     let past : c.args.count ≤ c.indices.index = omega arith in
     record {
-      took = index_end (λ index. glyph_bytes c.args.glyphs.now index (slot_at c.args.glyphs.now index)) _ _ _ _ _ past c.indices.invariant.owes;
+      took = index_end (λ index. glyph_bytes index (slot_at c.args.glyphs.now index)) _ _ _ _ _ past c.indices.invariant.owes;
       held = indices_counted (λ index. is_some (slot_at c.args.glyphs.now index)) _ _ _ past c.indices.invariant.counted;
     }

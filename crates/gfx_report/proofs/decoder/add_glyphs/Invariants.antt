@@ -10,6 +10,6 @@ use Rattle.gfx_report.proofs.decoder.add_glyphs.Given as goal
 abbrev pub invariant-indices : goal.invariant-indices
 invariant-indices l = record {
   owes : Owes l.fn.hasher l.hasher (glyphs_bytes l.count l.fn.glyphs)
-      (bytes_from (λ index. glyph_bytes l.fn.glyphs index (slot_at l.fn.glyphs index)) l.count l.index);
+      (bytes_from (λ index. glyph_bytes index (slot_at l.fn.glyphs index)) l.count l.index);
   counted : IndicesCounted (λ index. is_some (slot_at l.fn.glyphs index)) l.count l.held l.index;
 }

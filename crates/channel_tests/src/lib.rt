@@ -20,6 +20,8 @@ mod sessions;
 #[cfg(test)]
 mod streams;
 #[cfg(test)]
+mod surface_cells;
+#[cfg(test)]
 mod surfaces;
 #[cfg(test)]
 mod windows;

@@ -11,7 +11,7 @@ use Rattle.gfx_caps.specs.Offers.{advertised}
 use Rattle.gfx_caps.specs.Spelling.{size, spelling, IsSpellable, Fits}
 use Rattle.gfx_caps.proofs.SizeLaws.{length-spelling, size-least, size-ack, ack_fits, size-advertised, advertised_spellable, advertised_fits}
 use Rattle.gfx_caps.proofs.Laws.{client_of-spells, spelling-spells}
-use Rattle.gfx_segment.specs.declared.profile.TheConstants.{MOST_MESSAGE}
+use Rattle.gfx_base.specs.declared.TheConstants.{MOST_MESSAGE}
 use Rattle.gfx_segment.proofs.ReadBackLemmas.{front-prefixed}
 use Rattle.gfx_state.specs.History.{Effect}
 use Rattle.gfx_client.specs.Replies.{reply_in, stepped_by, replies, IsRead}

@@ -3,10 +3,10 @@ ghost use Rattle.std.specs.Prelude.{◌≡◌, ◌≤◌, IfOk};
 ghost use Rattle.gfx_caps.specs.Spelling.{IsSpellable, size};
 ghost use Rattle.gfx_client.specs.Replies.{alone, acknowledgement, reply_to};
 
-use gfx_base::{Bytes, NoMemory};
+use gfx_base::{Bytes, MOST_MESSAGE, NoMemory};
 use gfx_caps::{ClientPdu, write_client};
 use gfx_pdu::Pdu;
-use gfx_segment::{MOST_MESSAGE, prefix};
+use gfx_segment::prefix;
 use std::alloc::Global;
 
 /// A message as it is sent.

@@ -17,7 +17,8 @@ use Rattle.gfx_base.specs.declared.refusal.Refusal.TheVariants as refusal
 use Rattle.gfx_clear_store.specs.Rings.{AreRings}
 use Rattle.gfx_clear.specs.declared.layer.Layer.{Layer}
 use Rattle.gfx_clear.specs.State.{State as ClearState}
-use Rattle.gfx_clear.specs.Painting.{colour_of, opaque, scene, decoded}
+use Rattle.gfx_base.specs.Colour.{colour_of, opaque}
+use Rattle.gfx_clear.specs.Painting.{scene, decoded}
 use Rattle.gfx_clear.specs.Sending.{MaySend as MaySendStream, sent as stream_sent}
 use Rattle.gfx_clear.proofs.Step.{painting_is_step}
 use Rattle.gfx_pdu.specs.declared.pdu.Pdu.TheVariants.{WireToSurface1}

@@ -5,7 +5,7 @@ use Rattle.std.proofs.lemmas.List.{take_more, take_all}
 use Rattle.std.proofs.lemmas.Nat.{div-mul-add, div_below}
 use Rattle.gfx_base.specs.declared.pixel.Pixel.{Pixel}
 use Rattle.gfx_base.specs.declared.pixel.Rgb.{Rgb}
-use Rattle.gfx_clear.specs.Painting.{colour_of}
+use Rattle.gfx_base.specs.Colour.{colour_of}
 use Rattle.gfx_surface.specs.Picture.{no_pixel}
 use Rattle.gfx_surface.proofs.PictureLemmas.{pixel_at-drawn}
 use Rattle.gfx_script.specs.declared.picture.Picture.{Picture as Source}

@@ -13,7 +13,7 @@ use Rattle.gfx_base.specs.declared.format.Format.TheVariants.{Xrgb, Argb}
 use Rattle.gfx_base.specs.declared.geometry.Point.{Point}
 use Rattle.gfx_base.specs.declared.pixel.Rgb.{Rgb}
 use Rattle.gfx_clear.specs.declared.layer.Layer.{Layer}
-use Rattle.gfx_clear.specs.Painting.{colour_of, opaque}
+use Rattle.gfx_base.specs.Colour.{colour_of, opaque}
 use Rattle.gfx_surface.specs.Picture.{Picture, shade, pixel_at, overlaid, in_rect, no_pixel}
 use Rattle.gfx_surface.proofs.PictureLemmas.{pixel_at-drawn}
 use Rattle.gfx_script.specs.declared.picture.Picture.{Picture as Source}

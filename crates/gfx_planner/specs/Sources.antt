@@ -4,7 +4,7 @@ use Rattle.std.specs.FinMap.{get}
 use Rattle.std.specs.List.{slice_get}
 use Rattle.gfx_base.specs.Geometry.{lies_in}
 use Rattle.gfx_base.specs.declared.geometry.Point.{Point}
-use Rattle.gfx_clear.specs.Painting.{colour_of, opaque}
+use Rattle.gfx_base.specs.Colour.{colour_of, opaque}
 use Rattle.gfx_surface.specs.Picture.{Picture, pixel_at}
 use Rattle.gfx_surface_map.specs.Surfaces.{Surfaces}
 use Rattle.gfx_script.specs.declared.picture.Picture.{Picture as Source}

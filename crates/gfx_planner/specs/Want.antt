@@ -15,7 +15,7 @@ use Rattle.gfx_base.specs.declared.refusal.Refusal.{Refusal}
 use Rattle.gfx_base.specs.Geometry.{width_of, height_of, sized}
 use Rattle.gfx_bitmap_cache.specs.Slots.{Entry, entry}
 use Rattle.gfx_clear.specs.declared.layer.Layer.{Layer}
-use Rattle.gfx_clear.specs.Painting.{colour_of, opaque}
+use Rattle.gfx_base.specs.Colour.{colour_of, opaque}
 use Rattle.gfx_slot_plan.specs.declared.kept.Kept.{Kept}
 use Rattle.gfx_slot_plan.specs.Plan.{Plan, plan, keeps, slot_of, touched, forgotten}
 use Rattle.gfx_state.specs.Step.{image_in}

@@ -1,7 +1,6 @@
 //! The data of paints.
 ghost use Rattle.std.specs.Prelude.{◌≡◌, ℕ, ◌<◌, ◌+◌, ◌*◌, ◌∷◌, [], ◌++◌, IfSome, IfOk, Some, OnOk, option_map};
 ghost use Rattle.std.specs.List.{slice_get};
-ghost use Rattle.gfx_clear.specs.Painting.{colour_of};
 ghost use Rattle.gfx_planner.specs.Want.{pixels_in, colours_in};
 ghost use Rattle.gfx_planner.specs.Wire.{raw_bytes};
 
@@ -45,22 +44,10 @@ pub fn colours(
     let mut colours = Vec::with_capacity(alloc, count)?;
     let (mut x, mut y) = (0, 0);
     'pixels: for _ in 0..count {
-        colours.push(colour_of(script.picture_pixel(picture, x, y)))?;
+        colours.push(script.picture_pixel(picture, x, y).colour())?;
         (x, y) = next_place(width, x, y);
     }
     Ok(colours)
-}
-
-/// The colour of a pixel.
-#[inline(always)]
-fn colour_of(pixel: Pixel) -> Rgb
-    ensures { result ≡ colour_of pixel }
-{
-    Rgb {
-        b: pixel.b,
-        g: pixel.g,
-        r: pixel.r,
-    }
 }
 
 /// The place behind this one, row by row.

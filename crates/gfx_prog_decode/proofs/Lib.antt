@@ -12,3 +12,4 @@ mod Tiles
 mod Steps
 pub mod Sides
 pub mod Numbers
+mod Ones

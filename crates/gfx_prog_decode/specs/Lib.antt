@@ -8,3 +8,4 @@ pub mod Progressive
 pub mod Undo
 pub mod Inside
 pub mod Lending
+pub mod OneTransform

@@ -10,6 +10,7 @@ mod canvas;
 mod coding;
 mod improving;
 mod key;
+mod laws;
 mod log;
 mod passing;
 mod records;
@@ -19,6 +20,7 @@ mod spare;
 mod starting;
 
 pub use key::{Key, Place};
+pub use laws::one_transform;
 pub use records::Records;
 
 /// How many records there are at most, of all surfaces and contexts. This project's own rule.

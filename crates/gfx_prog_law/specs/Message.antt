@@ -11,7 +11,7 @@ use Rattle.gfx_prog_law.specs.Accepted.{IsSend}
 
 -- no message has more bytes
 abbrev pub MOST_DATA : ℕ
-MOST_DATA = 60000000
+MOST_DATA = 51000000
 
 -- so it is with one that paints
 abbrev pub PaintIsShort : Type 0

@@ -9,7 +9,7 @@ use Rattle.std.proofs.lemmas.Bool.Decides.{nat_tests}
 use Rattle.gfx_base.specs.Format.{format_of}
 use Rattle.gfx_base.specs.Geometry.{lies_in}
 use Rattle.gfx_base.specs.Results.{and_then}
-use Rattle.gfx_base.specs.Outcome.{Applies}
+use Rattle.gfx_base.specs.Outcome.{Applies, WantsOnlyIf}
 use Rattle.gfx_base.specs.declared.answer.Cause.{Cause}
 use Rattle.gfx_base.specs.declared.answer.Cause.TheVariants.{Refused, Memory}
 use Rattle.gfx_base.specs.declared.answer.NoMemory.{NoMemory}
@@ -29,7 +29,7 @@ use Rattle.gfx_state.specs.declared.codec.Codec.TheVariants.{Uncompressed, Clear
 use Rattle.gfx_state.specs.Codecs.{UNCOMPRESSED, CLEARCODEC, codec_of}
 use Rattle.gfx_state.specs.State.{State}
 use Rattle.gfx_state.specs.Step.{step, painted_by, stream_painted, data_painted}
-use Rattle.gfx_screen.specs.Memory.{WantsOnlyIf}
+use Rattle.gfx_base.proofs.Wanting.{wants_any}
 
 -- data whose surface, codec, format and rectangle are good are painted by their codec
 pub data_painted_by : (state : State) (id number byte : ℕ) (rect : Rect) (payload : List ℕ) (picture : Picture) (codec : Codec) (format : Format) → get state.shown.surfaces id ≡ Some picture
@@ -118,11 +118,6 @@ by_id : (plain clear : Bool) → (if plain then Some Uncompressed else if clear 
 by_id true clear e = absurd cc
 by_id false true e = refl
 by_id false false e = absurd cc
-
-wants_any : (result : Result (Unit {0}) (Cause Refusal)) (may : Bool) → may ≡ true → WantsOnlyIf result may
-wants_any (Ok x) may e = tt
-wants_any (Err Memory) may e = e
-wants_any (Err (Refused r)) may e = tt
 
 pub stream_wants : (result : Result (Unit {0}) (Cause Refusal)) (number : ℕ) → codec_of number ≡ Some ClearCodec → WantsOnlyIf result (number == CLEARCODEC)
 unfolding codec_of

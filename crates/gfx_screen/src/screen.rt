@@ -1,9 +1,9 @@
-ghost use Rattle.std.specs.Prelude.{◌≡◌, ℕ, ◌≤◌, ◌+◌, ◌*◌, ◌==◌, false, None, Ok, Err, IfSome, IsSome, IsSomeAnd, IsTrue, IfOk, OnErr, length};
+ghost use Rattle.std.specs.Prelude.{◌≡◌, ℕ, ◌≤◌, ◌+◌, ◌*◌, ◌==◌, false, None, Ok, Err, IfSome, IsSome, IsSomeAnd, IsTrue, IfOk, OnErr, is_ok, length};
 ghost use Rattle.std.specs.FinMap as map;
 ghost use Rattle.std.specs.List.{list_all};
 ghost use Rattle.gfx_base.specs.Geometry.{lies_in, width_of, height_of};
 ghost use Rattle.gfx_base.specs.Format.{format_of};
-ghost use Rattle.gfx_base.specs.Outcome.{Applies, Performs};
+ghost use Rattle.gfx_base.specs.Outcome.{Applies, Performs, WantsOnlyIf};
 ghost use Rattle.gfx_surface_map.specs.Shown.{surface_copied, output_mapped};
 ghost use Rattle.gfx_bitmap_cache.specs.Slots.{evicted};
 ghost use Rattle.gfx_clear.specs.Sending.{MaySend, sent};
@@ -11,7 +11,7 @@ ghost use Rattle.gfx_pdu.specs.declared.pdu.Pdu.TheVariants.{WireToSurface1};
 ghost use Rattle.gfx_state.specs.declared.codec.Codec.{Codec as AnyCodec};
 ghost use Rattle.gfx_state.specs.Codecs.{CLEARCODEC, PROGRESSIVE};
 ghost use Rattle.gfx_state.specs.State.{started};
-ghost use Rattle.gfx_screen.specs.Memory.{takes_memory, may_take_memory, WantsOnlyIf};
+ghost use Rattle.gfx_screen.specs.Memory.{takes_memory, may_take_memory};
 ghost use Rattle.gfx_state.specs.Step.{step, showing, caching, frame_started, frame_ended, surface_created, rects_filled, bytes_painted, stream_painted, data_painted, tiles_drawn, tiles_painted, context_deleted, surface_ended, rect_stored, slot_put, graphics_reset, caps_confirmed};
 
 use crate::bitmaps::{bitmap_of, lies_on};
@@ -121,7 +121,7 @@ impl State {
     #[tactic(auto, unfolding(gfx_state::specs::Step::step))]
     pub fn apply(&mut self, alloc: Global, pdu: &Pdu) -> Result<(), Fault>
         ensures applies { Applies result self.old self.new (step self.old pdu.now) }
-        ensures memory { WantsOnlyIf result (takes_memory pdu.now) }
+        ensures memory { WantsOnlyIf result (takes_memory self.old pdu.now) }
     {
         match pdu {
             Pdu::WireToSurface1 {
@@ -238,7 +238,8 @@ impl State {
         height: u16,
         format: u8,
     ) -> Result<(), Fault>
-        ensures { Applies result self.old self.new (surface_created self.old id width height format) }
+        ensures applies { Applies result self.old self.new (surface_created self.old id width height format) }
+        ensures memory { WantsOnlyIf result (is_ok (surface_created self.old id width height format)) }
     {
         match Format::from_byte(format) {
             Some(format) => self.surfaces.create(alloc, id, width, height, format),
@@ -440,7 +441,8 @@ impl State {
         slot: u16,
         rect: Rect,
     ) -> Result<(), Fault>
-        ensures { Applies result self.old self.new (rect_stored self.old id key slot rect) }
+        ensures applies { Applies result self.old self.new (rect_stored self.old id key slot rect) }
+        ensures memory { WantsOnlyIf result (is_ok (rect_stored self.old id key slot rect)) }
     {
         let Some(surface) = self.surfaces.get(id) else {
             return Err(Fault::Refused(Refusal::NoSurface));
@@ -506,8 +508,10 @@ impl State {
 
     #[tactic(auto, unfolding(gfx_state::specs::Step::showing, gfx_base::specs::Results::and_then))]
     fn map_output(&mut self, id: u16, x: u32, y: u32) -> Result<(), Fault>
-        ensures { Applies result self.old self.new
+        ensures applies { Applies result self.old self.new
             (showing self.old (output_mapped self.old.shown id (record { x = x; y = y }))) }
+        ensures memory { WantsOnlyIf result
+            (is_ok (showing self.old (output_mapped self.old.shown id (record { x = x; y = y })))) }
     {
         self.surfaces.map_output(id, x, y)
     }

@@ -8,7 +8,8 @@ use Rattle.std.specs.Int.{w32}
 use Rattle.gfx_base.specs.Field.{number_at}
 use Rattle.gfx_base.specs.Results.{and_then}
 use Rattle.gfx_base.proofs.ResultLemmas.{and_then_ok}
-use Rattle.gfx_pdu.specs.Reading.{message_at, front, size_of, kind_of, body_of}
+use Rattle.gfx_layout.specs.Header.{size_of}
+use Rattle.gfx_pdu.specs.Reading.{message_at, front, kind_of, body_of}
 use Rattle.gfx_state.specs.Payload.{none_left, before, found, messages_within, messages_of}
 
 pub message_at-nil : message_at [] ≡ Ok None

@@ -1,5 +1,5 @@
 -- Four raw numbers that are read by one look.
-use Rattle.std.proofs.Common.{◌≡◌, ◌∙◌, ℕ, ◌+◌, ◌*◌, ◌^◌, ◌<◌, ◌≤◌, Bool, true, false, ◌&&◌, List, drop, refl, pos, ap, sym, arith, subst, FitsSigned, w32, to_z, lit<}
+use Rattle.std.proofs.Common.{◌≡◌, ◌∙◌, ℕ, ◌+◌, ◌*◌, ◌^◌, ◌<◌, ◌≤◌, Bool, true, false, ◌&&◌, List, drop, refl, pos, ap, sym, arith, FitsSigned, w32, to_z, lit<}
 use Rattle.std.proofs.lemmas.Int.{to_z-of_z, ints}
 use Rattle.std.proofs.lemmas.List.{drop-drop}
 use Rattle.std.proofs.Math.Nat.{pow-le-pow_right}

@@ -14,3 +14,4 @@ pub mod OneReading
 pub mod Making
 pub mod Said
 pub mod Fours
+pub mod KnownSigns

@@ -167,7 +167,7 @@ cut-whole from values small long =
     length-append (take from values) (running (pos 0) (drop from values))
     ∙ omega (arith, length-take-le from values (omega arith), running-length (pos 0) (drop from values), length-drop from values)
 
-summed-whole : (t : Transform) (values : List ℤ) → length values ≡ 4096 → length (summed t values) ≡ 4096
+pub summed-whole : (t : Transform) (values : List ℤ) → length values ≡ 4096 → length (summed t values) ≡ 4096
 summed-whole t values long = cut-whole (start t Ll3) values (low-start t) long
 
 coefficient-there : (v c : ℤ) (position : ℕ) → dequantised v position ≡ Some c → c ≡ coefficient_of v position

@@ -6,3 +6,4 @@ pub mod Record
 pub mod Shape
 pub mod Shapes
 pub mod Making
+pub mod Known

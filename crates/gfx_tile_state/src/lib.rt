@@ -16,7 +16,8 @@ mod state;
 mod upgrading;
 
 pub use laws::{
-    a_first_pass_is, an_upgrade_is, may_add_is, may_upgrade_is, one_reading, what_data_say,
+    a_first_pass_is, an_upgrade_is, known_signs, may_add_is, may_upgrade_is, one_reading,
+    passes_of_one_transform, what_data_say,
 };
 pub use part::Part;
 pub use scratch::Scratch;

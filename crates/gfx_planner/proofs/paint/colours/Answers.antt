@@ -27,7 +27,7 @@ pixels-preserved c =
     let below : c.pixels.counter < c.args.width * c.args.height = search rules in
     record {
       colours = colours_next (slice_get c.args.script.now.pictures c.args.picture) c.picture_pixel.result c.pixels.x c.pixels.y c.pixels.counter c.args.width c.args.height c.pixels.colours.items c.push.new.self.items
-          c.requires c.picture_pixel.ensures c.pixels.invariant.place (c.pixels.invariant.inside below) below (c.in_ok-push.ensures.items ∙ ap (λ z. c.pixels.colours.items ++ z ∷ []) c.colour_of.ensures) c.pixels.invariant.colours;
+          c.requires c.picture_pixel.ensures c.pixels.invariant.place (c.pixels.invariant.inside below) below (c.in_ok-push.ensures.items ∙ ap (λ z. c.pixels.colours.items ++ z ∷ []) c.colour.ensures) c.pixels.invariant.colours;
       place = c.next_place.ensures.next ∙ ap (λ n. n + 1) c.pixels.invariant.place;
       inside = λ _. c.next_place.ensures.inside;
     }

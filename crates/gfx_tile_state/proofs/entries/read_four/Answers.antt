@@ -1,4 +1,4 @@
-use Rattle.std.proofs.Common.{◌≡◌, ◌∙◌, ◌+◌, ◌*◌, ◌≤◌, ap, arith, drop}
+use Rattle.std.proofs.Common.{◌∙◌, ◌*◌, ap, arith, drop}
 use Rattle.gfx_bits.specs.Bits.{number}
 use Rattle.gfx_tile_state.proofs.Fours.{fits-number, plain-number, small-number, three-on, two-on}
 use Rattle.gfx_tile_state.proofs.entries.read_four.Goals as goal

@@ -1,4 +1,4 @@
-use Rattle.std.proofs.Common.{rules, ◌≡◌, ◌∙◌, ◌<◌, ◌+◌, ◌+ℤ◌, ◌&&◌, ap, cond, neg_ℤ, pos, length, set, sym, refl, take, arith, FitsSigned, w16}
+use Rattle.std.proofs.Common.{rules, ◌≡◌, ◌∙◌, ◌<◌, ◌+ℤ◌, ap, cond, neg_ℤ, length, set, sym, refl, take, arith, FitsSigned, w16}
 use Rattle.std.specs.Prelude.{slice_index}
 use Rattle.std.proofs.lemmas.Int.{to_z-of_z}
 use Rattle.std.proofs.lemmas.List.{get_or-take, length-take-le}

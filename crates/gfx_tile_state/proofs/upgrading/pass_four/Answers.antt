@@ -1,4 +1,4 @@
-use Rattle.std.proofs.Common.{◌≡◌, ◌∙◌, ◌+◌, ◌<◌, ◌&&◌, refl, subst, arith, drop, take}
+use Rattle.std.proofs.Common.{◌∙◌, ◌+◌, ◌&&◌, refl, subst, arith, drop, take}
 use Rattle.gfx_tile_state.specs.declared.entries.Readers.{Readers}
 use Rattle.gfx_tile_state.specs.Sifting.{Sifted}
 use Rattle.gfx_tile_state.proofs.Fours.{all-four}

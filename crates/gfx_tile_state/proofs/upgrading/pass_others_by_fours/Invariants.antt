@@ -1,4 +1,4 @@
-use Rattle.std.proofs.Common.{◌≡◌, ◌≤◌, ◌-◌, ℕ, Bool, List, false, ◌&&◌, take}
+use Rattle.std.proofs.Common.{◌≤◌, ◌-◌, ℕ, Bool, List, false, ◌&&◌, take}
 use Rattle.gfx_dwt.specs.Ranges.{AllCoefficients}
 use Rattle.gfx_tile_state.specs.Entries.{Pass, AreAlike}
 use Rattle.gfx_tile_state.specs.Sifting.{Sifted}

@@ -1,7 +1,6 @@
-use Rattle.std.proofs.Common.{◌≡◌, ◌∙◌, ◌<◌, ◌≤◌, ◌+◌, ◌+ℤ◌, pos, length, set, ap, sym, refl, take, arith, w32, to_z, of_z}
+use Rattle.std.proofs.Common.{◌≡◌, ◌∙◌, ◌<◌, ◌≤◌, ◌+◌, pos, length, set, ap, sym, refl, take, arith, w32, to_z, of_z}
 use Rattle.std.specs.Prelude.{slice_index}
 use Rattle.std.proofs.lemmas.List.{get_or-take, length-take-le}
-use Rattle.gfx_dwt.specs.Ranges.{at}
 use Rattle.gfx_quant.specs.Coefficient.{coefficient_of}
 use Rattle.gfx_tile_state.specs.Entries.{wrapped}
 use Rattle.gfx_tile_state.proofs.Sums.{small-bits, surely, within_bits}

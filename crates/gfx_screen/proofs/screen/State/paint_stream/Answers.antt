@@ -9,11 +9,11 @@ pub invariant_of-self : goal.invariant_of-self
 invariant_of-self c =
     room_repainted c.self.inside.surfaces (record c.self.inside.surfaces { shown = with_picture c.self.inside.surfaces.shown c.args.id c.decode.new.surface }) c.args.id c.in-Some.surface.now c.decode.new.surface
     (sym c.in-Some.ensures.value)
-    (applied_sides c.decode.result (scene c.self.inside.clear c.in-Some.surface.now) (scene c.decode.new.self c.decode.new.surface) c.args.rect c.args.stream.now c.decode.ensures)
+    (applied_sides c.decode.result (scene c.self.inside.clear c.in-Some.surface.now) (scene c.decode.new.self c.decode.new.surface) c.args.rect c.args.stream.now c.decode.ensures.decoded)
     refl c.self.invariant
 
 pub returns : goal.returns
 returns c =
     let state : State = record { shown = c.self.inside.surfaces.shown; cache = c.self.inside.cache; clear = c.self.inside.clear; records = c.self.inside.records; frame = c.self.inside.frame; decoded = c.self.inside.decoded } in
     rw (← c.self.view_is)
-    (stream_answers c.decode.result state c.args.id c.in-Some.surface.now (scene c.decode.new.self c.decode.new.surface) c.args.rect c.args.stream.now (sym c.in-Some.ensures.value) c.decode.ensures)
+    (stream_answers c.decode.result state c.args.id c.in-Some.surface.now (scene c.decode.new.self c.decode.new.surface) c.args.rect c.args.stream.now (sym c.in-Some.ensures.value) c.decode.ensures.decoded)

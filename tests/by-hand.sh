@@ -1,6 +1,7 @@
 #!/usr/bin/env bash
-# Runs the built program where the machine refuses it a stream, on the examples, at the limit of its input and, where
-# a reference program is given, beside that one on many streams. It takes some minutes, and needs python3 and xz.
+# Runs the built program where the machine refuses it a stream, on the examples, at the limits of its input and of
+# its tiles and, where a reference program is given, beside that one on many streams. It takes some minutes, and
+# needs python3 and xz.
 #
 #     tests/by-hand.sh PROGRAM [REFERENCE [SEEDS]]
 #
@@ -10,7 +11,7 @@
 # Each case is a line, `ok` or `FAILED`; the exit number is 1 where one failed.
 set -u
 if [ $# -lt 1 ] || [ $# -gt 3 ]; then
-    sed -n '5s/^# *//p' "$0" >&2
+    sed -n '6s/^# *//p' "$0" >&2
     exit 2
 fi
 program=$(realpath "$1")
@@ -77,6 +78,41 @@ try:
     out.flush()
 except BrokenPipeError:
     sys.stderr.close()
+PYTHON
+}
+
+# Writes a stream of a surface of 128 cells and as many simple tiles as the number says, each of a cell and an
+# encoding context of its own; then, where there is a second word, `again`, the first of them once more.
+tiles_of() {
+    python3 - "$@" <<'PYTHON'
+import struct, sys
+
+CELLS = 128
+
+def message(number, body):
+    payload = struct.pack("<HHI", number, 0, 8 + len(body)) + body
+    return struct.pack("<IBB", 2 + len(payload), 0xE0, 0x04) + payload
+
+def block(kind, body):
+    return struct.pack("<HI", kind, 6 + len(body)) + body
+
+def tile(cell):
+    """A simple tile without data: all its coefficients are 0."""
+    return block(0xCCC5, struct.pack("<3B2HB4H", 0, 0, 0, cell, 0, 0, 0, 0, 0, 0))
+
+def passes(context, count):
+    """A region of tiles at the first so many cells, which paints none of them."""
+    tiles = b"".join(map(tile, range(count)))
+    region = block(0xCCC4, struct.pack("<BHBBBHI", 64, 0, 1, 0, 0, count, len(tiles)) + b"\x66" * 5 + tiles)
+    return message(2, struct.pack("<HHIBI", 1, 9, context, 0x20, len(region)) + region)
+
+total, last = int(sys.argv[1]), sys.argv[2:]
+out = sys.stdout.buffer
+out.write(message(9, struct.pack("<HHHB", 1, 64 * CELLS, 1, 0x20)))
+for first in range(0, total, CELLS):
+    out.write(passes(first // CELLS, min(CELLS, total - first)))
+if last:
+    out.write(passes(0, 1))
 PYTHON
 }
 
@@ -208,6 +244,20 @@ tiles 0"
 stream_of "$limit" byte | "$program" audit > "$work/out" 2> "$work/err"
 report "1 GiB and one byte, audited" "1 input: TooLong" "$(ended "${PIPESTATUS[1]}")"
 report "1 GiB and one byte, audited, the last lines" "$nothing_held" "$(tail -n 5 "$work/out")"
+
+# The limit of tile records: 16,384. Each message has 128 tiles.
+tiles_case() {
+    local name=$1 wanted=$2
+    shift 2
+    tiles_of "$@" > "$work/input"
+    "$program" render < "$work/input" > "$work/out" 2> "$work/err"
+    report "$name" "$wanted" "$(ended $?)"
+    "$program" audit < "$work/input" 2> "$work/err" | tail -n 1 > "$work/out"
+    report "$name, audited" "$wanted, tiles 16384" "$(ended "${PIPESTATUS[0]}"), $(cat "$work/out")"
+}
+tiles_case "16,384 tiles" "0 " 16384
+tiles_case "16,384 tiles and one of them again" "0 " 16384 again
+tiles_case "16,385 tiles" "1 message 130: 49 TileBudget" 16385
 
 # Beside the reference program.
 if [ -n "$reference" ]; then

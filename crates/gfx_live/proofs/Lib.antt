@@ -1,4 +1,3 @@
-mod Blocks
 mod Maps
 mod InPlace
 pub mod Ending

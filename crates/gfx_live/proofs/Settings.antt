@@ -5,7 +5,9 @@ use Rattle.std.specs.FinMap.{empty, get, get-empty, get-insert, get-retain_keys,
 use Rattle.std.specs.List.{AllByRecursion, cons_option, filter_map}
 use Rattle.std.specs.Option.{option_and_then}
 use Rattle.std.specs.Ordering.{eq_by_cmp}
+use Rattle.gfx_base.specs.declared.geometry.Cell.{Cell}
 use Rattle.gfx_base.specs.declared.geometry.Rect.{Rect}
+use Rattle.gfx_base.specs.Cells.{cell, cells_met}
 use Rattle.gfx_quant.specs.declared.setting.Setting.{Setting}
 use Rattle.gfx_prog_decode.specs.declared.key.Key.{Key}
 use Rattle.gfx_prog_decode.specs.Records.{key_cmp}
@@ -15,7 +17,7 @@ use Rattle.gfx_script.specs.declared.picture.Picture.{Picture}
 use Rattle.gfx_script.specs.Scripted.{Script}
 use Rattle.gfx_script.specs.Writes.{Area}
 use Rattle.gfx_tile_make.specs.Source.{Source, difference_of}
-use Rattle.gfx_live.specs.Cells.{cell_key, cells_met}
+use Rattle.gfx_live.specs.Cells.{cell_key}
 use Rattle.gfx_live.specs.Inside.{AreBy, IsBy}
 use Rattle.gfx_live.specs.Live.{Live, Passes, after_sends, ended_in, improved_sends, painted_sends, passes_after, raised, send_of, with_live, without_surface}
 use Rattle.gfx_live.specs.Tiles.{gone_on, is_in_range}
@@ -43,8 +45,8 @@ without_surface_by setting live id = retained_by setting live (λ key. not (key.
 -- those with one that was sent
 with_by : (setting : Setting) (id : ℕ) (live : Live) (send : TileSend) → IsBy setting send → AreBy setting live → AreBy setting (with_live id live send)
 with_by setting id live send is are key =
-    subst (λ o. IfSome o (IsBy setting)) (sym (get-insert key_total live (cell_key id send.x send.y) send key))
-    (by (eq_by_cmp key_cmp key (cell_key id send.x send.y)))
+    subst (λ o. IfSome o (IsBy setting)) (sym (get-insert key_total live (cell_key id (cell send.x send.y)) send key))
+    (by (eq_by_cmp key_cmp key (cell_key id (cell send.x send.y))))
   where
     by : (b : Bool) → IfSome (cond b (Some send) (get live key)) (IsBy setting)
     by true = is
@@ -67,14 +69,14 @@ gone_on_by differences None tile = refl
 gone_on_by differences (Some old) tile =
     either (differences && (old.level == length old.tile.setting.levels) && is_in_range (difference_of tile old.tile)) (difference_of tile old.tile) tile tile.setting refl refl
 
-sent_by : (script : Script) (live : Live) (id : ℕ) (picture : Picture) (rect : Rect) (cell : ℕ × ℕ) → IsBy script.setting (send_of script live id picture rect cell)
+sent_by : (script : Script) (live : Live) (id : ℕ) (picture : Picture) (rect : Rect) (c : Cell) → IsBy script.setting (send_of script live id picture rect c)
 unfolding send_of
-sent_by script live id picture rect cell = gone_on_by script.differences (get live (cell_key id cell.0 cell.1)) _
+sent_by script live id picture rect c = gone_on_by script.differences (get live (cell_key id c)) _
 
-each_sent_by : (script : Script) (live : Live) (id : ℕ) (picture : Picture) (rect : Rect) (cells : List (ℕ × ℕ))
+each_sent_by : (script : Script) (live : Live) (id : ℕ) (picture : Picture) (rect : Rect) (cells : List Cell)
     → AllByRecursion (IsBy script.setting) (map (send_of script live id picture rect) cells)
 each_sent_by script live id picture rect [] = tt
-each_sent_by script live id picture rect (cell ∷ cells) = (sent_by script live id picture rect cell, each_sent_by script live id picture rect cells)
+each_sent_by script live id picture rect (c ∷ cells) = (sent_by script live id picture rect c, each_sent_by script live id picture rect cells)
 
 -- what a paint sends is of the script's setting
 pub painted_by : (script : Script) (live : Live) (id : ℕ) (picture : Picture) (rect : Rect) → AllByRecursion (IsBy script.setting) (painted_sends script live id picture rect)
@@ -92,10 +94,10 @@ found_by : (setting : Setting) (o : Option TileSend) → IfSome o (IsBy setting)
 found_by setting None is = tt
 found_by setting (Some send) is = raised_by setting send is
 
-each_found_by : (setting : Setting) (found : (ℕ × ℕ) → Option TileSend) → ((cell : ℕ × ℕ) → IfSome (found cell) (IsBy setting)) → (cells : List (ℕ × ℕ))
+each_found_by : (setting : Setting) (found : Cell → Option TileSend) → ((c : Cell) → IfSome (found c) (IsBy setting)) → (cells : List Cell)
     → AllByRecursion (IsBy setting) (filter_map found cells)
 each_found_by setting found each [] = tt
-each_found_by setting found each (cell ∷ cells) = by (found cell) (each cell) (each_found_by setting found each cells)
+each_found_by setting found each (c ∷ cells) = by (found c) (each c) (each_found_by setting found each cells)
   where
     by : (o : Option TileSend) → IfSome o (IsBy setting) → AllByRecursion (IsBy setting) (filter_map found cells) → AllByRecursion (IsBy setting) (cons_option o (filter_map found cells))
     by None is rest = rest
@@ -104,7 +106,7 @@ each_found_by setting found each (cell ∷ cells) = by (found cell) (each cell) 
 -- what an improvement sends is of the setting of the live tiles
 pub improved_by : (setting : Setting) (live : Live) (id width height : ℕ) → AreBy setting live → AllByRecursion (IsBy setting) (improved_sends live id width height)
 improved_by setting live id width height are =
-    each_found_by setting _ (λ cell. found_by setting (get live (cell_key id cell.0 cell.1)) (are (cell_key id cell.0 cell.1))) _
+    each_found_by setting _ (λ c. found_by setting (get live (cell_key id c)) (are (cell_key id c))) _
 
 -- so they are after a paint
 pub painted_after_by : (script : Script) (id : ℕ) (picture : Picture) (rect : Rect) (passes : Passes) → AreBy script.setting passes.live

@@ -9,16 +9,18 @@ use Rattle.std.proofs.lemmas.Bool.Decides.{nat_tests}
 use Rattle.std.proofs.lemmas.List.Elements.{All-nil, All-push, filter_map-append}
 use Rattle.std.proofs.lemmas.List.Sums.{fold-append}
 use Rattle.std.proofs.Math.Seq.{take-suc}
+use Rattle.gfx_base.specs.declared.geometry.Cell.{Cell}
 use Rattle.gfx_base.specs.declared.geometry.Rect.{Rect}
+use Rattle.gfx_base.specs.Cells.{cell, cells_along, cells_met}
+use Rattle.gfx_base.proofs.Blocks.{cells_apart}
 use Rattle.gfx_prog_decode.specs.declared.key.Key.{Key}
 use Rattle.gfx_prog_decode.specs.Records.{key_cmp}
 use Rattle.gfx_prog_decode.proofs.Keys.{key_same, key_total, tied}
 use Rattle.gfx_prog_encode.specs.declared.send.TileSend.{TileSend}
 use Rattle.gfx_prog_encode.specs.Inside.{AreRaised, IsRaised}
-use Rattle.gfx_live.specs.Cells.{cell_key, cells_met}
+use Rattle.gfx_live.specs.Cells.{cell_key}
 use Rattle.gfx_live.specs.Inside.{AreInPlace, IsInPlace, Lists}
 use Rattle.gfx_live.specs.Live.{Live, after_sends, raised, with_live}
-use Rattle.gfx_live.proofs.Blocks.{cells_apart}
 use Rattle.gfx_live.proofs.InPlace.{removed_in_place}
 
 -- none is left to put in
@@ -90,15 +92,15 @@ comes_of (Some old) send is = record { old = old; is = refl; raises = sym is }
 -- ---- all of a surface
 
 -- the key of the cell at a place
-abbrev pub key_at : ℕ → List (ℕ × ℕ) → ℕ → Key
-key_at id cells place = cell_key id (get_or cells place (0, 0)).0 (get_or cells place (0, 0)).1
+abbrev pub key_at : ℕ → List Cell → ℕ → Key
+key_at id cells place = cell_key id (get_or cells place (cell 0 0))
 
 -- what is sent of a cell
-abbrev pub improved : ℕ → Live → (ℕ × ℕ) → Option TileSend
-improved id live cell = option_and_then raised (get live (cell_key id cell.0 cell.1))
+abbrev pub improved : ℕ → Live → Cell → Option TileSend
+improved id live c = option_and_then raised (get live (cell_key id c))
 
 -- the cells before a place are done: what was sent of them was taken out, and makes the same of what is left as of what was
-pub record Taking (id : ℕ) (cells : List (ℕ × ℕ)) (old live : Live) (sends : List TileSend) (place : ℕ) : Type 0 where
+pub record Taking (id : ℕ) (cells : List Cell) (old live : Live) (sends : List TileSend) (place : ℕ) : Type 0 where
   pub value : sends ≡ filter_map (improved id old) (take place cells)
   pub back : after_sends id sends live ≡ after_sends id sends old
   pub rest : (j : ℕ) → place ≤ j → j < length cells → get live (key_at id cells j) ≡ get old (key_at id cells j)
@@ -106,7 +108,7 @@ pub record Taking (id : ℕ) (cells : List (ℕ × ℕ)) (old live : Live) (send
   pub placed : AreInPlace live
 
 -- none is yet
-pub none_taken : (id : ℕ) (cells : List (ℕ × ℕ)) (old : Live) (sends : List TileSend) → sends ≡ [] → AreInPlace old → Taking id cells old old sends 0
+pub none_taken : (id : ℕ) (cells : List Cell) (old : Live) (sends : List TileSend) → sends ≡ [] → AreInPlace old → Taking id cells old old sends 0
 none_taken id cells old sends none placed = record {
   value = none;
   back = refl;
@@ -116,23 +118,23 @@ none_taken id cells old sends none placed = record {
 }
 
 -- one cell more
-sent_more : (h : (ℕ × ℕ) → Option TileSend) (cells : List (ℕ × ℕ)) (place : ℕ) → place < length cells
-    → filter_map h (take (place + 1) cells) ≡ filter_map h (take place cells) ++ cons_option (h (get_or cells place (0, 0))) []
+sent_more : (h : Cell → Option TileSend) (cells : List Cell) (place : ℕ) → place < length cells
+    → filter_map h (take (place + 1) cells) ≡ filter_map h (take place cells) ++ cons_option (h (get_or cells place (cell 0 0))) []
 sent_more h cells place within =
     ap (λ n. filter_map h (take n cells)) {x = place + 1} {y = suc place} (omega arith)
-    ∙ ap (filter_map h) (take-suc cells place (0, 0) within)
-    ∙ filter_map-append h (take place cells) (get_or cells place (0, 0) ∷ [])
+    ∙ ap (filter_map h) (take-suc cells place (cell 0 0) within)
+    ∙ filter_map-append h (take place cells) (get_or cells place (cell 0 0) ∷ [])
 
 append_nil : (xs : List TileSend) → xs ++ [] ≡ xs
 append_nil [] = refl
 append_nil (x ∷ xs) = ap (λ ys. x ∷ ys) (append_nil xs)
 
 -- that has nothing to be sent
-pub nothing_taken : (id : ℕ) (cells : List (ℕ × ℕ)) (old live new : Live) (sends more : List TileSend) (place : ℕ) (cell : ℕ × ℕ)
-    → place < length cells → cell ≡ get_or cells place (0, 0) → None ≡ improved id live cell → new ≡ live → more ≡ sends
+pub nothing_taken : (id : ℕ) (cells : List Cell) (old live new : Live) (sends more : List TileSend) (place : ℕ) (c : Cell)
+    → place < length cells → c ≡ get_or cells place (cell 0 0) → None ≡ improved id live c → new ≡ live → more ≡ sends
     → Taking id cells old live sends place → Taking id cells old new more (place + 1)
-nothing_taken id cells old live new sends more place cell within at is same kept before =
-    let nothing : improved id old (get_or cells place (0, 0)) ≡ None =
+nothing_taken id cells old live new sends more place c within at is same kept before =
+    let nothing : improved id old (get_or cells place (cell 0 0)) ≡ None =
     ap (option_and_then raised) (sym (before.rest place (omega arith) within)) ∙ ap (improved id live) (sym at) ∙ sym is in
     record {
       value =
@@ -150,54 +152,54 @@ alike_after : (id : ℕ) (sends : List TileSend) (a b : Live) (q : Key) → get 
 alike_after id [] a b q same = same
 alike_after id (send ∷ sends) a b q same =
     alike_after id sends (with_live id a send) (with_live id b send) q
-    (get-insert key_total a (cell_key id send.x send.y) send q
-    ∙ ap (cond (eq_by_cmp key_cmp q (cell_key id send.x send.y)) (Some send)) same
-    ∙ sym (get-insert key_total b (cell_key id send.x send.y) send q))
+    (get-insert key_total a (cell_key id (cell send.x send.y)) send q
+    ∙ ap (cond (eq_by_cmp key_cmp q (cell_key id (cell send.x send.y))) (Some send)) same
+    ∙ sym (get-insert key_total b (cell_key id (cell send.x send.y)) send q))
 
 -- put back at its key, a tile that was taken out is where it was
 put_back : (id : ℕ) (send : TileSend) (sends : List TileSend) (old live : Live) → after_sends id sends live ≡ after_sends id sends old
-    → after_sends id (sends ++ send ∷ []) (remove live (cell_key id send.x send.y)) ≡ after_sends id (sends ++ send ∷ []) old
+    → after_sends id (sends ++ send ∷ []) (remove live (cell_key id (cell send.x send.y))) ≡ after_sends id (sends ++ send ∷ []) old
 put_back id send sends old live back =
-    fold-append (with_live id) (remove live (cell_key id send.x send.y)) sends (send ∷ [])
+    fold-append (with_live id) (remove live (cell_key id (cell send.x send.y))) sends (send ∷ [])
     ∙ same_map key_total key_same _ _ (λ q.
-    get-insert key_total (after_sends id sends (remove live (cell_key id send.x send.y))) (cell_key id send.x send.y) send q
-    ∙ by q (eq_by_cmp key_cmp q (cell_key id send.x send.y)) refl
-    ∙ sym (get-insert key_total (after_sends id sends old) (cell_key id send.x send.y) send q))
+    get-insert key_total (after_sends id sends (remove live (cell_key id (cell send.x send.y)))) (cell_key id (cell send.x send.y)) send q
+    ∙ by q (eq_by_cmp key_cmp q (cell_key id (cell send.x send.y))) refl
+    ∙ sym (get-insert key_total (after_sends id sends old) (cell_key id (cell send.x send.y)) send q))
     ∙ sym (fold-append (with_live id) old sends (send ∷ []))
   where
-    by : (q : Key) (b : Bool) → eq_by_cmp key_cmp q (cell_key id send.x send.y) ≡ b
-        → cond b (Some send) (get (after_sends id sends (remove live (cell_key id send.x send.y))) q) ≡ cond b (Some send) (get (after_sends id sends old) q)
+    by : (q : Key) (b : Bool) → eq_by_cmp key_cmp q (cell_key id (cell send.x send.y)) ≡ b
+        → cond b (Some send) (get (after_sends id sends (remove live (cell_key id (cell send.x send.y)))) q) ≡ cond b (Some send) (get (after_sends id sends old) q)
     by q true ties = refl
     by q false ties =
-        alike_after id sends (remove live (cell_key id send.x send.y)) live q
-        (get-remove key_total live (cell_key id send.x send.y) q ∙ ap (λ b. cond b None (get live q)) ties)
+        alike_after id sends (remove live (cell_key id (cell send.x send.y))) live q
+        (get-remove key_total live (cell_key id (cell send.x send.y)) q ∙ ap (λ b. cond b None (get live q)) ties)
         ∙ ap (λ m. get m q) back
 
 -- no key stands at two places
-keys_apart : (id : ℕ) (rect : Rect) (cells : List (ℕ × ℕ)) (j k : ℕ) → cells ≡ cells_met rect → j < k → k < length cells → eq_by_cmp key_cmp (key_at id cells k) (key_at id cells j) ≡ false
+keys_apart : (id : ℕ) (rect : Rect) (cells : List Cell) (j k : ℕ) → cells ≡ cells_met rect → j < k → k < length cells → eq_by_cmp key_cmp (key_at id cells k) (key_at id cells j) ≡ false
 keys_apart id rect cells j k are before within = by (eq_by_cmp key_cmp (key_at id cells k) (key_at id cells j)) refl
   where
     by : (b : Bool) → eq_by_cmp key_cmp (key_at id cells k) (key_at id cells j) ≡ b → b ≡ false
     by false ties = refl
     by true ties =
         let same : key_at id cells k ≡ key_at id cells j = tied (key_at id cells k) (key_at id cells j) ties in
-        let cell : get_or cells j (0, 0) ≡ get_or cells k (0, 0) = λ i. ((sym same i).x, (sym same i).y) in
-        absurd (cells_apart (rect.left / 64) (rect.top / 64) ((rect.right + 64 - 1) / 64 - rect.left / 64) ((rect.bottom + 64 - 1) / 64 - rect.top / 64) j k before
-        (subst (λ (xs : List (ℕ × ℕ)). k < length xs) are within)
-        (subst (λ (xs : List (ℕ × ℕ)). get_or xs j (0, 0) ≡ get_or xs k (0, 0)) are cell))
+        let alike : get_or cells j (cell 0 0) ≡ get_or cells k (cell 0 0) = λ i. cell (sym same i).x (sym same i).y in
+        absurd (cells_apart (rect.left / 64) (rect.top / 64) (cells_along rect.right - rect.left / 64) (cells_along rect.bottom - rect.top / 64) j k before
+        (subst (λ (xs : List Cell). k < length xs) are within)
+        (subst (λ (xs : List Cell). get_or xs j (cell 0 0) ≡ get_or xs k (cell 0 0)) are alike))
 
 -- one that has
-pub one_taken : (id : ℕ) (rect : Rect) (cells : List (ℕ × ℕ)) (old live new : Live) (sends more : List TileSend) (place : ℕ) (cell : ℕ × ℕ) (send : TileSend)
-    → cells ≡ cells_met rect → place < length cells → cell ≡ get_or cells place (0, 0) → Some send ≡ improved id live cell
-    → new ≡ remove live (cell_key id cell.0 cell.1) → more ≡ sends ++ send ∷ []
+pub one_taken : (id : ℕ) (rect : Rect) (cells : List Cell) (old live new : Live) (sends more : List TileSend) (place : ℕ) (c : Cell) (send : TileSend)
+    → cells ≡ cells_met rect → place < length cells → c ≡ get_or cells place (cell 0 0) → Some send ≡ improved id live c
+    → new ≡ remove live (cell_key id c) → more ≡ sends ++ send ∷ []
     → Taking id cells old live sends place → Taking id cells old new more (place + 1)
-one_taken id rect cells old live new sends more place cell send are within at is left put before =
-    let from : ComesOf (get live (cell_key id cell.0 cell.1)) send = comes_of _ send is in
+one_taken id rect cells old live new sends more place c send are within at is left put before =
+    let from : ComesOf (get live (cell_key id c)) send = comes_of _ send is in
     let raise : IsRaisedFrom from.old send = raised_from from.old send from.raises in
-    let here : IsInPlace (cell_key id cell.0 cell.1) from.old = subst (λ o. IfSome o (IsInPlace (cell_key id cell.0 cell.1))) from.is (before.placed (cell_key id cell.0 cell.1)) in
-    let key : cell_key id cell.0 cell.1 ≡ cell_key id send.x send.y = here ∙ ap (λ (s : TileSend). cell_key id s.x s.y) (sym raise.is) in
-    let there : key_at id cells place ≡ cell_key id cell.0 cell.1 = ap (λ (c : ℕ × ℕ). cell_key id c.0 c.1) (sym at) in
-    let sent : improved id old (get_or cells place (0, 0)) ≡ Some send =
+    let here : IsInPlace (cell_key id c) from.old = subst (λ o. IfSome o (IsInPlace (cell_key id c))) from.is (before.placed (cell_key id c)) in
+    let key : cell_key id c ≡ cell_key id (cell send.x send.y) = here ∙ ap (λ (s : TileSend). cell_key id (cell s.x s.y)) (sym raise.is) in
+    let there : key_at id cells place ≡ cell_key id c = ap (cell_key id) (sym at) in
+    let sent : improved id old (get_or cells place (cell 0 0)) ≡ Some send =
     ap (option_and_then raised) (sym (before.rest place (omega arith) within)) ∙ ap (improved id live) (sym at) ∙ sym is in
     record {
       value =
@@ -210,11 +212,11 @@ one_taken id rect cells old live new sends more place cell send are within at is
           ∙ ap (λ xs. after_sends id xs old) (sym put);
       rest = λ j h k.
           ap (λ m. get m (key_at id cells j)) left
-          ∙ get-remove key_total live (cell_key id cell.0 cell.1) (key_at id cells j)
+          ∙ get-remove key_total live (cell_key id c) (key_at id cells j)
           ∙ ap (λ b. cond b None (get live (key_at id cells j))) (ap (eq_by_cmp key_cmp (key_at id cells j)) (sym there) ∙ keys_apart id rect cells place j are (omega arith) k)
           ∙ before.rest j (omega arith) k;
       raised_are = subst AreRaised (sym put) (All-push IsRaised sends send before.raised_are (raised_now from.old send raise));
-      placed = subst AreInPlace (sym left) (removed_in_place live (cell_key id cell.0 cell.1) before.placed);
+      placed = subst AreInPlace (sym left) (removed_in_place live (cell_key id c) before.placed);
     }
   where
     raised_now : (old send : TileSend) → IsRaisedFrom old send → IsRaised send

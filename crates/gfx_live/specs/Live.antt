@@ -6,7 +6,9 @@ use Rattle.std.specs.FinMap as finmap
 use Rattle.std.specs.FinMap.{FinMap}
 use Rattle.std.specs.List.{filter_map, list_any}
 use Rattle.std.specs.Option.{option_and_then}
+use Rattle.gfx_base.specs.declared.geometry.Cell.{Cell}
 use Rattle.gfx_base.specs.declared.geometry.Rect.{Rect}
+use Rattle.gfx_base.specs.Cells.{cell, cells_met, cut_to_cell, meets}
 use Rattle.gfx_base.specs.Geometry.{sized}
 use Rattle.gfx_quant.specs.declared.setting.Setting.{Setting}
 use Rattle.gfx_prog_decode.specs.Records.{key_cmp}
@@ -17,7 +19,7 @@ use Rattle.gfx_script.specs.declared.picture.Picture.{Picture}
 use Rattle.gfx_script.specs.Scripted.{Script}
 use Rattle.gfx_script.specs.Writes.{Area}
 use Rattle.gfx_tile_make.specs.Source.{source_of}
-use Rattle.gfx_live.specs.Cells.{cell_key, cells_met, cut_to_cell, meets}
+use Rattle.gfx_live.specs.Cells.{cell_key}
 use Rattle.gfx_live.specs.Tiles.{cell_pixels, gone_on}
 
 -- the live tiles, each by its cell, as it was sent last
@@ -36,12 +38,12 @@ at_start = record { live = finmap.empty; next = 0 }
 -- ---- what is sent
 
 -- the tile of a cell, in the part of a picture's rectangle that lies in it, at the first level
-unfoldable pub send_of : Script → Live → ℕ → Picture → Rect → (ℕ × ℕ) → TileSend
+unfoldable pub send_of : Script → Live → ℕ → Picture → Rect → Cell → TileSend
 send_of script live id picture rect cell = record {
-  x = cell.0;
-  y = cell.1;
-  rect = cut_to_cell rect cell.0 cell.1;
-  tile = gone_on script.differences (finmap.get live (cell_key id cell.0 cell.1)) (source_of script.setting (cell_pixels picture rect cell.0 cell.1));
+  x = cell.x;
+  y = cell.y;
+  rect = cut_to_cell rect cell;
+  tile = gone_on script.differences (finmap.get live (cell_key id cell)) (source_of script.setting (cell_pixels picture rect cell));
   level = 0;
 }
 
@@ -56,20 +58,20 @@ raised send = if nat_lt send.level (length send.tile.setting.levels) then Some (
 -- what an improvement of a surface of these sides sends: each live tile that isn't at the last level, raised, row by row
 abbrev pub improved_sends : Live → ℕ → ℕ → ℕ → List TileSend
 improved_sends live id width height =
-    filter_map (λ cell. option_and_then raised (finmap.get live (cell_key id cell.0 cell.1))) (cells_met (sized width height))
+    filter_map (λ cell. option_and_then raised (finmap.get live (cell_key id cell))) (cells_met (sized width height))
 
 -- ---- what is live after it
 
 -- a tile that was sent is live
 abbrev pub with_live : ℕ → Live → TileSend → Live
-with_live id live send = finmap.insert live (cell_key id send.x send.y) send
+with_live id live send = finmap.insert live (cell_key id (cell send.x send.y)) send
 
 abbrev pub after_sends : ℕ → List TileSend → Live → Live
 after_sends id sends live = fold (with_live id) live sends
 
 -- a change in an area ends the tiles of the cells that it meets
 abbrev pub ended_in : Live → Area → Live
-ended_in live area = finmap.retain_keys live (λ key. not (key.surface == area.surface && list_any (λ rect. meets rect key.x key.y) area.rects))
+ended_in live area = finmap.retain_keys live (λ key. not (key.surface == area.surface && list_any (λ rect. meets rect (cell key.x key.y)) area.rects))
 
 -- those of a surface that is deleted end
 abbrev pub without_surface : Live → ℕ → Live

@@ -2,13 +2,14 @@
 use Prim.Native.Nat.{suc}
 use Rattle.std.specs.Prelude.{ℕ, ◌+◌, ◌-◌, ◌*◌, ◌==◌, ◌+ℤ◌, Bool, ◌&&◌, max, min, List, [], ◌∷◌, length, Option, Some, None, if◌then◌else◌}
 use Rattle.std.specs.List.{list_all}
+use Rattle.gfx_base.specs.declared.geometry.Cell.{Cell}
 use Rattle.gfx_base.specs.declared.geometry.Rect.{Rect}
+use Rattle.gfx_base.specs.declared.geometry.TheConstants.{CELL_SIDE}
 use Rattle.gfx_base.specs.declared.pixel.Pixel.{Pixel}
 use Rattle.gfx_dwt.specs.Ranges.{at}
 use Rattle.gfx_quant.specs.declared.quant.Component.TheVariants.{Y, Cb, Cr}
 use Rattle.gfx_quant.specs.Coefficient.{is_coefficient}
 use Rattle.gfx_quant.specs.Setting.{all_below}
-use Rattle.gfx_prog_block.specs.declared.region.TheConstants.{TILE_SIZE}
 use Rattle.gfx_prog_encode.specs.declared.send.TileSend.{TileSend}
 use Rattle.gfx_script.specs.declared.picture.Picture.{Picture}
 use Rattle.gfx_script.specs.Patterns.{pixel_of}
@@ -21,10 +22,10 @@ use Rattle.gfx_tile_state.specs.Passes.{Part}
 abbrev pub nearest : ℕ → ℕ → ℕ → ℕ
 nearest from to at = max from (min at (to - 1)) - from
 
--- the pixels of the cell in this column and row, of a picture in a rectangle: outside of it those of the nearest place
-unfoldable pub cell_pixels : Picture → Rect → ℕ → ℕ → List Pixel
-cell_pixels picture rect x y = drawn TILE_SIZE TILE_SIZE (λ i j.
-    pixel_of picture (nearest rect.left rect.right (TILE_SIZE * x + i)) (nearest rect.top rect.bottom (TILE_SIZE * y + j)))
+-- the pixels of a cell, of a picture in a rectangle: outside of it those of the nearest place
+unfoldable pub cell_pixels : Picture → Rect → Cell → List Pixel
+cell_pixels picture rect cell = drawn CELL_SIDE CELL_SIDE (λ i j.
+    pixel_of picture (nearest rect.left rect.right (CELL_SIDE * cell.x + i)) (nearest rect.top rect.bottom (CELL_SIDE * cell.y + j)))
 
 -- the sums of a record, and what they make of its kept plane, are in the 16-bit range
 abbrev pub stays_within : Part → Bool

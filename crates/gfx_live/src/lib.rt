@@ -5,7 +5,7 @@
 //! `gfx_prog_encode`) and the planner, which tells it of each change.
 #![tactic(auto)]
 
-mod cells;
+mod keys;
 mod live;
 mod messages;
 mod passes;

@@ -8,8 +8,8 @@ ghost use Rattle.gfx_live.specs.Cells.{cell_key};
 ghost use Rattle.gfx_live.specs.Inside.{AreBy, AreInPlace, Lists, without_taken};
 ghost use Rattle.gfx_live.specs.Live.{after_sends, ended_in, improved_sends, raised, with_live, without_surface};
 
-use crate::cells::{Cells, cell_key, has_pixels};
-use gfx_base::{NoMemory, Rect};
+use crate::keys::cell_key;
+use gfx_base::{Cell, Cells, NoMemory, Rect};
 use gfx_prog_decode::Key;
 use gfx_prog_encode::TileSend;
 use gfx_quant::Setting;
@@ -63,8 +63,8 @@ impl LiveTiles {
     }
 
     /// The tile of a cell, if it is live.
-    pub(crate) fn get(&self, id: u16, cell: (u16, u16)) -> Option<&TileSend>
-        ensures { option_copied result ≡ finmap.get self.now (cell_key id cell.0 cell.1) }
+    pub(crate) fn get(&self, id: u16, cell: Cell) -> Option<&TileSend>
+        ensures { option_copied result ≡ finmap.get self.now (cell_key id cell) }
     {
         self.tiles.get(&cell_key(id, cell))
     }
@@ -82,7 +82,11 @@ impl LiveTiles {
     fn keep(&mut self, id: u16, send: TileSend) -> Result<(), NoMemory>
         ensures { OnOk result (self.new ≡ with_live id self.old send) }
     {
-        self.tiles.insert(cell_key(id, (send.x, send.y)), send)?;
+        let cell = Cell {
+            x: send.x,
+            y: send.y,
+        };
+        self.tiles.insert(cell_key(id, cell), send)?;
         Ok(())
     }
 
@@ -113,10 +117,10 @@ impl LiveTiles {
     }
 
     /// Takes out the tile of a cell, raised by one level, unless it is at the last, which this many are listed before.
-    fn take_raised(&mut self, listed: usize, id: u16, cell: (u16, u16)) -> Option<TileSend>
-        requires levels { IfSome (finmap.get self.old (cell_key id cell.0 cell.1)) (Lists listed) }
+    fn take_raised(&mut self, listed: usize, id: u16, cell: Cell) -> Option<TileSend>
+        requires levels { IfSome (finmap.get self.old (cell_key id cell)) (Lists listed) }
         requires few { listed ≤ 7 }
-        ensures value { result ≡ option_and_then raised (finmap.get self.old (cell_key id cell.0 cell.1)) }
+        ensures value { result ≡ option_and_then raised (finmap.get self.old (cell_key id cell)) }
         ensures left { self.new ≡ without_taken id cell result self.old }
     {
         if !self.may_be_raised(listed, id, cell) {
@@ -128,9 +132,9 @@ impl LiveTiles {
     }
 
     /// Whether a cell has a live tile that isn't at the last level.
-    fn may_be_raised(&self, listed: usize, id: u16, cell: (u16, u16)) -> bool
-        requires levels { IfSome (finmap.get self.now (cell_key id cell.0 cell.1)) (Lists listed) }
-        ensures { result ≡ is_some (option_and_then raised (finmap.get self.now (cell_key id cell.0 cell.1))) }
+    fn may_be_raised(&self, listed: usize, id: u16, cell: Cell) -> bool
+        requires levels { IfSome (finmap.get self.now (cell_key id cell)) (Lists listed) }
+        ensures { result ≡ is_some (option_and_then raised (finmap.get self.now (cell_key id cell))) }
     {
         match self.get(id, cell) {
             None => false,
@@ -142,7 +146,7 @@ impl LiveTiles {
     pub(crate) fn end_in(&mut self, id: u16, rect: Rect)
         ensures { self.new ≡ ended_in self.old (area id (rect ∷ [])) }
     {
-        if self.is_empty() || !has_pixels(rect) {
+        if self.is_empty() || !rect.has_pixels() {
             return;
         }
         self.are_in_place();
@@ -153,9 +157,9 @@ impl LiveTiles {
     }
 
     /// Ends the tile of a cell.
-    fn remove(&mut self, id: u16, cell: (u16, u16)) -> Option<TileSend>
-        ensures value { result ≡ finmap.get self.old (cell_key id cell.0 cell.1) }
-        ensures left { self.new ≡ finmap.remove self.old (cell_key id cell.0 cell.1) }
+    fn remove(&mut self, id: u16, cell: Cell) -> Option<TileSend>
+        ensures value { result ≡ finmap.get self.old (cell_key id cell) }
+        ensures left { self.new ≡ finmap.remove self.old (cell_key id cell) }
     {
         self.tiles.swap_remove(&cell_key(id, cell))
     }

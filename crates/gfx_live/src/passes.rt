@@ -2,9 +2,9 @@
 ghost use Rattle.std.specs.Prelude.{◌≡◌, ◌==◌, IfOk, IfSome, IsSome, OnOk, [], ◌∷◌, true};
 ghost use Rattle.std.specs.FinMap as finmap;
 ghost use Rattle.std.specs.List.{slice_get};
+ghost use Rattle.gfx_base.specs.Cells.{has_pixels};
 ghost use Rattle.gfx_quant.specs.Setting.{is_accepted};
 ghost use Rattle.gfx_script.specs.Writes.{area};
-ghost use Rattle.gfx_live.specs.Cells.{has_pixels};
 ghost use Rattle.gfx_live.specs.Inside.{AreBy};
 ghost use Rattle.gfx_live.specs.Live.{at_start, ended_in, improve_all, improved_sends, paint_all, painted_sends, passes_after, without_surface};
 

@@ -2,15 +2,14 @@
 ghost use Rattle.std.specs.Prelude.{◌≡◌, ◌<◌, ◌≤◌, ℕ, IfOk, IfSome, IsSome, Some, true};
 ghost use Rattle.std.specs.List.{slice_get};
 ghost use Rattle.std.specs.Option.{option_copied};
+ghost use Rattle.gfx_base.specs.Cells.{has_pixels};
 ghost use Rattle.gfx_quant.specs.Setting.{is_accepted};
-ghost use Rattle.gfx_live.specs.Cells.{has_pixels};
 ghost use Rattle.gfx_live.specs.Inside.{AreBy, IsBy, OfPicture, sent_over};
 ghost use Rattle.gfx_live.specs.Live.{painted_sends};
 ghost use Rattle.gfx_live.specs.Tiles.{cell_pixels, gone_on, nearest};
 
-use crate::cells::{Cells, SIDE, cut_to_cell};
 use crate::live::LiveTiles;
-use gfx_base::{NoMemory, Pixel, Rect};
+use gfx_base::{CELL_SIDE, Cell, Cells, NoMemory, Pixel, Rect};
 use gfx_prog_encode::TileSend;
 use gfx_script::Script;
 use gfx_tile_make::SourceTile;
@@ -48,14 +47,14 @@ fn send_over(
     before: Option<&TileSend>,
     picture: u32,
     rect: Rect,
-    cell: (u16, u16),
+    cell: Cell,
 ) -> Result<TileSend, NoMemory>
     requires accepted { is_accepted script.now.setting ≡ true }
     requires drawn { IsSome (slice_get script.now.pictures picture) }
     requires some { has_pixels rect ≡ true }
     requires one_setting { IfSome (option_copied before) (IsBy script.now.setting) }
-    requires across { cell.0 ≤ 1023 }
-    requires down { cell.1 ≤ 1023 }
+    requires across { cell.x ≤ 1023 }
+    requires down { cell.y ≤ 1023 }
     ensures { IfOk result (λ send. OfPicture script.now picture (λ drawing. send ≡ sent_over script.now (option_copied before.entry) drawing rect cell)) }
 {
     let mut pixels = [Pixel::default(); 4096];
@@ -63,31 +62,25 @@ fn send_over(
     let mut tile = SourceTile::from_pixels(alloc, &pixels, script.setting())?;
     go_on(&mut tile, script, before);
     Ok(TileSend {
-        x: cell.0,
-        y: cell.1,
-        rect: cut_to_cell(rect, cell),
+        x: cell.x,
+        y: cell.y,
+        rect: rect.cut_to(cell),
         tile,
         level: 0,
     })
 }
 
 /// The pixels of a cell, of a picture in a rectangle: outside of it those of the nearest place.
-fn cell_pixels(
-    script: &Script,
-    picture: u32,
-    rect: Rect,
-    cell: (u16, u16),
-    pixels: &mut [Pixel; 4096],
-)
+fn cell_pixels(script: &Script, picture: u32, rect: Rect, cell: Cell, pixels: &mut [Pixel; 4096])
     requires drawn { IsSome (slice_get script.now.pictures picture) }
     requires some { has_pixels rect ≡ true }
-    requires across { cell.0 ≤ 1023 }
-    requires down { cell.1 ≤ 1023 }
-    ensures { OfPicture script.now picture (λ drawing. pixels.new ≡ cell_pixels drawing rect cell.0 cell.1) }
+    requires across { cell.x ≤ 1023 }
+    requires down { cell.y ≤ 1023 }
+    ensures { OfPicture script.now picture (λ drawing. pixels.new ≡ cell_pixels drawing rect cell) }
 {
     'pixels: for place in 0..4096 {
-        let x = SIDE * cell.0 + (place % 64) as u16;
-        let y = SIDE * cell.1 + (place / 64) as u16;
+        let x = CELL_SIDE * cell.x + (place % 64) as u16;
+        let y = CELL_SIDE * cell.y + (place / 64) as u16;
         pixels[place] = script.picture_pixel(
             picture,
             nearest(rect.left, rect.right, x),

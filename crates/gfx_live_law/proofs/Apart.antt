@@ -3,10 +3,11 @@ use Rattle.std.proofs.Common.{◌≡◌, ◌∙◌, ◌+◌, ◌-◌, ◌*◌, �
 use Rattle.std.specs.List.{AllByRecursion, cons_option, filter_map, flat_map, range_with_len}
 use Rattle.std.proofs.lemmas.Bool.{cases_lt}
 use Rattle.std.proofs.lemmas.Bool.Decides.{nat_tests}
+use Rattle.gfx_base.specs.declared.geometry.Cell.{Cell}
 use Rattle.gfx_base.specs.declared.geometry.Rect.{Rect}
-use Rattle.gfx_prog_block.specs.declared.region.TheConstants.{TILE_SIZE}
+use Rattle.gfx_base.specs.declared.geometry.TheConstants.{CELL_SIDE}
+use Rattle.gfx_base.specs.Cells.{cell, cells_along, cells_between, cells_met, has_pixels}
 use Rattle.gfx_prog_encode.specs.declared.send.TileSend.{TileSend}
-use Rattle.gfx_live.specs.Cells.{cells_between, cells_met, has_pixels}
 
 -- ---- lists of which each has something
 
@@ -80,8 +81,8 @@ Differ one other = DifferBy (λ (send : TileSend). send.x) (λ (send : TileSend)
 abbrev pub Apart : List TileSend → Type 0
 Apart sends = ApartBy (λ (send : TileSend). send.x) (λ (send : TileSend). send.y) sends
 
-abbrev pub CellsApart : List (ℕ × ℕ) → Type 0
-CellsApart cells = ApartBy (λ (c : ℕ × ℕ). c.0) (λ (c : ℕ × ℕ). c.1) cells
+abbrev pub CellsApart : List Cell → Type 0
+CellsApart cells = ApartBy (λ (c : Cell). c.x) (λ (c : Cell). c.y) cells
 
 pub apart-take : (n : ℕ) (sends : List TileSend) → Apart sends → Apart (take n sends)
 apart-take zero sends apart = tt
@@ -94,18 +95,18 @@ apart-drop (suc n) [] apart = tt
 apart-drop (suc n) (send ∷ sends) apart = apart-drop n sends apart.1
 
 -- tiles of cells, each of its own
-module _ (g : (ℕ × ℕ) → Option TileSend) (own : (c : ℕ × ℕ) (send : TileSend) → g c ≡ Some send → (send.x ≡ c.0) × (send.y ≡ c.1)) where
-  abbrev Other : (ℕ × ℕ) → (ℕ × ℕ) → Type 0
-  Other c d = DifferBy (λ (c : ℕ × ℕ). c.0) (λ (c : ℕ × ℕ). c.1) c d
+module _ (g : Cell → Option TileSend) (own : (c : Cell) (send : TileSend) → g c ≡ Some send → (send.x ≡ c.x) × (send.y ≡ c.y)) where
+  abbrev Other : Cell → Cell → Type 0
+  Other c d = DifferBy (λ (c : Cell). c.x) (λ (c : Cell). c.y) c d
 
-  differs : (c d : ℕ × ℕ) (send more : TileSend) → g c ≡ Some send → Other c d → g d ≡ Some more → Differ send more
+  differs : (c d : Cell) (send more : TileSend) → g c ≡ Some send → Other c d → g d ≡ Some more → Differ send more
   differs c d send more e apart e' same same' = apart (sym (own c send e).0 ∙ same ∙ (own d more e').0) (sym (own c send e).1 ∙ same' ∙ (own d more e').1)
 
-  apart-cons : (c : ℕ × ℕ) (cells : List (ℕ × ℕ)) (o : Option TileSend) → g c ≡ o → AllByRecursion (Other c) cells → Apart (filter_map g cells) → Apart (cons_option o (filter_map g cells))
+  apart-cons : (c : Cell) (cells : List Cell) (o : Option TileSend) → g c ≡ o → AllByRecursion (Other c) cells → Apart (filter_map g cells) → Apart (cons_option o (filter_map g cells))
   apart-cons c cells None e all rest = rest
   apart-cons c cells (Some send) e all rest = (all-kept g (Other c) (Differ send) (λ d more apart e'. differs c d send more e apart e') cells all, rest)
 
-  pub apart-kept : (cells : List (ℕ × ℕ)) → CellsApart cells → Apart (filter_map g cells)
+  pub apart-kept : (cells : List Cell) → CellsApart cells → Apart (filter_map g cells)
   apart-kept [] apart = tt
   apart-kept (c ∷ cells) apart = apart-cons c cells (g c) refl apart.0 (apart-kept cells apart.1)
 
@@ -121,33 +122,33 @@ range-between from (suc count) to fits =
     ((omega arith, omega arith), all-more (Between (from + 1) to) (Between from to) (λ k h. (omega (arith, h.0), h.1)) (range_with_len (from + 1) count) (range-between (from + 1) count to (omega arith)))
 
 -- the cells of a row
-abbrev pub row-cells : List ℕ → ℕ → List (ℕ × ℕ)
-row-cells columns y = map (λ x. (x, y)) columns
+abbrev pub row-cells : List ℕ → ℕ → List Cell
+row-cells columns y = map (λ x. cell x y) columns
 
 row-apart : (y from count : ℕ) → CellsApart (row-cells (range_with_len from count) y)
 row-apart y from zero = tt
 row-apart y from (suc count) =
     (others (range_with_len (from + 1) count) (range-between (from + 1) count (from + 1 + count) (omega arith)), row-apart y (from + 1) count)
   where
-    others : (xs : List ℕ) → AllByRecursion (Between (from + 1) (from + 1 + count)) xs → AllByRecursion (DifferBy (λ (c : ℕ × ℕ). c.0) (λ (c : ℕ × ℕ). c.1) (from, y)) (row-cells xs y)
+    others : (xs : List ℕ) → AllByRecursion (Between (from + 1) (from + 1 + count)) xs → AllByRecursion (DifferBy (λ (c : Cell). c.x) (λ (c : Cell). c.y) (cell from y)) (row-cells xs y)
     others [] all = tt
     others (x ∷ xs) all = (λ same same'. omega (arith, same, all.0.0), others xs all.1)
 
 -- each of a row has what each of its columns has
-row-all : (P : (ℕ × ℕ) → Type 0) (Q : ℕ → Type 0) (y : ℕ) → ((x : ℕ) → Q x → P (x, y)) → (xs : List ℕ) → AllByRecursion Q xs → AllByRecursion P (row-cells xs y)
+row-all : (P : Cell → Type 0) (Q : ℕ → Type 0) (y : ℕ) → ((x : ℕ) → Q x → P (cell x y)) → (xs : List ℕ) → AllByRecursion Q xs → AllByRecursion P (row-cells xs y)
 row-all P Q y each [] all = tt
 row-all P Q y each (x ∷ xs) all = (each x all.0, row-all P Q y each xs all.1)
 
-rows-all : (P : (ℕ × ℕ) → Type 0) (Q R : ℕ → Type 0) → ((x y : ℕ) → Q x → R y → P (x, y)) → (xs ys : List ℕ) → AllByRecursion Q xs → AllByRecursion R ys → AllByRecursion P (flat_map (row-cells xs) ys)
+rows-all : (P : Cell → Type 0) (Q R : ℕ → Type 0) → ((x y : ℕ) → Q x → R y → P (cell x y)) → (xs ys : List ℕ) → AllByRecursion Q xs → AllByRecursion R ys → AllByRecursion P (flat_map (row-cells xs) ys)
 rows-all P Q R each xs [] all more = tt
 rows-all P Q R each xs (y ∷ ys) all more = all-append P (row-cells xs y) (flat_map (row-cells xs) ys) (row-all P Q y (λ x q. each x y q more.0) xs all) (rows-all P Q R each xs ys all more.1)
 
 -- cells of a row, and cells of rows below
-apart-append : (y : ℕ) (cells more : List (ℕ × ℕ)) → CellsApart cells → CellsApart more → AllByRecursion (λ (c : ℕ × ℕ). c.1 ≡ y) cells → AllByRecursion (λ (c : ℕ × ℕ). y + 1 ≤ c.1) more → CellsApart (cells ++ more)
+apart-append : (y : ℕ) (cells more : List Cell) → CellsApart cells → CellsApart more → AllByRecursion (λ (c : Cell). c.y ≡ y) cells → AllByRecursion (λ (c : Cell). y + 1 ≤ c.y) more → CellsApart (cells ++ more)
 apart-append y [] more apart apart' here below = apart'
 apart-append y (c ∷ cells) more apart apart' here below = (
-  all-append (DifferBy (λ (c : ℕ × ℕ). c.0) (λ (c : ℕ × ℕ). c.1) c) cells more apart.0
-      (all-more (λ (d : ℕ × ℕ). y + 1 ≤ d.1) (DifferBy (λ (c : ℕ × ℕ). c.0) (λ (c : ℕ × ℕ). c.1) c) (λ d less same same'. omega (arith, less, same', here.0)) more below),
+  all-append (DifferBy (λ (c : Cell). c.x) (λ (c : Cell). c.y) c) cells more apart.0
+      (all-more (λ (d : Cell). y + 1 ≤ d.y) (DifferBy (λ (c : Cell). c.x) (λ (c : Cell). c.y) c) (λ d less same same'. omega (arith, less, same', here.0)) more below),
   apart-append y cells more apart.1 apart' here.1 below,
 )
 
@@ -157,29 +158,29 @@ rows-apart from count top (suc rows) =
     let columns : List ℕ = range_with_len from count in
     let below : List ℕ = range_with_len (top + 1) rows in
     apart-append top (row-cells columns top) (flat_map (row-cells columns) below) (row-apart top from count) (rows-apart from count (top + 1) rows)
-    (row-all (λ (c : ℕ × ℕ). c.1 ≡ top) (λ _. Unit {0}) top (λ x _. refl) columns (all-any (λ _. Unit {0}) (λ _. tt) columns))
-    (rows-all (λ (c : ℕ × ℕ). top + 1 ≤ c.1) (λ _. Unit {0}) (λ y. top + 1 ≤ y) (λ x y _ h. h) columns below (all-any (λ _. Unit {0}) (λ _. tt) columns)
+    (row-all (λ (c : Cell). c.y ≡ top) (λ _. Unit {0}) top (λ x _. refl) columns (all-any (λ _. Unit {0}) (λ _. tt) columns))
+    (rows-all (λ (c : Cell). top + 1 ≤ c.y) (λ _. Unit {0}) (λ y. top + 1 ≤ y) (λ x y _ h. h) columns below (all-any (λ _. Unit {0}) (λ _. tt) columns)
     (all-more (Between (top + 1) (top + 1 + rows)) (λ y. top + 1 ≤ y) (λ y h. h.0) below (range-between (top + 1) rows (top + 1 + rows) (omega arith))))
 
 pub cells-apart : (rect : Rect) → CellsApart (cells_met rect)
 cells-apart rect =
-    rows-apart (rect.left / TILE_SIZE) ((rect.right + TILE_SIZE - 1) / TILE_SIZE - rect.left / TILE_SIZE) (rect.top / TILE_SIZE) ((rect.bottom + TILE_SIZE - 1) / TILE_SIZE - rect.top / TILE_SIZE)
+    rows-apart (rect.left / CELL_SIDE) (cells_along rect.right - rect.left / CELL_SIDE) (rect.top / CELL_SIDE) (cells_along rect.bottom - rect.top / CELL_SIDE)
 
 -- a rectangle meets a cell
-pub record Met (rect : Rect) (c : ℕ × ℕ) : Type 0 where
-  pub left : rect.left < TILE_SIZE * c.0 + TILE_SIZE
-  pub right : TILE_SIZE * c.0 < rect.right
-  pub top : rect.top < TILE_SIZE * c.1 + TILE_SIZE
-  pub bottom : TILE_SIZE * c.1 < rect.bottom
+pub record Met (rect : Rect) (c : Cell) : Type 0 where
+  pub left : rect.left < CELL_SIDE * c.x + CELL_SIDE
+  pub right : CELL_SIDE * c.x < rect.right
+  pub top : rect.top < CELL_SIDE * c.y + CELL_SIDE
+  pub bottom : CELL_SIDE * c.y < rect.bottom
 
 -- a cell between two coordinates
 abbrev Crossed : ℕ → ℕ → ℕ → Type 0
-Crossed from to k = (from < TILE_SIZE * k + TILE_SIZE) × (TILE_SIZE * k < to)
+Crossed from to k = (from < CELL_SIDE * k + CELL_SIDE) × (CELL_SIDE * k < to)
 
 crossed : (from to : ℕ) → from < to → AllByRecursion (Crossed from to) (cells_between from to)
 crossed from to some =
-    let first : ℕ = from / TILE_SIZE in
-    let last : ℕ = (to + TILE_SIZE - 1) / TILE_SIZE in
+    let first : ℕ = from / CELL_SIDE in
+    let last : ℕ = cells_along to in
     all-more (Between first last) (Crossed from to) (λ k h. (omega (arith, h.0), omega (arith, h.1))) (cells_between from to) (range-between first (last - first) last (omega arith))
 
 pub each-met : (rect : Rect) → has_pixels rect ≡ true → AllByRecursion (Met rect) (cells_met rect)
@@ -195,22 +196,22 @@ range-at Q from (suc count) k all above below = elim (cases_lt from k) [
   | inr same ↦ subst Q {x = from} {y = k} (omega (arith, same, above)) all.0
 ]
 
-all-first : (P : (ℕ × ℕ) → Type 0) (cells more : List (ℕ × ℕ)) → AllByRecursion P (cells ++ more) → AllByRecursion P cells × AllByRecursion P more
+all-first : (P : Cell → Type 0) (cells more : List Cell) → AllByRecursion P (cells ++ more) → AllByRecursion P cells × AllByRecursion P more
 all-first P [] more all = (tt, all)
 all-first P (c ∷ cells) more all = let rest : AllByRecursion P cells × AllByRecursion P more = all-first P cells more all.1 in ((all.0, rest.0), rest.1)
 
-rows-at : (P : (ℕ × ℕ) → Type 0) (xs ys : List ℕ) → AllByRecursion P (flat_map (row-cells xs) ys) → AllByRecursion (λ y. AllByRecursion (λ x. P (x, y)) xs) ys
+rows-at : (P : Cell → Type 0) (xs ys : List ℕ) → AllByRecursion P (flat_map (row-cells xs) ys) → AllByRecursion (λ y. AllByRecursion (λ x. P (cell x y)) xs) ys
 rows-at P xs [] all = tt
 rows-at P xs (y ∷ ys) all =
     let both : AllByRecursion P (row-cells xs y) × AllByRecursion P (flat_map (row-cells xs) ys) = all-first P (row-cells xs y) (flat_map (row-cells xs) ys) all in
-    (all-unmap (λ x. (x, y)) (λ x. P (x, y)) P (λ x p. p) xs both.0, rows-at P xs ys both.1)
+    (all-unmap (λ x. cell x y) (λ x. P (cell x y)) P (λ x p. p) xs both.0, rows-at P xs ys both.1)
 
 -- what holds of all cells that a rectangle meets holds of each
-pub at-cell : (P : (ℕ × ℕ) → Type 0) (rect : Rect) (c : ℕ × ℕ) → AllByRecursion P (cells_met rect) → Met rect c → P c
+pub at-cell : (P : Cell → Type 0) (rect : Rect) (c : Cell) → AllByRecursion P (cells_met rect) → Met rect c → P c
 at-cell P rect c all met =
-    let firsts : AllByRecursion (λ y. AllByRecursion (λ x. P (x, y)) (cells_between rect.left rect.right)) (cells_between rect.top rect.bottom) =
+    let firsts : AllByRecursion (λ y. AllByRecursion (λ x. P (cell x y)) (cells_between rect.left rect.right)) (cells_between rect.top rect.bottom) =
     rows-at P (cells_between rect.left rect.right) (cells_between rect.top rect.bottom) all in
-    range-at (λ x. P (x, c.1)) (rect.left / TILE_SIZE) ((rect.right + TILE_SIZE - 1) / TILE_SIZE - rect.left / TILE_SIZE) c.0
-    (range-at (λ y. AllByRecursion (λ x. P (x, y)) (cells_between rect.left rect.right)) (rect.top / TILE_SIZE) ((rect.bottom + TILE_SIZE - 1) / TILE_SIZE - rect.top / TILE_SIZE) c.1 firsts
+    range-at (λ x. P (cell x c.y)) (rect.left / CELL_SIDE) (cells_along rect.right - rect.left / CELL_SIDE) c.x
+    (range-at (λ y. AllByRecursion (λ x. P (cell x y)) (cells_between rect.left rect.right)) (rect.top / CELL_SIDE) (cells_along rect.bottom - rect.top / CELL_SIDE) c.y firsts
     (omega (arith, met.top)) (omega (arith, met.top, met.bottom)))
     (omega (arith, met.left)) (omega (arith, met.left, met.right))

@@ -5,12 +5,13 @@ use Rattle.std.specs.List.{AllByRecursion, flat_map, list_any}
 use Rattle.std.specs.Ordering.{eq_by_cmp}
 use Rattle.std.proofs.lemmas.List.{length-map}
 use Rattle.std.proofs.lemmas.List.FromFn.{length-range_with_len}
+use Rattle.gfx_base.specs.declared.geometry.TheConstants.{CELL_SIDE}
+use Rattle.gfx_base.specs.Cells.{cell, cells_along, cells_between, cells_met}
 use Rattle.gfx_base.specs.Geometry.{sized}
-use Rattle.gfx_prog_block.specs.declared.region.TheConstants.{TILE_SIZE}
 use Rattle.gfx_prog_decode.specs.declared.key.Key.{Key}
 use Rattle.gfx_prog_decode.specs.Records.{key_cmp}
 use Rattle.gfx_prog_decode.proofs.Keys.{itself, key_same, key_total}
-use Rattle.gfx_live.specs.Cells.{cell_key, cells_between, cells_met}
+use Rattle.gfx_live.specs.Cells.{cell_key}
 use Rattle.gfx_live_law.specs.Taken.{IsCell}
 use Rattle.gfx_live_law.proofs.Apart.{Met, all-unmap, at-cell, row-cells}
 use Rattle.gfx_live_law.proofs.Sends.{begins-column, begins-row}
@@ -52,7 +53,7 @@ module _ {X : Type 0} where
 
 -- the keys of the cells of a surface of these sides
 abbrev pub cell-keys : ℕ → ℕ → ℕ → List Key
-cell-keys id width height = map (λ c. cell_key id c.0 c.1) (cells_met (sized width height))
+cell-keys id width height = map (cell_key id) (cells_met (sized width height))
 
 length-row : (xs : List ℕ) (y : ℕ) → length (row-cells xs y) ≡ length xs
 length-row [] y = refl
@@ -65,13 +66,13 @@ length-rows xs (y ∷ ys) =
     ∙ (λ i. length-row xs y i + length-rows xs ys i)
     ∙ sym (suc-mul (length ys) (length xs) ∙ omega arith)
 
-length-between : (to : ℕ) → length (cells_between 0 to) ≡ (to + TILE_SIZE - 1) / TILE_SIZE
-length-between to = length-range_with_len (0 / TILE_SIZE) ((to + TILE_SIZE - 1) / TILE_SIZE - 0 / TILE_SIZE) ∙ omega arith
+length-between : (to : ℕ) → length (cells_between 0 to) ≡ cells_along to
+length-between to = length-range_with_len (0 / CELL_SIDE) (cells_along to - 0 / CELL_SIDE) ∙ omega arith
 
 -- there are so many
-pub length-cell-keys : (id width height : ℕ) → length (cell-keys id width height) ≡ (height + TILE_SIZE - 1) / TILE_SIZE * ((width + TILE_SIZE - 1) / TILE_SIZE)
+pub length-cell-keys : (id width height : ℕ) → length (cell-keys id width height) ≡ cells_along height * cells_along width
 length-cell-keys id width height =
-    length-map (cells_met (sized width height)) (λ c. cell_key id c.0 c.1)
+    length-map (cells_met (sized width height)) (cell_key id)
     ∙ length-rows (cells_between 0 width) (cells_between 0 height)
     ∙ (λ i. length-between height i * length-between width i)
 
@@ -85,21 +86,21 @@ none-of (k ∷ keys) key none = let both = neither (eq_by_cmp key_cmp key k) (am
 
 -- each cell of the surface is one of them
 pub cell-among : (id width height : ℕ) (key : Key) → IsCell id width height key → among (cell-keys id width height) key ≡ true
-cell-among id width height key cell = by (among (cell-keys id width height) key) refl
+cell-among id width height key is = by (among (cell-keys id width height) key) refl
   where
-    same : key ≡ cell_key id key.x key.y
-    same = λ i. record { surface = cell.0 i; context = cell.1 i; x = key.x; y = key.y }
+    same : key ≡ cell_key id (cell key.x key.y)
+    same = λ i. record { surface = is.0 i; context = is.1 i; x = key.x; y = key.y }
 
-    met : Met (sized width height) (key.x, key.y)
+    met : Met (sized width height) (cell key.x key.y)
     met =
-        let column : TILE_SIZE * key.x < width = begins-column width height key.x key.y cell.2 in
-        let row : TILE_SIZE * key.y < height = begins-row width height key.x key.y cell.2 in
+        let column : CELL_SIDE * key.x < width = begins-column width height key.x key.y is.2 in
+        let row : CELL_SIDE * key.y < height = begins-row width height key.x key.y is.2 in
         record { left = omega arith; right = column; top = omega arith; bottom = row }
 
     by : (b : Bool) → among (cell-keys id width height) key ≡ b → b ≡ true
     by true e = refl
     by false e =
-        let apart : eq_by_cmp key_cmp key (cell_key id key.x key.y) ≡ false =
-        at-cell (λ c. eq_by_cmp key_cmp key (cell_key id c.0 c.1) ≡ false) (sized width height) (key.x, key.y)
-        (all-unmap (λ c. cell_key id c.0 c.1) (λ c. eq_by_cmp key_cmp key (cell_key id c.0 c.1) ≡ false) (λ k. eq_by_cmp key_cmp key k ≡ false) (λ c h. h) (cells_met (sized width height)) (none-of (cell-keys id width height) key e)) met in
+        let apart : eq_by_cmp key_cmp key (cell_key id (cell key.x key.y)) ≡ false =
+        at-cell (λ c. eq_by_cmp key_cmp key (cell_key id c) ≡ false) (sized width height) (cell key.x key.y)
+        (all-unmap (cell_key id) (λ c. eq_by_cmp key_cmp key (cell_key id c) ≡ false) (λ k. eq_by_cmp key_cmp key k ≡ false) (λ c h. h) (cells_met (sized width height)) (none-of (cell-keys id width height) key e)) met in
         absurd (true≢false (sym (itself key) ∙ ap (eq_by_cmp key_cmp key) same ∙ apart))

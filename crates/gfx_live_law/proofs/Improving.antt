@@ -4,6 +4,8 @@ use Rattle.std.specs.FinMap as finmap
 use Rattle.std.specs.List.{AllByRecursion}
 use Rattle.std.specs.Option.{option_and_then}
 use Rattle.std.proofs.lemmas.List.Elements.{All-from_recursion}
+use Rattle.gfx_base.specs.declared.geometry.Cell.{Cell}
+use Rattle.gfx_base.specs.Cells.{cell, cells_met}
 use Rattle.gfx_base.specs.Geometry.{sized}
 use Rattle.gfx_quant.specs.declared.setting.Setting.{Setting}
 use Rattle.gfx_quant.specs.Setting.{IsSetting}
@@ -16,7 +18,7 @@ use Rattle.gfx_prog_decode.specs.Records.{Records}
 use Rattle.gfx_prog_decode.specs.Scene.{Scene}
 use Rattle.gfx_prog_encode.specs.declared.send.TileSend.{TileSend}
 use Rattle.gfx_prog_encode.specs.Messages.{area_of, improve_data}
-use Rattle.gfx_live.specs.Cells.{cell_key, cells_met}
+use Rattle.gfx_live.specs.Cells.{cell_key}
 use Rattle.gfx_live.specs.Live.{Live, improved_sends, raised}
 use Rattle.gfx_prog_law.specs.Accepted.{IsSend, MayAllBeImproved, shown_at_level}
 use Rattle.gfx_live_law.specs.Taken.{ImprovementsAreTaken, LiveIn, WasSent, place_of}
@@ -43,7 +45,7 @@ may-all id width height areas [] old sides begins apart asked = tt
 may-all id width height areas (send ∷ sends) old sides begins apart asked = (
   record { begins = begins-there width height old send sides begins.0; first = asked.0.0; listed = asked.0.1.0; before = asked.0.1.1 },
   may-all id width height areas sends (shown_at_level (place_of id) areas send.level send old)
-      (tile-sides width height old (cell_key id send.x send.y) areas (tile_at send.tile send.level) sides) begins.1 apart.1
+      (tile-sides width height old (cell_key id (cell send.x send.y)) areas (tile_at send.tile send.level) sides) begins.1 apart.1
       (asked-next RaiseAsk id old.records send (tile_at send.tile send.level) sends apart.0 asked.1),
 )
 
@@ -81,14 +83,14 @@ raised-from (Some tile) send e = by (nat_lt tile.level (length tile.tile.setting
 
 module _ (setting : Setting) (live : Live) (id width height : ℕ) (records : Records) (agree : LiveIn setting id width height live records) where
   -- what is sent to a cell
-  abbrev sent : (ℕ × ℕ) → Option TileSend
-  sent c = option_and_then raised (finmap.get live (cell_key id c.0 c.1))
+  abbrev sent : Cell → Option TileSend
+  sent c = option_and_then raised (finmap.get live (cell_key id c))
 
   -- as it is of a live tile of this cell
-  own-cell : (c : ℕ × ℕ) (send : TileSend) → sent c ≡ Some send → (send.x ≡ c.0) × (send.y ≡ c.1)
+  own-cell : (c : Cell) (send : TileSend) → sent c ≡ Some send → (send.x ≡ c.x) × (send.y ≡ c.y)
   own-cell c send e =
-      let from : IsRaised (finmap.get live (cell_key id c.0 c.1)) send = raised-from (finmap.get live (cell_key id c.0 c.1)) send e in
-      let stands : cell_key id c.0 c.1 ≡ cell_key id from.tile.x from.tile.y = (agree.each (cell_key id c.0 c.1) from.tile refl from.there).0 in
+      let from : IsRaised (finmap.get live (cell_key id c)) send = raised-from (finmap.get live (cell_key id c)) send e in
+      let stands : cell_key id c ≡ cell_key id (cell from.tile.x from.tile.y) = (agree.each (cell_key id c) from.tile refl from.there).0 in
       (ap (λ s. s.x) from.is ∙ sym (ap (λ k. k.x) stands), ap (λ s. s.y) from.is ∙ sym (ap (λ k. k.y) stands))
 
   raised-was : (tile : TileSend) → WasSent setting width height tile → tile.level < length tile.tile.setting.levels → WasSent setting width height (record tile { level = tile.level + 1 })
@@ -103,22 +105,22 @@ module _ (setting : Setting) (live : Live) (id width height : ℕ) (records : Re
     some = was.some;
   }
 
-  raised-asks : (key : Key) (tile : TileSend) → finmap.get records key ≡ Some (tile_at tile.tile tile.level) → key ≡ cell_key id tile.x tile.y → tile.level < length tile.tile.setting.levels
+  raised-asks : (key : Key) (tile : TileSend) → finmap.get records key ≡ Some (tile_at tile.tile tile.level) → key ≡ cell_key id (cell tile.x tile.y) → tile.level < length tile.tile.setting.levels
       → Asked RaiseAsk id records (record tile { level = tile.level + 1 })
   raised-asks key tile stands same below =
       let one : tile.level ≡ tile.level + 1 - 1 = omega arith in
       (omega arith, (omega (arith, below), ap (finmap.get records) (sym same) ∙ stands ∙ ap (λ n. Some (tile_at tile.tile n)) one))
 
-  sent-was : (c : ℕ × ℕ) (send : TileSend) → Unit {0} → sent c ≡ Some send → WasSent setting width height send
+  sent-was : (c : Cell) (send : TileSend) → Unit {0} → sent c ≡ Some send → WasSent setting width height send
   sent-was c send _ e =
-      let from : IsRaised (finmap.get live (cell_key id c.0 c.1)) send = raised-from (finmap.get live (cell_key id c.0 c.1)) send e in
-      subst (WasSent setting width height) (sym from.is) (raised-was from.tile (agree.each (cell_key id c.0 c.1) from.tile refl from.there).1.0 from.below)
+      let from : IsRaised (finmap.get live (cell_key id c)) send = raised-from (finmap.get live (cell_key id c)) send e in
+      subst (WasSent setting width height) (sym from.is) (raised-was from.tile (agree.each (cell_key id c) from.tile refl from.there).1.0 from.below)
 
-  sent-asks : (c : ℕ × ℕ) (send : TileSend) → Unit {0} → sent c ≡ Some send → Asked RaiseAsk id records send
+  sent-asks : (c : Cell) (send : TileSend) → Unit {0} → sent c ≡ Some send → Asked RaiseAsk id records send
   sent-asks c send _ e =
-      let from : IsRaised (finmap.get live (cell_key id c.0 c.1)) send = raised-from (finmap.get live (cell_key id c.0 c.1)) send e in
-      let before = agree.each (cell_key id c.0 c.1) from.tile refl from.there in
-      subst (Asked RaiseAsk id records) (sym from.is) (raised-asks (cell_key id c.0 c.1) from.tile before.1.1 before.0 from.below)
+      let from : IsRaised (finmap.get live (cell_key id c)) send = raised-from (finmap.get live (cell_key id c)) send e in
+      let before = agree.each (cell_key id c) from.tile refl from.there in
+      subst (Asked RaiseAsk id records) (sym from.is) (raised-asks (cell_key id c) from.tile before.1.1 before.0 from.below)
 
   any-cells : AllByRecursion (λ _. Unit {0}) (cells_met (sized width height))
   any-cells = all-any (λ _. Unit {0}) (λ _. tt) (cells_met (sized width height))

@@ -3,8 +3,10 @@ use Rattle.std.proofs.Common.{◌≡◌, ◌∙◌, ◌≤◌, ℕ, true, List, 
 use Rattle.std.specs.FinMap as finmap
 use Rattle.std.specs.List.{AllByRecursion}
 use Rattle.std.proofs.lemmas.List.Elements.{All-from_recursion}
+use Rattle.gfx_base.specs.declared.geometry.Cell.{Cell}
 use Rattle.gfx_base.specs.declared.geometry.Rect.{Rect}
 use Rattle.gfx_base.specs.declared.pixel.Pixel.{Pixel}
+use Rattle.gfx_base.specs.Cells.{cell, cells_met, cut_to_cell, has_pixels}
 use Rattle.gfx_base.specs.Geometry.{IsRect, lies_in}
 use Rattle.gfx_quant.specs.declared.setting.Setting.{Setting}
 use Rattle.gfx_quant.specs.Setting.{IsSetting}
@@ -20,7 +22,7 @@ use Rattle.gfx_prog_decode.specs.Records.{Records}
 use Rattle.gfx_prog_decode.specs.Scene.{Scene}
 use Rattle.gfx_prog_encode.specs.declared.send.TileSend.{TileSend}
 use Rattle.gfx_prog_encode.specs.Messages.{area_of, paint_data}
-use Rattle.gfx_live.specs.Cells.{cell_key, cells_met, cut_to_cell, has_pixels}
+use Rattle.gfx_live.specs.Cells.{cell_key}
 use Rattle.gfx_live.specs.Live.{Live, painted_sends, send_of}
 use Rattle.gfx_live.specs.Tiles.{cell_pixels}
 use Rattle.gfx_prog_law.specs.Accepted.{GoesOn, IsSend, MayAllBePainted, shown_at_level}
@@ -46,7 +48,7 @@ may-all id width height areas [] old sides begins apart goes room = tt
 may-all id width height areas (send ∷ sends) old sides begins apart goes room = (
   record { begins = begins-there width height old send sides begins.0; goes_on = goes.0; room = room-for id width height old.records send begins.0 room },
   may-all id width height areas sends (shown_at_level (place_of id) areas 0 send old)
-      (tile-sides width height old (cell_key id send.x send.y) areas (tile_at send.tile 0) sides) begins.1 apart.1
+      (tile-sides width height old (cell_key id (cell send.x send.y)) areas (tile_at send.tile 0) sides) begins.1 apart.1
       (asked-next GoesOn id old.records send (tile_at send.tile 0) sends apart.0 goes.1) (room-next id width height old.records send (tile_at send.tile 0) begins.0 room),
 )
 
@@ -77,16 +79,16 @@ module _ (setting : Setting) (id width height : ℕ) (set : IsSetting setting) (
 
 -- they are of different cells, and lie in them
 module _ (script : Script) (live : Live) (id : ℕ) (drawing : Drawing) (rect : Rect) where
-  sent-there : (c : ℕ × ℕ) (send : TileSend) → ◌≡◌ {A = Option TileSend} (Some (send_of script live id drawing rect c)) (Some send) → (send.x ≡ c.0) × (send.y ≡ c.1)
+  sent-there : (c : Cell) (send : TileSend) → ◌≡◌ {A = Option TileSend} (Some (send_of script live id drawing rect c)) (Some send) → (send.x ≡ c.x) × (send.y ≡ c.y)
   unfolding send_of
   sent-there c send e = let same : send_of script live id drawing rect c ≡ send = cc in (ap (λ s. s.x) (sym same), ap (λ s. s.y) (sym same))
 
   pub painted-apart : Apart (painted_sends script live id drawing rect)
   painted-apart = subst Apart (map-kept (send_of script live id drawing rect) (cells_met rect)) (apart-kept (λ c. Some (send_of script live id drawing rect c)) sent-there (cells_met rect) (cells-apart rect))
 
-  own-cell : (c : ℕ × ℕ) → Unit {0} → KeepsCell (send_of script live id drawing rect c)
+  own-cell : (c : Cell) → Unit {0} → KeepsCell (send_of script live id drawing rect c)
   unfolding send_of
-  own-cell c _ = cut-again rect c.0 c.1
+  own-cell c _ = cut-again rect c
 
   pub painted-keeps : AllByRecursion KeepsCell (painted_sends script live id drawing rect)
   painted-keeps = all-map (send_of script live id drawing rect) (λ _. Unit {0}) KeepsCell own-cell (cells_met rect) (all-any (λ _. Unit {0}) (λ _. tt) (cells_met rect))
@@ -94,26 +96,26 @@ module _ (script : Script) (live : Live) (id : ℕ) (drawing : Drawing) (rect : 
 module _ (script : Script) (live : Live) (id width height : ℕ) (drawing : Drawing) (rect : Rect) (records : Records) (set : IsSetting script.setting)
     (is : IsRect rect) (inside : lies_in width height rect ≡ true) (some : has_pixels rect ≡ true) (agree : LiveIn script.setting id width height live records) where
   -- the tile of a cell
-  abbrev sent : (ℕ × ℕ) → TileSend
+  abbrev sent : Cell → TileSend
   sent c = send_of script live id drawing rect c
 
-  abbrev own-pixels : (ℕ × ℕ) → List Pixel
-  own-pixels c = cell_pixels drawing rect c.0 c.1
+  abbrev own-pixels : Cell → List Pixel
+  own-pixels c = cell_pixels drawing rect c
 
-  abbrev own-tile : (ℕ × ℕ) → Source
+  abbrev own-tile : Cell → Source
   own-tile c = source_of script.setting (own-pixels c)
 
   -- what is live in it
-  abbrev before : (ℕ × ℕ) → Option TileSend
-  before c = finmap.get live (cell_key id c.0 c.1)
+  abbrev before : Cell → Option TileSend
+  before c = finmap.get live (cell_key id c)
 
-  live-was : (c : ℕ × ℕ) (old : TileSend) → before c ≡ Some old → WasSent script.setting width height old
-  live-was c old e = (agree.each (cell_key id c.0 c.1) old refl e).1.0
+  live-was : (c : Cell) (old : TileSend) → before c ≡ Some old → WasSent script.setting width height old
+  live-was c old e = (agree.each (cell_key id c) old refl e).1.0
 
-  live-stands : (c : ℕ × ℕ) (old : TileSend) → before c ≡ Some old → finmap.get records (cell_key id c.0 c.1) ≡ Some (tile_at old.tile old.level)
-  live-stands c old e = (agree.each (cell_key id c.0 c.1) old refl e).1.1
+  live-stands : (c : Cell) (old : TileSend) → before c ≡ Some old → finmap.get records (cell_key id c) ≡ Some (tile_at old.tile old.level)
+  live-stands c old e = (agree.each (cell_key id c) old refl e).1.1
 
-  painted-was : (c : ℕ × ℕ) → Met rect c → WasSent script.setting width height (sent c)
+  painted-was : (c : Cell) → Met rect c → WasSent script.setting width height (sent c)
   unfolding send_of
   painted-was c met = record {
     may = gone-by MayBeSent script.differences (before c) (own-tile c) (plain-may script.setting (own-pixels c) set.accepted set.bases)
@@ -123,17 +125,17 @@ module _ (script : Script) (live : Live) (id width height : ℕ) (drawing : Draw
     begins = cut-begins rect c met width height inside;
     rect = cut-rect rect c met is;
     inside = cut-inside rect c met width height some inside;
-    in_cell = cut-again rect c.0 c.1;
+    in_cell = cut-again rect c;
     some = cut-some rect c met some;
   }
 
-  painted-asks : (c : ℕ × ℕ) → Met rect c → Asked PaintAsk id records (sent c)
+  painted-asks : (c : Cell) → Met rect c → Asked PaintAsk id records (sent c)
   unfolding send_of
   painted-asks c met = (
-    gone-by (λ (t : Source). GoesOn (finmap.get records (cell_key id c.0 c.1)) (record { x = c.0; y = c.1; rect = cut_to_cell rect c.0 c.1; tile = t; level = 0 })) script.differences (before c) (own-tile c)
-        (plain-goes c.0 c.1 (cut_to_cell rect c.0 c.1) script.setting (own-pixels c) (finmap.get records (cell_key id c.0 c.1)))
+    gone-by (λ (t : Source). GoesOn (finmap.get records (cell_key id c)) (record { x = c.x; y = c.y; rect = cut_to_cell rect c; tile = t; level = 0 })) script.differences (before c) (own-tile c)
+        (plain-goes c.x c.y (cut_to_cell rect c) script.setting (own-pixels c) (finmap.get records (cell_key id c)))
         (λ old last.
-        difference-goes c.0 c.1 (cut_to_cell rect c.0 c.1) (own-tile c) old (finmap.get records (cell_key id c.0 c.1)) (live-was c old last.0).may (live-was c old last.0).coded last.1.0 (live-stands c old last.0)),
+        difference-goes c.x c.y (cut_to_cell rect c) (own-tile c) old (finmap.get records (cell_key id c)) (live-was c old last.0).may (live-was c old last.0).coded last.1.0 (live-stands c old last.0)),
     refl,
   )
 

@@ -4,8 +4,11 @@ use Rattle.std.specs.FinMap as finmap
 use Rattle.std.specs.List.{AllByRecursion}
 use Rattle.std.specs.Ordering.{eq_by_cmp}
 use Rattle.std.proofs.lemmas.Bool.Decides.{nat_tests}
+use Rattle.gfx_base.specs.declared.geometry.Cell.{Cell}
 use Rattle.gfx_base.specs.declared.geometry.Rect.{Rect}
+use Rattle.gfx_base.specs.declared.geometry.TheConstants.{CELL_SIDE}
 use Rattle.gfx_base.specs.declared.pixel.Pixel.{Pixel}
+use Rattle.gfx_base.specs.Cells.{cell, cells_met, cut_to_cell}
 use Rattle.gfx_base.specs.Geometry.{holds}
 use Rattle.gfx_quant.specs.declared.setting.Setting.{Setting}
 use Rattle.gfx_script.specs.declared.picture.Picture.{Picture as Drawing}
@@ -14,7 +17,6 @@ use Rattle.gfx_surface.specs.Picture.{Picture, no_pixel, pixel_at, shade}
 use Rattle.gfx_surface.proofs.PictureLemmas.{pixel_at-drawn}
 use Rattle.gfx_tile_make.specs.Levels.{MayBeSent, direct_pixel, shown_at, tile_at}
 use Rattle.gfx_tile_make.proofs.Sources.{last-shown}
-use Rattle.gfx_prog_block.specs.declared.region.TheConstants.{TILE_SIZE}
 use Rattle.gfx_prog_decode.specs.declared.key.Key.{Key}
 use Rattle.gfx_prog_decode.specs.Records.{key_cmp}
 use Rattle.gfx_prog_decode.specs.Scene.{Scene}
@@ -22,7 +24,7 @@ use Rattle.gfx_prog_decode.specs.Showing.{cell_in, has_pixel, shown_in}
 use Rattle.gfx_prog_decode.proofs.Keys.{itself}
 use Rattle.gfx_prog_encode.specs.declared.send.TileSend.{TileSend}
 use Rattle.gfx_prog_encode.specs.Messages.{area_of}
-use Rattle.gfx_live.specs.Cells.{cell_key, cells_met, cut_to_cell}
+use Rattle.gfx_live.specs.Cells.{cell_key}
 use Rattle.gfx_live.specs.Live.{Live, after_sends, painted_sends, send_of, with_live}
 use Rattle.gfx_live.specs.Showing.{after_showing, after_tiles, with_record, with_shown}
 use Rattle.gfx_live_law.specs.Taken.{LiveIn, WasSent}
@@ -60,10 +62,10 @@ showing-shape id (send ∷ sends) picture =
 
 -- a pixel once a tile is shown
 shown-pixel : (id : ℕ) (picture : Picture) (send : TileSend) (x y : ℕ) → x < picture.width → y < picture.height
-    → pixel_at (with_shown id picture send) x y ≡ drawer picture (cell_key id send.x send.y) (area_of send ∷ []) (tile_at send.tile send.level) x y
+    → pixel_at (with_shown id picture send) x y ≡ drawer picture (cell_key id (cell send.x send.y)) (area_of send ∷ []) (tile_at send.tile send.level) x y
 unfolding shown_in
 shown-pixel id picture send x y column row =
-    pixel_at-drawn picture.width picture.height x y (drawer picture (cell_key id send.x send.y) (area_of send ∷ []) (tile_at send.tile send.level)) no_pixel column row
+    pixel_at-drawn picture.width picture.height x y (drawer picture (cell_key id (cell send.x send.y)) (area_of send ∷ []) (tile_at send.tile send.level)) no_pixel column row
 
 -- outside of its rectangle it is as it was
 area-misses : (send : TileSend) (x y : ℕ) → holds send.rect x y ≡ false → has_pixel x y (area_of send) ≡ false
@@ -79,11 +81,11 @@ not-chosen false b p q e = refl
 
 shown-outside : (id : ℕ) (picture : Picture) (send : TileSend) (x y : ℕ) → x < picture.width → y < picture.height → holds send.rect x y ≡ false → pixel_at (with_shown id picture send) x y ≡ pixel_at picture x y
 shown-outside id picture send x y column row miss =
-    shown-pixel id picture send x y column row ∙ not-chosen (holds (cell_in picture.width picture.height (cell_key id send.x send.y)) x y) (has_pixel x y (area_of send)) _ _ (area-misses send x y miss)
+    shown-pixel id picture send x y column row ∙ not-chosen (holds (cell_in picture.width picture.height (cell_key id (cell send.x send.y))) x y) (has_pixel x y (area_of send)) _ _ (area-misses send x y miss)
 
 -- inside it is the tile's
 abbrev pub tile-shows : Picture → TileSend → ℕ → ℕ → Pixel
-tile-shows picture send x y = shade picture.format (shown_at send.tile send.level (y - TILE_SIZE * send.y) (x - TILE_SIZE * send.x))
+tile-shows picture send x y = shade picture.format (shown_at send.tile send.level (y - CELL_SIDE * send.y) (x - CELL_SIDE * send.x))
 
 chosen : (a b : Bool) (p q : Pixel) → a ≡ true → b ≡ true → (if a && (b || false) then p else q) ≡ p
 chosen a b p q e e' = (λ i. if e i && (e' i || false) then p else q)
@@ -92,18 +94,18 @@ area-has : (send : TileSend) (x y : ℕ) → holds send.rect x y ≡ true → ha
 area-has send x y hit = grind (arith, nat_tests)
 
 cell-has : (id : ℕ) (picture : Picture) (send : TileSend) (x y : ℕ) → x < picture.width → y < picture.height → LiesInCell send.rect send.x send.y → holds send.rect x y ≡ true
-    → holds (cell_in picture.width picture.height (cell_key id send.x send.y)) x y ≡ true
+    → holds (cell_in picture.width picture.height (cell_key id (cell send.x send.y))) x y ≡ true
 cell-has id picture send x y column row lies hit = by lies.left lies.right lies.top lies.bottom
   where
-    by : TILE_SIZE * send.x ≤ send.rect.left → send.rect.right ≤ TILE_SIZE * send.x + TILE_SIZE → TILE_SIZE * send.y ≤ send.rect.top → send.rect.bottom ≤ TILE_SIZE * send.y + TILE_SIZE
-        → holds (cell_in picture.width picture.height (cell_key id send.x send.y)) x y ≡ true
+    by : CELL_SIDE * send.x ≤ send.rect.left → send.rect.right ≤ CELL_SIDE * send.x + CELL_SIDE → CELL_SIDE * send.y ≤ send.rect.top → send.rect.bottom ≤ CELL_SIDE * send.y + CELL_SIDE
+        → holds (cell_in picture.width picture.height (cell_key id (cell send.x send.y))) x y ≡ true
     by left right top bottom = grind (arith, nat_tests)
 
 shown-inside : (id : ℕ) (picture : Picture) (send : TileSend) (x y : ℕ) → x < picture.width → y < picture.height → KeepsCell send → holds send.rect x y ≡ true
     → pixel_at (with_shown id picture send) x y ≡ tile-shows picture send x y
 shown-inside id picture send x y column row keeps hit =
     shown-pixel id picture send x y column row
-    ∙ chosen (holds (cell_in picture.width picture.height (cell_key id send.x send.y)) x y) (has_pixel x y (area_of send)) _ _
+    ∙ chosen (holds (cell_in picture.width picture.height (cell_key id (cell send.x send.y))) x y) (has_pixel x y (area_of send)) _ _
     (cell-has id picture send x y column row (cut-lies send.rect send.x send.y keeps) hit) (area-has send x y hit)
 
 -- a tile's pixel is of no tile of another cell
@@ -153,11 +155,11 @@ live-shows-next : (setting : Setting) (id width height : ℕ) (send : TileSend) 
     → LiveShows id (with_live id live send) (with_shown id old.picture send)
 unfolding shown_in
 live-shows-next setting id width height send live old was agree shows key later same found x y column row hit =
-    found-by live (cell_key id send.x send.y) send (λ one. holds one.rect x y ≡ true → pixel_at (with_shown id old.picture send) x y ≡ tile-shows old.picture one x y) key later found
+    found-by live (cell_key id (cell send.x send.y)) send (λ one. holds one.rect x y ≡ true → pixel_at (with_shown id old.picture send) x y ≡ tile-shows old.picture one x y) key later found
     (λ is which. subst (λ one. holds one.rect x y ≡ true → pixel_at (with_shown id old.picture send) x y ≡ tile-shows old.picture one x y) which (λ hit. shown-inside id old.picture send x y column row was.in_cell hit))
     (λ was-live untied hit.
     let before = agree.each key later same was-live in
-    let differs : Differ later send = λ e e'. true≢false (sym (itself (cell_key id send.x send.y)) ∙ ap (λ q. eq_by_cmp key_cmp q (cell_key id send.x send.y)) (λ i. cell_key id (sym e i) (sym e' i)) ∙ ap (λ q. eq_by_cmp key_cmp q (cell_key id send.x send.y)) (sym before.0) ∙ untied) in
+    let differs : Differ later send = λ e e'. true≢false (sym (itself (cell_key id (cell send.x send.y))) ∙ ap (λ q. eq_by_cmp key_cmp q (cell_key id (cell send.x send.y))) (λ i. cell_key id (cell (sym e i) (sym e' i))) ∙ ap (λ q. eq_by_cmp key_cmp q (cell_key id (cell send.x send.y))) (sym before.0) ∙ untied) in
     shown-outside id old.picture send x y column row (misses-other x y later send before.1.0.in_cell hit differs was.in_cell)
     ∙ shows key later same was-live x y column row hit)
     hit
@@ -171,26 +173,26 @@ live-shows-after setting id width height (send ∷ sends) live old was agree sho
 
 -- at its last level a tile shows its own values, whatever it goes on
 pub shows-direct : (picture : Picture) (send : TileSend) (x y : ℕ) → MayBeSent send.tile → send.level ≡ length send.tile.setting.levels
-    → tile-shows picture send x y ≡ shade picture.format (direct_pixel send.tile (y - TILE_SIZE * send.y) (x - TILE_SIZE * send.x))
+    → tile-shows picture send x y ≡ shade picture.format (direct_pixel send.tile (y - CELL_SIDE * send.y) (x - CELL_SIDE * send.x))
 shows-direct picture send x y may last =
-    ap (λ n. shade picture.format (shown_at send.tile n (y - TILE_SIZE * send.y) (x - TILE_SIZE * send.x))) last
-    ∙ ap (shade picture.format) (last-shown send.tile may (y - TILE_SIZE * send.y) (x - TILE_SIZE * send.x))
+    ap (λ n. shade picture.format (shown_at send.tile n (y - CELL_SIDE * send.y) (x - CELL_SIDE * send.x))) last
+    ∙ ap (shade picture.format) (last-shown send.tile may (y - CELL_SIDE * send.y) (x - CELL_SIDE * send.x))
 
 -- ---- a paint
 
 -- what is cut of a rectangle has no pixel outside of it
-cut-misses : (rect : Rect) (column row x y : ℕ) → holds rect x y ≡ false → holds (cut_to_cell rect column row) x y ≡ false
-cut-misses rect column row x y miss = by (holds (cut_to_cell rect column row) x y) refl
+cut-misses : (rect : Rect) (c : Cell) (x y : ℕ) → holds rect x y ≡ false → holds (cut_to_cell rect c) x y ≡ false
+cut-misses rect c x y miss = by (holds (cut_to_cell rect c) x y) refl
   where
-    within : holds (cut_to_cell rect column row) x y ≡ true → holds rect x y ≡ true
+    within : holds (cut_to_cell rect c) x y ≡ true → holds rect x y ≡ true
     within hit = grind (arith, nat_tests)
 
-    by : (b : Bool) → holds (cut_to_cell rect column row) x y ≡ b → b ≡ false
+    by : (b : Bool) → holds (cut_to_cell rect c) x y ≡ b → b ≡ false
     by false e = refl
     by true e = sym (within e) ∙ miss
 
 -- a pixel of it is of a cell that it meets, and of what is cut to the cell
-met-at : (rect : Rect) (x y : ℕ) → holds rect x y ≡ true → Met rect (x / TILE_SIZE, y / TILE_SIZE)
+met-at : (rect : Rect) (x y : ℕ) → holds rect x y ≡ true → Met rect (cell (x / CELL_SIDE) (y / CELL_SIDE))
 met-at rect x y hit =
     let left : rect.left ≤ x = grind (arith, nat_tests) in
     let right : x < rect.right = grind (arith, nat_tests) in
@@ -198,10 +200,10 @@ met-at rect x y hit =
     let bottom : y < rect.bottom = grind (arith, nat_tests) in
     record { left = omega (arith, left); right = omega (arith, right); top = omega (arith, top); bottom = omega (arith, bottom) }
 
-cut-has : (rect : Rect) (x y : ℕ) → holds rect x y ≡ true → holds (cut_to_cell rect (x / TILE_SIZE) (y / TILE_SIZE)) x y ≡ true
-cut-has rect x y hit = by (x / TILE_SIZE) (y / TILE_SIZE) (omega arith) (omega arith) (omega arith) (omega arith)
+cut-has : (rect : Rect) (x y : ℕ) → holds rect x y ≡ true → holds (cut_to_cell rect (cell (x / CELL_SIDE) (y / CELL_SIDE))) x y ≡ true
+cut-has rect x y hit = by (x / CELL_SIDE) (y / CELL_SIDE) (omega arith) (omega arith) (omega arith) (omega arith)
   where
-    by : (column row : ℕ) → TILE_SIZE * column ≤ x → x < TILE_SIZE * column + TILE_SIZE → TILE_SIZE * row ≤ y → y < TILE_SIZE * row + TILE_SIZE → holds (cut_to_cell rect column row) x y ≡ true
+    by : (column row : ℕ) → CELL_SIDE * column ≤ x → x < CELL_SIDE * column + CELL_SIDE → CELL_SIDE * row ≤ y → y < CELL_SIDE * row + CELL_SIDE → holds (cut_to_cell rect (cell column row)) x y ≡ true
     by column row left right top bottom = grind (arith, nat_tests)
 
 -- a paint changes no pixel outside of its rectangle
@@ -210,14 +212,14 @@ pub passes-wrote : (script : Script) (live : Live) (id : ℕ) (drawing : Drawing
 unfolding send_of
 passes-wrote script live id drawing rect picture x y column row miss =
     showing-outside id x y (painted_sends script live id drawing rect) picture column row
-    (all-map (send_of script live id drawing rect) (λ _. Unit {0}) (λ (send : TileSend). holds send.rect x y ≡ false) (λ c _. cut-misses rect c.0 c.1 x y miss) (cells_met rect) (all-any (λ _. Unit {0}) (λ _. tt) (cells_met rect)))
+    (all-map (send_of script live id drawing rect) (λ _. Unit {0}) (λ (send : TileSend). holds send.rect x y ≡ false) (λ c _. cut-misses rect c x y miss) (cells_met rect) (all-any (λ _. Unit {0}) (λ _. tt) (cells_met rect)))
 
 -- inside it each pixel is that of its cell's tile
 pub painted-pixel : (script : Script) (live : Live) (id : ℕ) (drawing : Drawing) (rect : Rect) (picture : Picture) (x y : ℕ) → x < picture.width → y < picture.height → holds rect x y ≡ true
-    → pixel_at (after_showing id (painted_sends script live id drawing rect) picture) x y ≡ tile-shows picture (send_of script live id drawing rect (x / TILE_SIZE, y / TILE_SIZE)) x y
+    → pixel_at (after_showing id (painted_sends script live id drawing rect) picture) x y ≡ tile-shows picture (send_of script live id drawing rect (cell (x / CELL_SIDE) (y / CELL_SIDE))) x y
 unfolding send_of
 painted-pixel script live id drawing rect picture x y column row hit =
-    at-cell (λ c. Shows x y picture after (send_of script live id drawing rect c)) rect (x / TILE_SIZE, y / TILE_SIZE)
+    at-cell (λ c. Shows x y picture after (send_of script live id drawing rect c)) rect (cell (x / CELL_SIDE) (y / CELL_SIDE))
     (all-unmap (send_of script live id drawing rect) (λ c. Shows x y picture after (send_of script live id drawing rect c)) (Shows x y picture after) (λ c shows. shows) (cells_met rect)
     (showing-inside id x y (painted_sends script live id drawing rect) picture column row (painted-apart script live id drawing rect) (painted-keeps script live id drawing rect)))
     (met-at rect x y hit) (cut-has rect x y hit)

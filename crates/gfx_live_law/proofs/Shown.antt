@@ -3,6 +3,7 @@ use Rattle.std.proofs.Common.{◌≡◌, ◌∙◌, ℕ, Bool, true, false, ◌&
 use Rattle.std.specs.FinMap as finmap
 use Rattle.std.specs.List.{AllByRecursion}
 use Rattle.gfx_base.specs.declared.pixel.Pixel.{Pixel}
+use Rattle.gfx_base.specs.Cells.{cell, cut_to_cell}
 use Rattle.gfx_base.specs.Geometry.{holds}
 use Rattle.gfx_surface.specs.Picture.{Picture, pixel_at}
 use Rattle.gfx_tile_state.specs.declared.state.TileState.{TileState}
@@ -14,7 +15,7 @@ use Rattle.gfx_prog_decode.specs.Showing.{cell_in, covered, has_pixel, shown_in,
 use Rattle.gfx_prog_decode.proofs.Pictures.{redrawn_same}
 use Rattle.gfx_prog_encode.specs.declared.send.TileSend.{TileSend}
 use Rattle.gfx_prog_encode.specs.Messages.{area_of}
-use Rattle.gfx_live.specs.Cells.{cell_key, cut_to_cell}
+use Rattle.gfx_live.specs.Cells.{cell_key}
 use Rattle.gfx_live.specs.Showing.{after_tiles, with_record}
 use Rattle.gfx_prog_law.specs.Accepted.{painted, raised, shown_at_level}
 use Rattle.gfx_live_law.specs.Taken.{place_of}
@@ -23,7 +24,7 @@ use Rattle.gfx_live_law.proofs.Squares.{InCell, area-in-cell, cell-holds, one-ce
 
 -- what a tile paints lies in its cell
 abbrev pub KeepsCell : TileSend → Type 0
-KeepsCell send = cut_to_cell send.rect send.x send.y ≡ send.rect
+KeepsCell send = cut_to_cell send.rect (cell send.x send.y) ≡ send.rect
 
 -- of a tile's cell, areas have what its own area has
 abbrev pub Own : List Area → TileSend → Type 0
@@ -65,10 +66,10 @@ abbrev pub drawer : Picture → Key → List Area → TileState → ℕ → ℕ 
 drawer picture key areas tile x y = if holds (cell_in picture.width picture.height key) x y && covered areas x y then tile_pixel picture key tile x y else pixel_at picture x y
 
 own-shown : (picture : Picture) (id : ℕ) (areas : List Area) (send : TileSend) (tile : TileState) → Own areas send
-    → shown_in picture (cell_key id send.x send.y) areas tile ≡ shown_in picture (cell_key id send.x send.y) (area_of send ∷ []) tile
+    → shown_in picture (cell_key id (cell send.x send.y)) areas tile ≡ shown_in picture (cell_key id (cell send.x send.y)) (area_of send ∷ []) tile
 unfolding shown_in
 own-shown picture id areas send tile own =
-    let key : Key = cell_key id send.x send.y in
+    let key : Key = cell_key id (cell send.x send.y) in
     redrawn_same picture (drawer picture key areas tile) (drawer picture key (area_of send ∷ []) tile) (λ x y _ _.
     same-choice (holds (cell_in picture.width picture.height key) x y) (covered areas x y) (covered (area_of send ∷ []) x y) (tile_pixel picture key tile x y) (pixel_at picture x y)
     (λ hit. own x y (cell-holds picture.width picture.height key x y hit)))
@@ -78,7 +79,7 @@ one-shown : (id : ℕ) (areas : List Area) (level : ℕ) (send : TileSend) (old 
     → shown_at_level (place_of id) areas level send old ≡ with_record id old send
 one-shown id areas level send old own e =
     ap (λ n. shown_at_level (place_of id) areas n send old) (sym e)
-    ∙ ap (scene (finmap.insert old.records (cell_key id send.x send.y) (tile_at send.tile send.level))) (own-shown old.picture id areas send (tile_at send.tile send.level) own)
+    ∙ ap (scene (finmap.insert old.records (cell_key id (cell send.x send.y)) (tile_at send.tile send.level))) (own-shown old.picture id areas send (tile_at send.tile send.level) own)
 
 -- all of them
 pub painted-shown : (id : ℕ) (areas : List Area) (sends : List TileSend) (old : Scene) → AllByRecursion (Own areas) sends → AllByRecursion (λ (send : TileSend). send.level ≡ 0) sends

@@ -2,20 +2,20 @@
 use Rattle.std.proofs.Common.{◌≡◌, ◌+◌, ◌*◌, ◌<◌, ◌≤◌, ℕ, true, max, min, ap, arith}
 use Rattle.std.proofs.lemmas.Bool.Decides.{nat_tests}
 use Rattle.gfx_base.specs.declared.geometry.Rect.{Rect}
+use Rattle.gfx_base.specs.declared.geometry.TheConstants.{CELL_SIDE}
+use Rattle.gfx_base.specs.Cells.{cell, cut_to_cell}
 use Rattle.gfx_base.specs.Geometry.{holds}
-use Rattle.gfx_prog_block.specs.declared.region.TheConstants.{TILE_SIZE}
 use Rattle.gfx_prog_decode.specs.declared.key.Key.{Key}
 use Rattle.gfx_prog_decode.specs.Showing.{cell_in, has_pixel}
 use Rattle.gfx_prog_encode.specs.declared.send.TileSend.{TileSend}
 use Rattle.gfx_prog_encode.specs.Messages.{area_of}
-use Rattle.gfx_live.specs.Cells.{cut_to_cell}
 
 -- the pixel at column x of row y is one of the cell's
 pub record InCell (column row x y : ℕ) : Type 0 where
-  pub left : TILE_SIZE * column ≤ x
-  pub right : x < TILE_SIZE * column + TILE_SIZE
-  pub top : TILE_SIZE * row ≤ y
-  pub bottom : y < TILE_SIZE * row + TILE_SIZE
+  pub left : CELL_SIDE * column ≤ x
+  pub right : x < CELL_SIDE * column + CELL_SIDE
+  pub top : CELL_SIDE * row ≤ y
+  pub bottom : y < CELL_SIDE * row + CELL_SIDE
 
 -- of one cell alone
 pub one-cell : (a b c d x y : ℕ) → InCell a b x y → InCell c d x y → (a ≡ c) × (b ≡ d)
@@ -32,17 +32,17 @@ cell-holds width height key x y hit = record {
 
 -- a rectangle that lies in a cell
 pub record LiesInCell (rect : Rect) (column row : ℕ) : Type 0 where
-  pub left : TILE_SIZE * column ≤ rect.left
-  pub right : rect.right ≤ TILE_SIZE * column + TILE_SIZE
-  pub top : TILE_SIZE * row ≤ rect.top
-  pub bottom : rect.bottom ≤ TILE_SIZE * row + TILE_SIZE
+  pub left : CELL_SIDE * column ≤ rect.left
+  pub right : rect.right ≤ CELL_SIDE * column + CELL_SIDE
+  pub top : CELL_SIDE * row ≤ rect.top
+  pub bottom : rect.bottom ≤ CELL_SIDE * row + CELL_SIDE
 
-pub cut-lies : (rect : Rect) (column row : ℕ) → cut_to_cell rect column row ≡ rect → LiesInCell rect column row
+pub cut-lies : (rect : Rect) (column row : ℕ) → cut_to_cell rect (cell column row) ≡ rect → LiesInCell rect column row
 cut-lies rect column row cut =
-    let left : max rect.left (TILE_SIZE * column) ≡ rect.left = ap (λ r. r.left) cut in
-    let top : max rect.top (TILE_SIZE * row) ≡ rect.top = ap (λ r. r.top) cut in
-    let right : min rect.right (TILE_SIZE * column + TILE_SIZE) ≡ rect.right = ap (λ r. r.right) cut in
-    let bottom : min rect.bottom (TILE_SIZE * row + TILE_SIZE) ≡ rect.bottom = ap (λ r. r.bottom) cut in
+    let left : max rect.left (CELL_SIDE * column) ≡ rect.left = ap (λ r. r.left) cut in
+    let top : max rect.top (CELL_SIDE * row) ≡ rect.top = ap (λ r. r.top) cut in
+    let right : min rect.right (CELL_SIDE * column + CELL_SIDE) ≡ rect.right = ap (λ r. r.right) cut in
+    let bottom : min rect.bottom (CELL_SIDE * row + CELL_SIDE) ≡ rect.bottom = ap (λ r. r.bottom) cut in
     record { left = omega arith; right = omega arith; top = omega arith; bottom = omega arith }
 
 -- a pixel of a tile's area is one of its rectangle
@@ -50,12 +50,12 @@ pub area-holds : (send : TileSend) (x y : ℕ) → has_pixel x y (area_of send) 
 area-holds send x y hit = grind (arith, nat_tests)
 
 -- and of its cell
-pub rect-in-cell : (send : TileSend) (x y : ℕ) → cut_to_cell send.rect send.x send.y ≡ send.rect → holds send.rect x y ≡ true → InCell send.x send.y x y
+pub rect-in-cell : (send : TileSend) (x y : ℕ) → cut_to_cell send.rect (cell send.x send.y) ≡ send.rect → holds send.rect x y ≡ true → InCell send.x send.y x y
 rect-in-cell send x y cut hit =
     let lies : LiesInCell send.rect send.x send.y = cut-lies send.rect send.x send.y cut in
     by lies.left lies.right lies.top lies.bottom
   where
-    by : TILE_SIZE * send.x ≤ send.rect.left → send.rect.right ≤ TILE_SIZE * send.x + TILE_SIZE → TILE_SIZE * send.y ≤ send.rect.top → send.rect.bottom ≤ TILE_SIZE * send.y + TILE_SIZE
+    by : CELL_SIDE * send.x ≤ send.rect.left → send.rect.right ≤ CELL_SIDE * send.x + CELL_SIDE → CELL_SIDE * send.y ≤ send.rect.top → send.rect.bottom ≤ CELL_SIDE * send.y + CELL_SIDE
         → InCell send.x send.y x y
     by left right top bottom = record {
       left = grind (arith, nat_tests);
@@ -64,5 +64,5 @@ rect-in-cell send x y cut hit =
       bottom = grind (arith, nat_tests);
     }
 
-pub area-in-cell : (send : TileSend) (x y : ℕ) → cut_to_cell send.rect send.x send.y ≡ send.rect → has_pixel x y (area_of send) ≡ true → InCell send.x send.y x y
+pub area-in-cell : (send : TileSend) (x y : ℕ) → cut_to_cell send.rect (cell send.x send.y) ≡ send.rect → has_pixel x y (area_of send) ≡ true → InCell send.x send.y x y
 area-in-cell send x y cut hit = rect-in-cell send x y cut (area-holds send x y hit)

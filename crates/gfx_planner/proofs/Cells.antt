@@ -1,19 +1,19 @@
 -- There is room for the records of all cells of the surfaces.
-use Rattle.std.proofs.Common.{◌≡◌, ◌∙◌, inl, inr, ◌+◌, ◌-◌, ◌*◌, ◌/◌, ◌≤◌, ℕ, Bool, true, false, cond, ◌||◌, List, [], ◌∷◌, map, length, Option, Some, None, refl, sym, ap, subst, length-append, mul_comm, arith}
+use Rattle.std.proofs.Common.{◌≡◌, ◌∙◌, inl, inr, ◌+◌, ◌≤◌, ℕ, Bool, true, false, cond, ◌||◌, List, [], ◌∷◌, map, length, Option, Some, None, refl, sym, ap, subst, length-append, mul_comm, arith}
 use Rattle.std.specs.FinMap.{contains_key, entries, find, get, get-entries}
 use Rattle.std.specs.List.{flat_map, sum_by}
 use Rattle.std.specs.Ordering.{nat_cmp, eq_by_cmp}
 use Rattle.std.proofs.lemmas.Bool.Decides.{nat_tests}
 use Rattle.std.proofs.lemmas.List.Folds.{list_any-append}
 use Rattle.std.proofs.lemmas.List.Sums.{sum_by-cons}
+use Rattle.gfx_base.specs.Cells.{cells_along}
 use Rattle.gfx_live_law.specs.Taken.{HasRoom, IsCell}
 use Rattle.gfx_live_law.proofs.Counting.{among, cell-among, cell-keys, few-keys, length-cell-keys}
-use Rattle.gfx_prog_block.specs.declared.region.TheConstants.{TILE_SIZE}
 use Rattle.gfx_prog_decode.specs.declared.key.Key.{Key}
 use Rattle.gfx_prog_decode.specs.Records.{Records, key_cmp}
 use Rattle.gfx_surface.specs.Picture.{Picture}
 use Rattle.gfx_surface_map.specs.declared.TheConstants.{MOST_CELLS}
-use Rattle.gfx_surface_map.specs.Surfaces.{Surfaces, cells_along, cells_of, cells_of_picture}
+use Rattle.gfx_surface_map.specs.Surfaces.{Surfaces, cells_of, cells_of_picture}
 use Rattle.gfx_planner.specs.Tiles.{IsCellOf}
 
 -- the keys of the cells of a surface
@@ -27,12 +27,7 @@ all_cells all = flat_map cells_at all
 -- as many as there are cells
 length-cells_at : (entry : ℕ × Picture) → length (cells_at entry) ≡ cells_of_picture entry.1
 length-cells_at entry =
-    length-cell-keys entry.0 entry.1.width entry.1.height
-    ∙ (λ i. along entry.1.height i * along entry.1.width i)
-    ∙ mul_comm (cells_along entry.1.height) (cells_along entry.1.width)
-  where
-    along : (side : ℕ) → (side + TILE_SIZE - 1) / TILE_SIZE ≡ cells_along side
-    along side = omega arith
+    length-cell-keys entry.0 entry.1.width entry.1.height ∙ mul_comm (cells_along entry.1.height) (cells_along entry.1.width)
 
 length-all_cells : (all : List (ℕ × Picture)) → length (all_cells all) ≡ sum_by cells_of_picture (map (λ entry. entry.1) all)
 length-all_cells [] = refl

@@ -8,8 +8,9 @@ use Rattle.gfx_base.specs.declared.format.Format.{Format}
 use Rattle.gfx_base.specs.declared.format.Format.TheVariants.{Xrgb, Argb}
 use Rattle.gfx_base.specs.declared.geometry.Point.{Point}
 use Rattle.gfx_base.specs.declared.geometry.Rect.{Rect}
+use Rattle.gfx_base.specs.declared.geometry.TheConstants.{CELL_SIDE}
+use Rattle.gfx_base.specs.Cells.{cell, has_pixels, meets}
 use Rattle.gfx_base.specs.Geometry.{IsRect, holds, lies_in}
-use Rattle.gfx_live.specs.Cells.{has_pixels, meets}
 use Rattle.gfx_live.specs.Live.{Live, Passes, after_sends, improved_sends, painted_sends}
 use Rattle.gfx_live.specs.Showing.{after_showing}
 use Rattle.gfx_live_law.specs.Taken.{WasSent}
@@ -19,7 +20,6 @@ use Rattle.gfx_live_law.proofs.Kept.{live-elsewhere, retained-live}
 use Rattle.gfx_live_law.proofs.Painting.{painted-sent}
 use Rattle.gfx_live_law.proofs.Seen.{LiveShows, live-shows-after}
 use Rattle.gfx_live_law.proofs.Squares.{InCell, rect-in-cell}
-use Rattle.gfx_prog_block.specs.declared.region.TheConstants.{TILE_SIZE}
 use Rattle.gfx_prog_decode.specs.declared.key.Key.{Key}
 use Rattle.gfx_prog_decode.specs.Records.{Records, key_cmp}
 use Rattle.gfx_prog_decode.specs.Scene.{scene}
@@ -62,7 +62,7 @@ abbrev pub AllShow : Live → Surfaces → Type 0
 AllShow live surfaces =
     (key : Key) (send : TileSend) (picture : Picture) → get live key ≡ Some send → get surfaces key.surface ≡ Some picture
     → (x y : ℕ) → x < picture.width → y < picture.height → holds send.rect x y ≡ true
-    → pixel_at picture x y ≡ shown_at send.tile send.level (y - TILE_SIZE * send.y) (x - TILE_SIZE * send.x)
+    → pixel_at picture x y ≡ shown_at send.tile send.level (y - CELL_SIDE * send.y) (x - CELL_SIDE * send.x)
 
 -- a format keeps a tile's pixel, which is opaque
 tile-kept : (format : Format) (tile : Tile) (level y x : ℕ) → shade format (shown_at tile level y x) ≡ shown_at tile level y x
@@ -76,21 +76,21 @@ module _ (setting : Setting) (live : Live) (records : Records) (surfaces : Surfa
   live-shows : (id : ℕ) (picture : Picture) → get surfaces id ≡ Some picture → LiveShows id live picture
   live-shows id picture there key send same found x y column row hit =
       shows key send picture found (ap (get surfaces) same ∙ there) x y column row hit
-      ∙ sym (tile-kept picture.format send.tile send.level (y - TILE_SIZE * send.y) (x - TILE_SIZE * send.x))
+      ∙ sym (tile-kept picture.format send.tile send.level (y - CELL_SIDE * send.y) (x - CELL_SIDE * send.x))
 
   sent-show : (id : ℕ) (sends : List TileSend) (picture : Picture) → get surfaces id ≡ Some picture → AllByRecursion (WasSent setting picture.width picture.height) sends
       → AllShow (after_sends id sends live) (insert surfaces id (after_showing id sends picture))
   sent-show id sends picture there was key send after found is = by (cases_eq key.surface id)
     where
       by : (key.surface ≡ id) ⊎ (key.surface ≢ id) → (x y : ℕ) → x < after.width → y < after.height → holds send.rect x y ≡ true
-          → pixel_at after x y ≡ shown_at send.tile send.level (y - TILE_SIZE * send.y) (x - TILE_SIZE * send.x)
+          → pixel_at after x y ≡ shown_at send.tile send.level (y - CELL_SIDE * send.y) (x - CELL_SIDE * send.x)
       by (inl at) x y =
           let one : Some (after_showing id sends picture) ≡ Some after = sym (surface_here surfaces id (after_showing id sends picture) key.surface at) ∙ is in
           let same : after_showing id sends picture ≡ after = cc in
-          subst (λ (p : Picture). x < p.width → y < p.height → holds send.rect x y ≡ true → pixel_at p x y ≡ shown_at send.tile send.level (y - TILE_SIZE * send.y) (x - TILE_SIZE * send.x)) same
+          subst (λ (p : Picture). x < p.width → y < p.height → holds send.rect x y ≡ true → pixel_at p x y ≡ shown_at send.tile send.level (y - CELL_SIDE * send.y) (x - CELL_SIDE * send.x)) same
           (λ column row hit.
           live-shows-after setting id picture.width picture.height sends live (scene records picture) was (tiles.each id picture there) (live-shows id picture there) key send at found x y column row hit
-          ∙ tile-kept (after_showing id sends picture).format send.tile send.level (y - TILE_SIZE * send.y) (x - TILE_SIZE * send.x))
+          ∙ tile-kept (after_showing id sends picture).format send.tile send.level (y - CELL_SIDE * send.y) (x - CELL_SIDE * send.x))
       by (inr apart) x y =
           shows key send after (sym (live-elsewhere id key apart sends live) ∙ found) (sym (surface_elsewhere surfaces id (after_showing id sends picture) key.surface apart) ∙ is) x y
 
@@ -135,7 +135,7 @@ improved-shows setting wanted records id tiles shows = by (get wanted.shown.surf
 -- an area, if there is one, has nothing of a cell
 abbrev Misses : Option Area → Key → Type 0
 Misses None key = Unit {0}
-Misses (Some written) key = written.surface ≡ key.surface → AllByRecursion (λ rect. meets rect key.x key.y ≡ false) written.rects
+Misses (Some written) key = written.surface ≡ key.surface → AllByRecursion (λ rect. meets rect (cell key.x key.y) ≡ false) written.rects
 
 neither : (a b : Bool) → (a || b) ≡ false → (a ≡ false) × (b ≡ false)
 neither true b e = absurd cc
@@ -155,11 +155,11 @@ ended-live : (passes : Passes) (written : Option Area) (key : Key) (send : TileS
 unfolding ended_by
 ended-live passes None key send found = (found, tt)
 ended-live passes (Some written) key send found =
-    let left = retained-live passes.live (λ k. not (k.surface == written.surface && list_any (λ rect. meets rect k.x k.y) written.rects)) key send found in (
+    let left = retained-live passes.live (λ k. not (k.surface == written.surface && list_any (λ rect. meets rect (cell k.x k.y)) written.rects)) key send found in (
       left.0,
       λ same.
-          none-of (λ rect. meets rect key.x key.y) written.rects
-          (not-second (key.surface == written.surface) (list_any (λ rect. meets rect key.x key.y) written.rects) left.1 (eq-eqb key.surface written.surface (sym same))),
+          none-of (λ rect. meets rect (cell key.x key.y)) written.rects
+          (not-second (key.surface == written.surface) (list_any (λ rect. meets rect (cell key.x key.y)) written.rects) left.1 (eq-eqb key.surface written.surface (sym same))),
     )
 
 step-ends : (script : Script) (sides_of : ℕ → Option Sides) (surfaces : Surfaces) (passes : Passes) (kind : Option Kind) (step : Step) → is_in_passes kind step ≡ false
@@ -174,20 +174,20 @@ step-ends script sides_of surfaces passes kind (Paint id picture at named glyph)
 step-ends script sides_of surfaces passes kind step apart key send found = ended-live passes (writes_by script sides_of step) key send found
 
 -- a pixel of a tile lies outside of a rectangle that has nothing of its cell
-beside-cell : (rect : Rect) (column row x y : ℕ) → InCell column row x y → meets rect column row ≡ false → holds rect x y ≡ false
-beside-cell rect column row x y cell miss = by (holds rect x y) refl
+beside-cell : (rect : Rect) (column row x y : ℕ) → InCell column row x y → meets rect (cell column row) ≡ false → holds rect x y ≡ false
+beside-cell rect column row x y inside miss = by (holds rect x y) refl
   where
-    met : TILE_SIZE * column ≤ x → x < TILE_SIZE * column + TILE_SIZE → TILE_SIZE * row ≤ y → y < TILE_SIZE * row + TILE_SIZE → holds rect x y ≡ true → meets rect column row ≡ true
+    met : CELL_SIDE * column ≤ x → x < CELL_SIDE * column + CELL_SIDE → CELL_SIDE * row ≤ y → y < CELL_SIDE * row + CELL_SIDE → holds rect x y ≡ true → meets rect (cell column row) ≡ true
     met left right top bottom hit = grind (arith, nat_tests)
 
     by : (b : Bool) → holds rect x y ≡ b → b ≡ false
     by false e = refl
-    by true e = let met : meets rect column row ≡ true = met cell.left cell.right cell.top cell.bottom e in absurd cc
+    by true e = let met : meets rect (cell column row) ≡ true = met inside.left inside.right inside.top inside.bottom e in absurd cc
 
 outside-of : (written : Option Area) (key : Key) (x y : ℕ) → InCell key.x key.y x y → Misses written key → IsOutside written key.surface x y
-outside-of None key x y cell miss = tt
-outside-of (Some written) key x y cell miss =
-    λ same. all-more (λ rect. meets rect key.x key.y ≡ false) (λ rect. holds rect x y ≡ false) (λ rect far. beside-cell rect key.x key.y x y cell far) written.rects (miss same)
+outside-of None key x y inside miss = tt
+outside-of (Some written) key x y inside miss =
+    λ same. all-more (λ rect. meets rect (cell key.x key.y) ≡ false) (λ rect. holds rect x y ≡ false) (λ rect far. beside-cell rect key.x key.y x y inside far) written.rects (miss same)
 
 -- a pixel of a tile is one of its surface
 in-surface : (width height : ℕ) (rect : Rect) (x y : ℕ) → lies_in width height rect ≡ true → holds rect x y ≡ true → (x < width) × (y < height)
@@ -206,13 +206,13 @@ missed-show setting written live left records old new tiles within ends shows ke
     was : (get live key ≡ Some send) × Misses written key
     was = ends key send found
 
-    by : (o : Option Picture) → get old key.surface ≡ o → pixel_at after x y ≡ shown_at send.tile send.level (y - TILE_SIZE * send.y) (x - TILE_SIZE * send.x)
+    by : (o : Option Picture) → get old key.surface ≡ o → pixel_at after x y ≡ shown_at send.tile send.level (y - CELL_SIDE * send.y) (x - CELL_SIDE * send.x)
     by None none = let gone : get live key ≡ None = tiles.others key none in let some : get live key ≡ Some send = was.0 in absurd cc
     by (Some before) there =
         let sent = (tiles.each key.surface before there).each key send refl was.0 in
         let there-too = in-surface before.width before.height send.rect x y sent.1.0.inside hit in
-        let cell : InCell key.x key.y x y = subst (λ (k : Key). InCell k.x k.y x y) (sym sent.0) (rect-in-cell send x y sent.1.0.in_cell hit) in
-        within.each key.surface x y before after there is column row (outside-of written key x y cell was.1)
+        let inside : InCell key.x key.y x y = subst (λ (k : Key). InCell k.x k.y x y) (sym sent.0) (rect-in-cell send x y sent.1.0.in_cell hit) in
+        within.each key.surface x y before after there is column row (outside-of written key x y inside was.1)
         ∙ shows key send before was.0 there x y there-too.0 there-too.1 hit
 
 -- ---- steps
@@ -293,6 +293,6 @@ live-tiles-shown script front rest good fits =
       each = λ key send picture x y is. shows key send picture is.live is.there x y is.column is.row is.inside;
       last = λ key send picture x y is last.
           shows key send picture is.live is.there x y is.column is.row is.inside
-          ∙ ap (λ n. shown_at send.tile n (y - TILE_SIZE * send.y) (x - TILE_SIZE * send.x)) last
-          ∙ last-shown send.tile ((tiles.each key.surface picture is.there).each key send refl is.live).1.0.may (y - TILE_SIZE * send.y) (x - TILE_SIZE * send.x);
+          ∙ ap (λ n. shown_at send.tile n (y - CELL_SIDE * send.y) (x - CELL_SIDE * send.x)) last
+          ∙ last-shown send.tile ((tiles.each key.surface picture is.there).each key send refl is.live).1.0.may (y - CELL_SIDE * send.y) (x - CELL_SIDE * send.x);
     }

@@ -8,7 +8,7 @@ use Rattle.std.proofs.lemmas.List.Elements.{recursion_from_All}
 use Rattle.gfx_base.specs.Results.{check}
 use Rattle.gfx_base.proofs.ResultLemmas.{and_then_ok, check_ok}
 use Rattle.gfx_base.specs.declared.geometry.Point.{Point}
-use Rattle.gfx_live.specs.Cells.{has_pixels}
+use Rattle.gfx_base.specs.Cells.{has_pixels}
 use Rattle.gfx_live.specs.Live.{Passes, improve_all, improved_sends, paint_all, painted_sends, passes_after}
 use Rattle.gfx_live.specs.Showing.{after_showing, after_tiles}
 use Rattle.gfx_live_law.specs.Taken.{AreTaken, HasRoom, WasSent}

@@ -6,7 +6,7 @@ use Rattle.std.specs.List.{list_any, slice_get}
 use Rattle.std.specs.Ordering.{nat_cmp, eq_by_cmp}
 use Rattle.std.proofs.lemmas.Bool.{cases_eq}
 use Rattle.std.proofs.lemmas.Bool.Decides.{nat_tests}
-use Rattle.gfx_live.specs.Cells.{meets}
+use Rattle.gfx_base.specs.Cells.{cell, meets}
 use Rattle.gfx_live.specs.Live.{Live, Passes, without_surface}
 use Rattle.gfx_live_law.specs.Taken.{LiveIn}
 use Rattle.gfx_live_law.proofs.Kept.{retained-live}
@@ -45,7 +45,7 @@ pub ends-by : (passes : Passes) (written : Option Area) → Ends passes.live (en
 unfolding ended_by
 ends-by passes None key send found = found
 ends-by passes (Some written) key send found =
-    (retained-live passes.live (λ k. not (k.surface == written.surface && list_any (λ rect. meets rect k.x k.y) written.rects)) key send found).0
+    (retained-live passes.live (λ k. not (k.surface == written.surface && list_any (λ rect. meets rect (cell k.x k.y)) written.rects)) key send found).0
 
 number-ended : (passes : Passes) (written : Option Area) → (ended_by passes written).next ≡ passes.next
 unfolding ended_by

@@ -3,8 +3,8 @@ use Rattle.std.specs.Prelude.{◌≡◌, ℕ, Bool, true, false, IfSome, Option,
 use Rattle.std.specs.FinMap.{get}
 use Rattle.std.specs.List.{AllByRecursion, slice_get}
 use Rattle.gfx_base.specs.declared.geometry.Point.{Point}
+use Rattle.gfx_base.specs.Cells.{has_pixels}
 use Rattle.gfx_base.specs.Geometry.{IsRect}
-use Rattle.gfx_live.specs.Cells.{has_pixels}
 use Rattle.gfx_live.specs.Inside.{AreBy}
 use Rattle.gfx_live.specs.Live.{Passes, ended_in, improved_sends, painted_sends, passes_after, without_surface}
 use Rattle.gfx_quant.specs.Setting.{is_accepted}

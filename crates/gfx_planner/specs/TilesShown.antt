@@ -1,8 +1,8 @@
 -- What live tiles show: this project's own promise.
 use Rattle.std.specs.Prelude.{◌≡◌, ◌-◌, ◌*◌, ◌<◌, ℕ, true, length, List, ◌++◌, Some}
 use Rattle.std.specs.FinMap.{get}
+use Rattle.gfx_base.specs.declared.geometry.TheConstants.{CELL_SIDE}
 use Rattle.gfx_base.specs.Geometry.{holds}
-use Rattle.gfx_prog_block.specs.declared.region.TheConstants.{TILE_SIZE}
 use Rattle.gfx_prog_decode.specs.declared.key.Key.{Key}
 use Rattle.gfx_prog_encode.specs.declared.send.TileSend.{TileSend}
 use Rattle.gfx_script.specs.Kinds.{KindedStep, Fits}
@@ -24,9 +24,9 @@ pub record IsPixelOf (wanted : Wanted) (key : Key) (send : TileSend) (picture : 
 -- quantised values, whatever it goes on
 pub record TilesAreShown (wanted : Wanted) : Type 0 where
   pub each : (key : Key) (send : TileSend) (picture : Picture) (x y : ℕ) → IsPixelOf wanted key send picture x y
-      → pixel_at picture x y ≡ shown_at send.tile send.level (y - TILE_SIZE * send.y) (x - TILE_SIZE * send.x)
+      → pixel_at picture x y ≡ shown_at send.tile send.level (y - CELL_SIDE * send.y) (x - CELL_SIDE * send.x)
   pub last : (key : Key) (send : TileSend) (picture : Picture) (x y : ℕ) → IsPixelOf wanted key send picture x y → send.level ≡ length send.tile.setting.levels
-      → pixel_at picture x y ≡ direct_pixel send.tile (y - TILE_SIZE * send.y) (x - TILE_SIZE * send.x)
+      → pixel_at picture x y ≡ direct_pixel send.tile (y - CELL_SIDE * send.y) (x - CELL_SIDE * send.x)
 
 -- so after each front of an accepted script, whatever kinds its steps go as that they may go as
 abbrev pub LiveTilesAreShown : Type 0

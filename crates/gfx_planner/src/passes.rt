@@ -2,8 +2,8 @@
 ghost use Rattle.std.specs.Prelude.{◌≡◌, [], ◌∷◌, IfOk, IfSome, IsSome, OnOk, Option, Some, false, map, option_map, true};
 ghost use Rattle.std.specs.FinMap.{get};
 ghost use Rattle.std.specs.List.{AllByRecursion, slice_get};
+ghost use Rattle.gfx_base.specs.Cells.{has_pixels};
 ghost use Rattle.gfx_base.specs.Geometry.{IsRect, sized};
-ghost use Rattle.gfx_live.specs.Cells.{has_pixels};
 ghost use Rattle.gfx_live.specs.Inside.{AreBy};
 ghost use Rattle.gfx_quant.specs.Setting.{is_accepted};
 ghost use Rattle.gfx_script.specs.declared.step.Kind.{Kind};

@@ -6,11 +6,12 @@ use Rattle.std.specs.List.{list_all, list_any}
 use Rattle.std.proofs.Math.Nat.{le-max_left, le-max_right, le-min, max-le, min-le_left, min-le_right}
 use Rattle.std.proofs.lemmas.Bool.{cases_Bool, eqb-true, lt-ltb, ltb-true}
 use Rattle.std.proofs.lemmas.Bool.Decides.{nat_tests}
+use Rattle.gfx_base.specs.declared.geometry.Cell.{Cell}
 use Rattle.gfx_base.specs.declared.geometry.Rect.{Rect}
-use Rattle.gfx_live.specs.Cells.{meets}
+use Rattle.gfx_base.specs.declared.geometry.TheConstants.{CELL_SIDE}
+use Rattle.gfx_base.specs.Cells.{cell, meets}
 use Rattle.gfx_live.specs.Live.{Live, Passes, ended_in}
 use Rattle.gfx_planner.specs.Passes.{ended_by}
-use Rattle.gfx_prog_block.specs.declared.region.TheConstants.{TILE_SIZE}
 use Rattle.gfx_prog_decode.specs.Records.{key_cmp}
 use Rattle.gfx_prog_decode.specs.declared.key.Key.{Key}
 use Rattle.gfx_prog_decode.proofs.Keys.{key_same, key_total}
@@ -47,29 +48,29 @@ wider_range from to outer_from outer_to low high wide_from wide_to met =
     let right : min to high ≤ min outer_to high = le-min (omega (arith, min-le_left to high)) (min-le_right to high) in
     lt-ltb (max outer_from low) (min outer_to high) (omega arith)
 
-pub meets-outer : (outer inner : Rect) (x y : ℕ) → contains outer inner ≡ true → meets inner x y ≡ true → meets outer x y ≡ true
-meets-outer outer inner x y inside met =
+pub meets-outer : (outer inner : Rect) (c : Cell) → contains outer inner ≡ true → meets inner c ≡ true → meets outer c ≡ true
+meets-outer outer inner c inside met =
     let wide : (outer.left ≤ inner.left) × (outer.top ≤ inner.top) × (inner.right ≤ outer.right) × (inner.bottom ≤ outer.bottom) = sides in
-    let h = both (nat_lt (max inner.left (TILE_SIZE * x)) (min inner.right (TILE_SIZE * x + TILE_SIZE))) (nat_lt (max inner.top (TILE_SIZE * y)) (min inner.bottom (TILE_SIZE * y + TILE_SIZE))) met in
+    let h = both (nat_lt (max inner.left (CELL_SIDE * c.x)) (min inner.right (CELL_SIDE * c.x + CELL_SIDE))) (nat_lt (max inner.top (CELL_SIDE * c.y)) (min inner.bottom (CELL_SIDE * c.y + CELL_SIDE))) met in
     together _ _
-    (wider_range inner.left inner.right outer.left outer.right (TILE_SIZE * x) (TILE_SIZE * x + TILE_SIZE) wide.0 wide.2 h.0)
-    (wider_range inner.top inner.bottom outer.top outer.bottom (TILE_SIZE * y) (TILE_SIZE * y + TILE_SIZE) wide.1 wide.3 h.1)
+    (wider_range inner.left inner.right outer.left outer.right (CELL_SIDE * c.x) (CELL_SIDE * c.x + CELL_SIDE) wide.0 wide.2 h.0)
+    (wider_range inner.top inner.bottom outer.top outer.bottom (CELL_SIDE * c.y) (CELL_SIDE * c.y + CELL_SIDE) wide.1 wide.3 h.1)
   where
     sides : (outer.left ≤ inner.left) × (outer.top ≤ inner.top) × (inner.right ≤ outer.right) × (inner.bottom ≤ outer.bottom)
     sides = grind (arith, nat_tests)
 
 -- some of these rectangles meets the cell
-abbrev some_meets : List Rect → ℕ → ℕ → Bool
-some_meets rects x y = list_any (λ rect. meets rect x y) rects
+abbrev some_meets : List Rect → Cell → Bool
+some_meets rects c = list_any (λ rect. meets rect c) rects
 
 -- what one rectangle contains meets no cell that the one doesn't meet
-meets-all : (outer : Rect) (rects : List Rect) (x y : ℕ) → list_all (contains outer) rects ≡ true → some_meets rects x y ≡ true → meets outer x y ≡ true
-meets-all outer [] x y inside met = absurd cc
-meets-all outer (rect ∷ rects) x y inside met =
+meets-all : (outer : Rect) (rects : List Rect) (c : Cell) → list_all (contains outer) rects ≡ true → some_meets rects c ≡ true → meets outer c ≡ true
+meets-all outer [] c inside met = absurd cc
+meets-all outer (rect ∷ rects) c inside met =
     let h = both (contains outer rect) (list_all (contains outer) rects) inside in
-    elim (cases_Bool (meets rect x y)) [
-      | inl here ↦ meets-outer outer rect x y h.0 here
-      | inr not_here ↦ meets-all outer rects x y h.1 (either_rest (meets rect x y) (some_meets rects x y) met not_here)
+    elim (cases_Bool (meets rect c)) [
+      | inl here ↦ meets-outer outer rect c h.0 here
+      | inr not_here ↦ meets-all outer rects c h.1 (either_rest (meets rect c) (some_meets rects c) met not_here)
     ]
 
 either_first : (a b : Bool) → a ≡ true → (a || b) ≡ true
@@ -79,28 +80,28 @@ either_second : (a b : Bool) → b ≡ true → (a || b) ≡ true
 either_second true b e = refl
 either_second false b e = e
 
-meets-covered : (rects later : List Rect) (x y : ℕ) → list_any (λ outer. list_all (contains outer) rects) later ≡ true → some_meets rects x y ≡ true → some_meets later x y ≡ true
-meets-covered rects [] x y covered met = absurd cc
-meets-covered rects (outer ∷ later) x y covered met =
+meets-covered : (rects later : List Rect) (c : Cell) → list_any (λ outer. list_all (contains outer) rects) later ≡ true → some_meets rects c ≡ true → some_meets later c ≡ true
+meets-covered rects [] c covered met = absurd cc
+meets-covered rects (outer ∷ later) c covered met =
     elim (cases_Bool (list_all (contains outer) rects)) [
-      | inl here ↦ either_first (meets outer x y) (some_meets later x y) (meets-all outer rects x y here met)
-      | inr not_here ↦ either_second (meets outer x y) (some_meets later x y) (meets-covered rects later x y (either_rest (list_all (contains outer) rects) _ covered not_here) met)
+      | inl here ↦ either_first (meets outer c) (some_meets later c) (meets-all outer rects c here met)
+      | inr not_here ↦ either_second (meets outer c) (some_meets later c) (meets-covered rects later c (either_rest (list_all (contains outer) rects) _ covered not_here) met)
     ]
 
 -- live tiles that end -------------------------------------------------------------------------------------
 
 -- an area touches a cell
 abbrev touches : Area → Key → Bool
-touches area key = key.surface == area.surface && some_meets area.rects key.x key.y
+touches area key = key.surface == area.surface && some_meets area.rects (cell key.x key.y)
 
 -- an area that covers another touches each cell that the other touches
 touches-covered : (plain later : Area) (key : Key) → covers plain (Some later) ≡ true → touches plain key ≡ true → touches later key ≡ true
 touches-covered plain later key covered hit =
     let c = both (later.surface == plain.surface) _ covered in
     let h = both (key.surface == plain.surface) _ hit in
-    together (key.surface == later.surface) (some_meets later.rects key.x key.y)
+    together (key.surface == later.surface) (some_meets later.rects (cell key.x key.y))
     (ap (λ n. key.surface == n) (eqb-true later.surface plain.surface c.0) ∙ h.0)
-    (meets-covered plain.rects later.rects key.x key.y c.1 h.1)
+    (meets-covered plain.rects later.rects (cell key.x key.y) c.1 h.1)
 
 and_swap : (a b : Bool) → (a && b) ≡ (b && a)
 and_swap true true = refl

@@ -8,7 +8,7 @@ use Rattle.gfx_base.proofs.FieldLemmas.{number_at-append}
 use Rattle.gfx_base.specs.declared.refusal.Refusal.{Refusal}
 use Rattle.gfx_base.specs.declared.refusal.Refusal.TheVariants.{ChannelLength}
 use Rattle.gfx_pdu.specs.declared.pdu.Pdu.{Pdu}
-use Rattle.gfx_segment.specs.declared.profile.TheConstants.{MOST_MESSAGE}
+use Rattle.gfx_base.specs.declared.TheConstants.{MOST_MESSAGE}
 use Rattle.gfx_segment.specs.Framing.{Front, Whole, Short, Bad, front, payload}
 use Rattle.gfx_segment.proofs.FrontLemmas.{front-append_whole, front-append_bad, length-front, front_whole, front_at, whole_at}
 use Rattle.gfx_state.specs.Run.{Run, refuse, unless_refused, apply, close, opened, judge, eat, eats}

@@ -6,7 +6,7 @@ use Rattle.gfx_live.specs.Inside.{Lists}
 use Rattle.gfx_live.proofs.Taking.{TakenOut, taken_out}
 use Rattle.gfx_live.proofs.live.LiveTiles.take_raised.Goals as goal
 
-out : (c : goal.After-struct_known-1) → TakenOut (get c.args.self.now (cell_key c.args.id c.args.cell.0 c.args.cell.1)) c.in_ok-send.send
+out : (c : goal.After-struct_known-1) → TakenOut (get c.args.self.now (cell_key c.args.id c.args.cell)) c.in_ok-send.send
 out c = taken_out _ c.in_ok-send.send c.in_ok-send.ensures.value (sym c.may_be_raised.ensures ∙ c.if-not-may_be_raised.false)
 
 pub overflow_add-send : goal.overflow_add-send

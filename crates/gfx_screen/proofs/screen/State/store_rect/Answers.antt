@@ -1,4 +1,4 @@
-use Rattle.std.proofs.Common.{◌∙◌, sym, refl}
+use Rattle.std.proofs.Common.{◌≡◌, ◌∙◌, true, sym, refl}
 use Rattle.gfx_base.specs.Geometry.{width_of, height_of}
 use Rattle.gfx_bitmap_cache.specs.Slots.{has_room}
 use Rattle.gfx_state.specs.State.{State}
@@ -17,14 +17,18 @@ returns-then-not-has_room-clause-applies c =
 
 pub returns-in_err-bitmap-clause-memory : goal.returns-in_err-bitmap-clause-memory
 returns-in_err-bitmap-clause-memory c =
-    let room : has_room c.args.self.now.cache c.args.slot (width_of c.args.rect) (height_of c.args.rect) ≡ true =
-    (λ i. has_room c.args.self.now.cache c.args.slot (sym c.width.ensures i) (sym c.height.ensures i)) ∙ sym c.has_room.ensures ∙ c.if-not-has_room.false in
-    wants_stored c.from_residual.result c.args.self.now c.args.id c.args.key c.args.slot c.args.rect c.in-Some.surface.now (sym c.in-Some.ensures)
-    (sym c.takes_slot.ensures ∙ c.if-not-takes_slot.false) (sym c.lies_on.ensures ∙ c.if-not-lies_on.false) room
+    let state : State = record { shown = c.self.inside.surfaces.shown; cache = c.self.inside.cache; clear = c.self.inside.clear; records = c.self.inside.records; frame = c.self.inside.frame; decoded = c.self.inside.decoded } in
+    let room : has_room c.self.inside.cache c.args.slot (width_of c.args.rect) (height_of c.args.rect) ≡ true =
+    (λ i. has_room c.self.inside.cache c.args.slot (sym c.width.ensures i) (sym c.height.ensures i)) ∙ sym c.has_room.ensures ∙ c.if-not-has_room.false in
+    rw (← c.self.view_is)
+    (wants_stored c.from_residual.result state c.args.id c.args.key c.args.slot c.args.rect c.in-Some.surface.now (sym c.in-Some.ensures)
+    (sym c.takes_slot.ensures ∙ c.if-not-takes_slot.false) (sym c.lies_on.ensures ∙ c.if-not-lies_on.false) room)
 
 pub returns-clause-memory : goal.returns-clause-memory
 returns-clause-memory c =
-    let room : has_room c.args.self.now.cache c.args.slot (width_of c.args.rect) (height_of c.args.rect) ≡ true =
-    (λ i. has_room c.args.self.now.cache c.args.slot (sym c.width.ensures i) (sym c.height.ensures i)) ∙ sym c.has_room.ensures ∙ c.if-not-has_room.false in
-    wants_stored c.store.result c.args.self.now c.args.id c.args.key c.args.slot c.args.rect c.in-Some.surface.now (sym c.in-Some.ensures)
-    (sym c.takes_slot.ensures ∙ c.if-not-takes_slot.false) (sym c.lies_on.ensures ∙ c.if-not-lies_on.false) room
+    let state : State = record { shown = c.self.inside.surfaces.shown; cache = c.self.inside.cache; clear = c.self.inside.clear; records = c.self.inside.records; frame = c.self.inside.frame; decoded = c.self.inside.decoded } in
+    let room : has_room c.self.inside.cache c.args.slot (width_of c.args.rect) (height_of c.args.rect) ≡ true =
+    (λ i. has_room c.self.inside.cache c.args.slot (sym c.width.ensures i) (sym c.height.ensures i)) ∙ sym c.has_room.ensures ∙ c.if-not-has_room.false in
+    rw (← c.self.view_is)
+    (wants_stored c.store.result state c.args.id c.args.key c.args.slot c.args.rect c.in-Some.surface.now (sym c.in-Some.ensures)
+    (sym c.takes_slot.ensures ∙ c.if-not-takes_slot.false) (sym c.lies_on.ensures ∙ c.if-not-lies_on.false) room)

@@ -45,6 +45,14 @@ place_along width x y j fits =
     last : (a b c d : ℕ) → a + (b + (c + d)) ≡ a + (b + c) + d
     last a b c d = omega arith
 
+-- a row of a cell is a cell's places behind that of the cell before
+pub place_next : (width x y : ℕ) → x % 64 ≡ 0 → place width (x + 64) y ≡ place width x y + 4096
+unfolding place
+place_next width x y border =
+    let column : (x + 64) / 64 ≡ x / 64 + 1 = omega arith in
+    let there : (x + 64) % 64 ≡ x % 64 = omega arith in
+    (λ i. (y / 64 * cells_along width + column i) * 4096 + (y % 64 * 64 + there i)) ∙ omega arith
+
 -- a run of a cell's row lies among the places
 pub run_within : (width height x y count : ℕ) → 0 < count → x + count ≤ width → y < height → x % 64 + count ≤ 64 → place width x y + count ≤ places width height
 run_within width height x y count some columns row fits =

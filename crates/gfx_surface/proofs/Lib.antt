@@ -7,4 +7,5 @@ pub mod CellWrites
 pub mod Runs
 pub mod ViewLemmas
 pub mod LendLemmas
+pub mod KeptLemmas
 pub mod Numbers

@@ -353,3 +353,15 @@ blank_is_picture width height format width_from width_most height_from height_mo
   full = length-replicate (width * height) (zero_colour format);
   shaded = blank_shaded format (width * height);
 }
+
+-- a picture redrawn with its own pixels
+pub redrawn_self : (picture : Picture) (f : ℕ → ℕ → Pixel) → IsPicture picture
+    → ((x y : ℕ) → x < picture.width → y < picture.height → f x y ≡ pixel_at picture x y) → redrawn picture f ≡ picture
+redrawn_self picture f shape same =
+    sym (ap (λ (pixels : List Pixel). record picture { pixels = pixels })
+    (drawn_by_all picture.width picture.height f no_pixel picture.pixels shape.full
+    (λ k below.
+    let some : 0 < picture.width = some_columns k picture.width picture.height below in
+    let back : k ≡ k / picture.width * picture.width + k % picture.width = omega arith in
+    ap (λ p. get_or picture.pixels p no_pixel) back
+    ∙ sym (same (k % picture.width) (k / picture.width) (column_below k picture.width picture.height below) (row_below k picture.width picture.height below)))))

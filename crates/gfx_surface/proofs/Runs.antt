@@ -18,7 +18,7 @@ use Rattle.gfx_surface.specs.Where.{WritesWhere, run_in, taken_from}
 use Rattle.gfx_surface.proofs.CellPlaces.{place_along, run_within}
 use Rattle.gfx_surface.proofs.CopyLemmas.{moved_run, raw_row}
 use Rattle.gfx_surface.proofs.Places.{InRow, in_row, same_run, rows_more, left_in}
-use Rattle.gfx_surface.proofs.Wheres.{run_more, run_before, row_more, row_above, where_kept}
+use Rattle.gfx_surface.proofs.Wheres.{run_more, run_before, run_written, row_more, row_above, where_kept}
 
 -- a piece that is cut out of a list
 pub cut_long : {A : Type 0} → (at count : ℕ) (list run : List A) → at + count ≤ length list → run ≡ take (at + count - at) (drop at list) → length run ≡ count
@@ -113,6 +113,30 @@ put_more width height x y done count column at format from run old mid new full 
         ap (λ n. get_or (map (shade format) run) n no_pixel) off
         ∙ get_or-map (shade format) run k no_pixel no_pixel (omega (arith, long, below))
         ∙ ap (shade format) (cut_at done count k from run cut below ∙ ap (λ n. get_or from n no_pixel) there)
+
+-- a whole run has its places
+pub whole_run_within : (width height x y done count at : ℕ) (cells : List Pixel) → length cells ≡ places width height → x % 64 ≡ 0 → done % 64 ≡ 0 → done + 64 ≤ count
+    → x + count ≤ width → y < height → at ≡ place width (x + done) y → at + 64 ≤ length cells
+whole_run_within width height x y done count at cells full border starts some columns row begins =
+    let within = run_within width height (x + done) y 64 (omega arith) (omega (arith, some, columns)) row (omega (arith, border, starts)) in
+    omega (arith, within, begins, full)
+
+-- a run of one cell is put
+pub part_put : (width height x y at : ℕ) (format : Format) (from old new : List Pixel)
+    → length old ≡ places width height → x + length from ≤ width → y < height → x % 64 + length from ≤ 64 → at ≡ place width x y
+    → WritesRun at (at + length from) (λ k. get_or (map (shade format) from) (k - at) no_pixel) old new
+    → WritesWhere width height (holds (run_in x y (length from))) (λ i _. shade format (get_or from (i - x) no_pixel)) old new
+part_put width height x y at format from old new full columns row one begins run =
+    run_written width height x y (length from) (length from) at (λ k. get_or (map (shade format) from) (k - at) no_pixel) (λ i _. shade format (get_or from (i - x) no_pixel)) old new
+    full columns row one begins refl run says
+  where
+    says : (k : ℕ) → k < length from → get_or (map (shade format) from) (at + k - at) no_pixel ≡ shade format (get_or from (x + k - x) no_pixel)
+    says k below =
+        let off : at + k - at ≡ k = omega arith in
+        let there : k ≡ x + k - x = omega arith in
+        ap (λ n. get_or (map (shade format) from) n no_pixel) off
+        ∙ get_or-map (shade format) from k no_pixel no_pixel below
+        ∙ ap (λ n. shade format (get_or from n no_pixel)) there
 
 -- one more row of pixels is put
 pub put_row_more : (width height i start count : ℕ) (rect : Rect) (format : Format) (from row old mid new : List Pixel)

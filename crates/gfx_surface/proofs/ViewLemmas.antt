@@ -70,6 +70,16 @@ cells_put width height start cell format pixels old new begins full on on' long 
     (λ x y. shade format (get_or pixels (y % 64 * 64 + x % 64) no_pixel)) old new
     (places_written width height start cell format pixels old new begins full on on' long run) (λ _ _ _ _ _. refl)
 
+-- and where another format keeps its pixels alike
+pub cells_put_alike : (width height start : ℕ) (cell : Cell) (format keeps : Format) (pixels old new : List Pixel)
+    → start ≡ cell_start width cell.x cell.y → length old ≡ places width height → cell.x < cells_along width → cell.y < cells_along height → length pixels ≡ 4096
+    → map (shade keeps) pixels ≡ map (shade format) pixels
+    → WritesRun start (start + length pixels) (λ k. get_or (map (shade keeps) pixels) (k - start) no_pixel) old new
+    → of_cells width height format new ≡ with_cell (of_cells width height format old) cell pixels
+cells_put_alike width height start cell format keeps pixels old new begins full on on' long alike run =
+    cells_put width height start cell format pixels old new begins full on on' long
+    (subst (λ (kept : List Pixel). WritesRun start (start + length pixels) (λ k. get_or kept (k - start) no_pixel) old new) alike run)
+
 pub cell_is_picture : (picture : Picture) (cell : Cell) (pixels : List Pixel) → IsPicture picture → IsPicture (with_cell picture cell pixels)
 unfolding with_cell
 cell_is_picture picture cell pixels shape =

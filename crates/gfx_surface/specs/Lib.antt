@@ -4,5 +4,6 @@ pub mod Rows
 pub mod Where
 pub mod Views
 pub mod Lending
+pub mod Kept
 pub mod Inside
 pub mod Codes

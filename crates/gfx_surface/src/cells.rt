@@ -21,7 +21,7 @@ pub struct Grid {
 pub fn cells_along(side: u16) -> usize
     ensures { result ≡ cells_along side }
 {
-    (usize::from(side) + 63) / 64
+    usize::from(gfx_base::cells_along(side))
 }
 
 /// Where the places of a cell begin.

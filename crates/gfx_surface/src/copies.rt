@@ -16,6 +16,30 @@ pub fn copy_run(from: &[Pixel], format: Format, pixels: &mut [Pixel], at: usize)
     copy_pixels(from, format, &mut pixels[at..at + from.len()]);
 }
 
+/// The same with 64 pixels, a whole row of a cell.
+// Inlined, with a length that is known: so each is a few moves of many pixels at a time.
+#[inline(always)]
+pub fn copy_whole_run(from: &[Pixel], format: Format, pixels: &mut [Pixel], at: usize)
+    requires whole { length from.now ≡ 64 }
+    requires within { at + 64 ≤ length pixels.old }
+    ensures { WritesRun at (at + length from.now)
+        (λ k. slice_index_or (map (shade format) from.now) (k - at) no_pixel) pixels.old pixels.new }
+{
+    keep_pixels(from, format, &mut pixels[at..at + 64]);
+}
+
+/// Makes pixels those of another slice, as this format keeps them, one by one.
+#[inline(always)]
+fn keep_pixels(from: &[Pixel], format: Format, pixels: &mut [Pixel])
+    requires { length pixels.old ≡ length from.now }
+    ensures { pixels.new ≡ map (shade format) from.now }
+{
+    match format {
+        Format::Argb => pixels.copy_from_slice(from),
+        Format::Xrgb => shade_pixels(from, pixels),
+    }
+}
+
 /// Makes pixels those of another slice, as this format keeps them.
 fn copy_pixels(from: &[Pixel], format: Format, pixels: &mut [Pixel])
     requires { length pixels.old ≡ length from.now }
@@ -59,6 +83,7 @@ fn is_opaque(pixel: Pixel) -> bool
 }
 
 /// Makes pixels those of another slice, without their alpha.
+#[inline(always)]
 fn shade_pixels(from: &[Pixel], pixels: &mut [Pixel])
     requires { length pixels.old ≡ length from.now }
     ensures { pixels.new ≡ map (shade Xrgb) from.now }

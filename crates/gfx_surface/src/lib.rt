@@ -9,7 +9,9 @@ mod colour;
 mod copies;
 mod crossing;
 mod filling;
+mod kept_cell;
 mod lending;
+mod log;
 mod moves;
 mod putting;
 mod raw;
@@ -18,6 +20,8 @@ mod rows;
 mod surface;
 mod views;
 
+pub use kept_cell::KeptCell;
+pub use log::CellLog;
 pub use surface::Surface;
 pub use views::{StripMut, TileMut};
 

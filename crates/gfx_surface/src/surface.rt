@@ -204,13 +204,43 @@ impl Surface {
         self.cells[place] = shaded(self.format, pixel);
     }
 
+    /// The 4,096 places of a cell, row by row in rows of 64.
+    pub(crate) fn cell(&self, cell: Cell) -> &[Pixel]
+        requires { LiesOn self.now cell }
+        ensures { IsCellOf self.now cell result.now }
+    {
+        let start = cell_start(self.width, cell);
+        &self.cells[start..start + CELL_PLACES]
+    }
+
     /// Gives a cell its 4,096 pixels, as the format keeps them.
     pub(crate) fn put_cell(&mut self, cell: Cell, pixels: &[Pixel])
         requires cell { LiesOn self.old cell }
         requires whole { length pixels.now ≡ 4096 }
         ensures { self.new ≡ with_cell self.old cell pixels.now }
     {
-        let (format, start) = (self.format, cell_start(self.width, cell));
+        let format = self.format();
+        self.put_cell_as(cell, format, pixels);
+    }
+
+    /// Gives a cell its 4,096 pixels, all of them opaque: they are moved as they are, for both formats.
+    pub(crate) fn put_opaque_cell(&mut self, cell: Cell, pixels: &[Pixel])
+        requires cell { LiesOn self.old cell }
+        requires whole { length pixels.now ≡ 4096 }
+        requires opaque { AreOpaque pixels.now }
+        ensures { self.new ≡ with_cell self.old cell pixels.now }
+    {
+        self.put_cell_as(cell, Format::Argb, pixels);
+    }
+
+    /// Gives a cell its 4,096 pixels, as this format keeps them. The surface's own keeps them alike.
+    fn put_cell_as(&mut self, cell: Cell, format: Format, pixels: &[Pixel])
+        requires cell { LiesOn self.old cell }
+        requires whole { length pixels.now ≡ 4096 }
+        requires alike { map (shade format) pixels.now ≡ map (shade self.old.format) pixels.now }
+        ensures { self.new ≡ with_cell self.old cell pixels.now }
+    {
+        let start = cell_start(self.width, cell);
         copy_run(pixels, format, &mut self.cells, start);
     }
 

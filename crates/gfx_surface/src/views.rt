@@ -4,7 +4,7 @@ ghost use Rattle.std.specs.Prelude.{◌≡◌, ◌≢◌, ◌≤◌, ◌<◌, �
 ghost use Rattle.std.specs.Borrow.{MutBor};
 ghost use Rattle.gfx_base.specs.declared.pixel.Pixel.{Pixel as AnyPixel};
 ghost use Rattle.gfx_base.specs.Cells.{cells_along};
-ghost use Rattle.gfx_surface.specs.Picture.{pixel_at};
+ghost use Rattle.gfx_surface.specs.Picture.{AreOpaque, pixel_at};
 ghost use Rattle.gfx_surface.specs.Lending.{PairReturns, SplitReturns};
 ghost use Rattle.gfx_surface.specs.Views.{LiesOn, IsInCell, IsCellOf, IsStripOf, part_of, with_cell, with_pixel};
 
@@ -154,6 +154,24 @@ impl<'a> StripMut<'a> {
             y: self.row,
         };
         self.surface.put_cell(cell, pixels);
+    }
+
+    /// Gives a cell its 4,096 pixels, all of them opaque, row by row in rows of 64; those beyond the surface are not
+    /// seen. They are moved as they are, for both formats.
+    pub fn put_opaque(&mut self, column: u16, pixels: &[Pixel])
+        requires column { column < cells_along self.old.surface.now.width }
+        requires row { self.old.row < cells_along self.old.surface.now.height }
+        requires whole { length pixels.now ≡ 4096 }
+        requires opaque { AreOpaque pixels.now }
+        ensures same { self.new.surface.ghost_name ≡ self.old.surface.ghost_name }
+        ensures row { self.new.row ≡ self.old.row }
+        ensures value { self.new.surface.now ≡ with_cell self.old.surface.now record { x = column; y = self.old.row } pixels.now }
+    {
+        let cell = Cell {
+            x: column,
+            y: self.row,
+        };
+        self.surface.put_opaque_cell(cell, pixels);
     }
 }
 

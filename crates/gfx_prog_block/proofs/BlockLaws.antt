@@ -1,5 +1,5 @@
 -- Blocks: what is spelled is read, and what is read is spelled so.
-use Rattle.std.proofs.Common.{◌≡◌, ℕ, zero, suc, ◌+◌, ◌≤◌, ◌<◌, ◌^◌, eqb, List, [], ◌∷◌, ◌++◌, length, Result, Ok, Err, refl, sym, ap, subst, ◌∙◌, length-append, arith, inl, inr}
+use Rattle.std.proofs.Common.{◌≡◌, ℕ, zero, suc, ◌+◌, ◌≤◌, ◌<◌, ◌^◌, true, false, eqb, List, [], ◌∷◌, ◌++◌, length, Result, Ok, Err, refl, sym, ap, subst, ◌∙◌, length-append, arith, inl, inr}
 use Rattle.std.proofs.lemmas.Bool.{eqb-true, cases_Bool}
 use Rattle.std.proofs.lemmas.List.{append-nil, nil_from_length}
 use Rattle.std.specs.List.{AllByRecursion}
@@ -25,12 +25,12 @@ use Rattle.gfx_prog_block.specs.declared.region.Region.{Region}
 use Rattle.gfx_prog_block.specs.declared.region.TheConstants.{TILE_SIZE}
 use Rattle.gfx_prog_block.specs.Kinds.{block_number, block_type_of}
 use Rattle.gfx_prog_block.specs.Layouts.{frame, sync, frame_begin, frame_end, context, region}
-use Rattle.gfx_prog_block.specs.Reading.{region_of, block_of, block_at, blocks_within, blocks_of, refused}
+use Rattle.gfx_prog_block.specs.Reading.{region_of, block_of, block_at, begins_block, blocks_within, blocks_of, refused}
 use Rattle.gfx_prog_block.specs.Fitting.{IsSpellable, Fits}
 use Rattle.gfx_prog_block.specs.Spelling.{framed, region_parts, region_body, region_measure, block_type, block_body, block_measure, block_text, sync_contents, spelling, Stands, Spells}
 use Rattle.gfx_prog_block.specs.Laws.{ReadIsSpelled, SpelledIsRead, WrittenIsSpelled, OneSpelling}
 use Rattle.gfx_prog_block.proofs.Frames.{read-framed, length-framed, IsFramed, read-is_framed, block_type_of-again, block_number-found, block_number-fits}
-use Rattle.gfx_prog_block.proofs.BlockLoops.{blocks-some, block_at-takes}
+use Rattle.gfx_prog_block.proofs.BlockLoops.{blocks-some, blocks_within-none, block_at-takes, block_begins, some_left}
 use Rattle.gfx_prog_block.proofs.TileLaws.{bytes_behind, bytes_framed}
 use Rattle.gfx_prog_block.proofs.RegionLaws.{context_of-text, IsContext, context_of-found, region_of-text, IsRegion, region_of-found}
 
@@ -242,6 +242,22 @@ refused-ok (Err stop) all e = absurd cc
 pub blocks_of-read : ReadIsSpelled
 unfolding blocks_of
 blocks_of-read bytes all are e = blocks_within-found (length bytes) bytes all are (omega arith) (refused-ok _ all e)
+
+-- where bytes are some blocks, one begins
+pub blocks_begin : (bytes : List ℕ) (all : List Block) → blocks_of bytes ≡ Ok all → eqb (length all) 0 ≡ false → begins_block bytes ≡ true
+unfolding blocks_of
+blocks_begin bytes all e some =
+    let found : blocks_within (length bytes) bytes ≡ Ok all = refused-ok _ all e in
+    elim (cases_Bool (eqb (length bytes) 0)) [
+      | inl none ↦
+          let given : ◌≡◌ {A = Result (List Block) Stop} (Ok []) (Ok all) = sym (blocks_within-none (length bytes) bytes (eqb-true _ _ none)) ∙ found in
+          let same : [] ≡ all = cc in
+          let any : eqb (length all) 0 ≡ true = ap (λ l. eqb (length l) 0) (sym same) in
+          absurd cc
+      | inr more ↦
+          let first = and_then_ok (block_at bytes) _ all (sym (blocks-some bytes (some_left bytes more)) ∙ found) in
+          block_begins bytes first.0 first.1
+    ]
 
 -- so of a call that gave what is due
 pub given-spells : (bytes : List ℕ) (given : Result (List Block) (Cause Refusal)) → IsBytes bytes → Gives (λ all. all) given (blocks_of bytes) → IfOk given (λ all. Spells bytes all × AllByRecursion Fits all)

@@ -3,6 +3,7 @@ use Rattle.std.proofs.Common.{◌≡◌, ℕ, zero, suc, ◌+◌, ◌≤◌, ◌
 use Rattle.std.proofs.lemmas.Bool.{eqb-true, cases_Bool, ne_eqb, eq-eqb}
 use Rattle.std.proofs.lemmas.List.{append-nil}
 use Rattle.std.specs.Option.{ok_or}
+use Rattle.std.specs.Result.{is_ok}
 use Rattle.gfx_base.specs.Results.{and_then}
 use Rattle.gfx_base.specs.declared.refusal.Refusal.TheVariants.{BlockUnknown}
 use Rattle.gfx_base.specs.declared.answer.Cause.{Cause}
@@ -14,7 +15,7 @@ use Rattle.gfx_layout.specs.Reading.{read}
 use Rattle.gfx_prog_block.specs.declared.block.Block.{Block}
 use Rattle.gfx_prog_block.specs.Kinds.{block_type_of}
 use Rattle.gfx_prog_block.specs.Layouts.{frame}
-use Rattle.gfx_prog_block.specs.Reading.{block_of, block_at, blocks_within}
+use Rattle.gfx_prog_block.specs.Reading.{block_of, block_at, kind_at, begins_block, blocks_within}
 use Rattle.gfx_prog_block.proofs.Frames.{read-frame-takes}
 
 positive : (n : ℕ) → eqb n 0 ≡ false → 0 < n
@@ -32,12 +33,20 @@ block_at-takes bytes found e =
     let same : framed.0.1 ≡ found.1 = cc in
     omega (arith, read-frame-takes bytes framed.0 framed.1, ap length same)
 
+-- where a block stands, one begins
+pub block_begins : (bytes : List ℕ) (found : Block × List ℕ) → block_at bytes ≡ Ok found → begins_block bytes ≡ true
+unfolding block_at begins_block kind_at
+block_begins bytes found e =
+    let framed = and_then_ok (read frame bytes) _ found e in
+    let kind = and_then_ok (ok_or (block_type_of framed.0.0.kind) (Rule BlockUnknown)) _ found framed.2 in
+    ap is_ok (and_then_at (read frame bytes) framed.0 (λ found. ok_or (block_type_of found.0.kind) (Rule BlockUnknown)) framed.1 ∙ kind.1)
+
 -- what the others are behind a first block
 behind : ℕ → Block × List ℕ → Result (List Block) Stop
 behind most first = and_then (blocks_within most first.1) (λ others. Ok (first.0 ∷ others))
 
 -- nothing is left
-blocks_within-none : (most : ℕ) (bytes : List ℕ) → length bytes ≡ 0 → blocks_within most bytes ≡ Ok []
+pub blocks_within-none : (most : ℕ) (bytes : List ℕ) → length bytes ≡ 0 → blocks_within most bytes ≡ Ok []
 unfolding blocks_within
 blocks_within-none zero bytes e = refl
 blocks_within-none (suc most) bytes e = let test : eqb (length bytes) 0 ≡ true = eq-eqb _ _ e in rw test refl
@@ -98,7 +107,7 @@ unfolding and_then
 shifted all block (Ok others) = ap (λ z. Ok z) (sym (append_assoc all (block ∷ []) others))
 shifted all block (Err stop) = refl
 
-some_left : (rest : List ℕ) → eqb (length rest) 0 ≡ false → 0 < length rest
+pub some_left : (rest : List ℕ) → eqb (length rest) 0 ≡ false → 0 < length rest
 some_left rest e = positive (length rest) e
 
 -- one more was read

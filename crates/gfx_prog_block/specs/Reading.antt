@@ -1,7 +1,8 @@
 -- The blocks that bytes are, and which fault is the first ([MS-RDPEGFX] 2.2.4.2; the faults and their order
 -- are this project's own).
-use Rattle.std.specs.Prelude.{ℕ, zero, suc, ◌==◌, not, List, [], ◌∷◌, length, if◌then◌else◌, Result, Ok, Err}
+use Rattle.std.specs.Prelude.{ℕ, Bool, zero, suc, ◌==◌, not, List, [], ◌∷◌, length, if◌then◌else◌, Result, Ok, Err}
 use Rattle.std.specs.Option.{ok_or}
+use Rattle.std.specs.Result.{is_ok}
 use Rattle.gfx_base.specs.Results.{◌>>=◌, check}
 use Rattle.gfx_base.specs.declared.refusal.Refusal.{Refusal}
 use Rattle.gfx_base.specs.declared.refusal.Refusal.TheVariants.{BlockLength, BlockUnknown, TileCount}
@@ -71,6 +72,16 @@ block_at bytes = do
   kind ← ok_or (block_type_of found.0.kind) (Rule BlockUnknown)
   block ← block_of kind found.0.body
   Ok (block, found.1)
+
+-- the type of the block at the front of bytes, by its frame alone
+unfoldable pub kind_at : List ℕ → Result BlockType Stop
+kind_at bytes = do
+  found ← read frame bytes
+  ok_or (block_type_of found.0.kind) (Rule BlockUnknown)
+
+-- a block begins at the front of bytes: its frame can be read, and its type is known, whatever its body holds
+unfoldable pub begins_block : List ℕ → Bool
+begins_block bytes = is_ok (kind_at bytes)
 
 -- the blocks that bytes are, of which there are no more than these
 unfoldable pub blocks_within : ℕ → List ℕ → Result (List Block) Stop

@@ -2,10 +2,10 @@
 
 ghost use Rattle.std.specs.Prelude.{length, IfOk};
 ghost use Rattle.std.specs.List.{AllByRecursion};
-ghost use Rattle.gfx_base.specs.Outcome.{Gives, Says};
+ghost use Rattle.gfx_base.specs.Outcome.{Gives, Says, WantsOnlyIf};
 ghost use Rattle.gfx_layout.specs.Reading.{read_whole};
 ghost use Rattle.gfx_prog_block.specs.Layouts.{sync, frame_begin, frame_end};
-ghost use Rattle.gfx_prog_block.specs.Reading.{block_of, block_at, blocks_within, blocks_of};
+ghost use Rattle.gfx_prog_block.specs.Reading.{block_of, block_at, begins_block, blocks_within, blocks_of};
 ghost use Rattle.gfx_prog_block.specs.Fitting.{Fits};
 ghost use Rattle.gfx_prog_block.specs.Spelling.{Spells};
 
@@ -65,9 +65,10 @@ fn read_body<'a>(alloc: Global, kind: BlockType, body: &'a [u8]) -> Result<Block
 }
 
 /// Reads the next block.
-#[tactic(auto, unfolding(crate::specs::Reading::block_at, gfx_base::specs::Results::and_then))]
+#[tactic(auto, unfolding(crate::specs::Reading::block_at, crate::specs::Reading::begins_block, crate::specs::Reading::kind_at, gfx_base::specs::Results::and_then))]
 fn read_block<'a>(alloc: Global, fields: &mut Fields<'a>) -> Result<Block<'a>, Cause<Stop>>
-    ensures { Gives (λ block. (block, fields.new)) result (block_at fields.old) }
+    ensures value { Gives (λ block. (block, fields.new)) result (block_at fields.old) }
+    ensures memory { WantsOnlyIf result (begins_block fields.old) }
 {
     let frame = read_frame(fields)?;
     let Some(kind) = BlockType::from_number(frame.kind) else {
@@ -79,7 +80,8 @@ fn read_block<'a>(alloc: Global, fields: &mut Fields<'a>) -> Result<Block<'a>, C
 /// Reads blocks to the end of the bytes.
 #[tactic(auto, using(crate::proofs::BlockLoops::block_loops))]
 fn read_all<'a>(alloc: Global, bytes: &'a [u8]) -> Result<Blocks<'a>, Cause<Stop>>
-    ensures { Gives (λ blocks. blocks) result (blocks_within (length bytes.now) bytes.now) }
+    ensures value { Gives (λ blocks. blocks) result (blocks_within (length bytes.now) bytes.now) }
+    ensures memory { WantsOnlyIf result (begins_block bytes.now) }
 {
     let mut blocks = Blocks::new(alloc);
     let mut fields = Fields::new(bytes);
@@ -93,7 +95,8 @@ fn read_all<'a>(alloc: Global, bytes: &'a [u8]) -> Result<Blocks<'a>, Cause<Stop
 /// Reads bytes that are blocks, as `read_blocks` does.
 #[tactic(auto, unfolding(crate::specs::Reading::blocks_of))]
 fn read_data<'a>(alloc: Global, bytes: &'a [u8]) -> Result<Blocks<'a>, Fault>
-    ensures { Gives (λ blocks. blocks) result (blocks_of bytes.now) }
+    ensures value { Gives (λ blocks. blocks) result (blocks_of bytes.now) }
+    ensures memory { WantsOnlyIf result (begins_block bytes.now) }
 {
     match read_all(alloc, bytes) {
         Ok(blocks) => Ok(blocks),
@@ -107,9 +110,10 @@ fn read_data<'a>(alloc: Global, bytes: &'a [u8]) -> Result<Blocks<'a>, Fault>
 /// are, and the blocks borrow them.
 ///
 /// Refusals are BlockLength, BlockUnknown and TileCount, by the first of the checks of `specs/Reading`
-/// that fails.
+/// that fails. Memory is wanted only where the first block's frame and type are accepted.
 pub fn read_blocks<'a>(alloc: Global, bytes: &'a [u8]) -> Result<Blocks<'a>, Fault>
     ensures value { Gives (λ blocks. blocks) result (blocks_of bytes.now) }
+    ensures memory { WantsOnlyIf result (begins_block bytes.now) }
     // What is read is spelled so, byte for byte but for what sync blocks hold, and all of it fits its field.
     ensures spelled { IfOk result (λ blocks. Spells bytes.now blocks × AllByRecursion Fits blocks) }
 {

@@ -4,6 +4,7 @@ mod Lent
 mod Begun
 mod Maps
 pub mod Pictures
+mod CellLemmas
 mod Undoing
 mod Areas
 mod Whole

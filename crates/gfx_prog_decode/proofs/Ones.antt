@@ -6,14 +6,13 @@ use Rattle.std.specs.FinMap.{get-empty, get-insert, get-retain_keys}
 use Rattle.std.specs.Ordering.{eq_by_cmp}
 use Rattle.gfx_base.specs.declared.refusal.Refusal.{Refusal}
 use Rattle.gfx_base.specs.declared.refusal.Refusal.TheVariants.{NoFirstPass, QuantRange, TransformChanged}
-use Rattle.gfx_base.specs.Results.{and_then, check}
+use Rattle.gfx_base.specs.Results.{check}
 use Rattle.gfx_base.proofs.ResultLemmas.{and_then_ok}
 use Rattle.gfx_bits.specs.Bits.{bits_of}
 use Rattle.gfx_dwt.specs.declared.layout.Transform.{Transform}
 use Rattle.gfx_dwt.specs.declared.layout.Transform.TheVariants.{Plain, Reduced}
 use Rattle.gfx_quant.specs.declared.quant.Component.{Component}
 use Rattle.gfx_quant.specs.declared.quant.Component.TheVariants.{Y, Cb, Cr}
-use Rattle.gfx_prog_block.specs.declared.area.Area.{Area}
 use Rattle.gfx_prog_block.specs.declared.block.Block.{Block}
 use Rattle.gfx_prog_block.specs.declared.block.Block.TheVariants as blocks
 use Rattle.gfx_prog_block.specs.declared.region.Region.{Region as RegionRead}
@@ -25,8 +24,8 @@ use Rattle.gfx_prog_block.specs.declared.tile.TileHead.{TileHead}
 use Rattle.gfx_prog_block.specs.declared.tile.UpgradePass.{UpgradePass}
 use Rattle.gfx_prog_block.specs.Reading.{blocks_of}
 use Rattle.gfx_tile_state.specs.declared.state.TileState.{TileState}
-use Rattle.gfx_tile_state.specs.Known.{Leaves, begun, raised}
-use Rattle.gfx_tile_state.specs.Making.{are_below, entries_of, first_part, may_upgrade, upgraded_part}
+use Rattle.gfx_tile_state.specs.Known.{begun, raised}
+use Rattle.gfx_tile_state.specs.Making.{entries_of, may_upgrade}
 use Rattle.gfx_tile_state.specs.Passes.{Part, summed}
 use Rattle.gfx_tile_state.specs.Record.{fits_transform, part_of}
 use Rattle.gfx_tile_state.proofs.KnownSigns.{first-made, upgrade-made}
@@ -38,7 +37,7 @@ use Rattle.gfx_prog_decode.specs.Passes.{improved, kept_of, may_start, part_impr
 use Rattle.gfx_prog_decode.specs.Progressive.{after_block, after_first, after_message, after_region, after_tile, after_upgrade, found, is_difference, key_of, with_tile}
 use Rattle.gfx_prog_decode.specs.Records.{Records, key_cmp}
 use Rattle.gfx_prog_decode.specs.Scene.{Scene, in_turn}
-use Rattle.gfx_prog_decode.proofs.Keys.{key_same, key_total, tied}
+use Rattle.gfx_prog_decode.proofs.Keys.{key_same, key_total}
 
 -- ---- steps that gave something
 

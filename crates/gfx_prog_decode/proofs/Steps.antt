@@ -1,9 +1,10 @@
 -- Steps over a list, one after another, and the answers of calls.
-use Rattle.std.proofs.Common.{◌≡◌, ◌∙◌, ap, sym, refl, subst, ℕ, ◌<◌, ◌≤◌, ◌+◌, List, drop, length, get_or, Result, Ok, Err, Option, Some, None}
+use Rattle.std.proofs.Common.{◌≡◌, ◌∙◌, ap, sym, refl, subst, true, eqb, ℕ, ◌<◌, ◌≤◌, ◌+◌, List, drop, length, get_or, Result, Ok, Err, Option, Some, None}
 use Rattle.std.specs.Prelude.{IfSome, OnErr}
 use Rattle.std.specs.FinMap.{get, insert, len}
 use Rattle.std.specs.Option.{ok_or}
-use Rattle.std.proofs.lemmas.List.{drop_more, drop_all}
+use Rattle.std.proofs.lemmas.Bool.{eqb-true}
+use Rattle.std.proofs.lemmas.List.{drop_more, drop_all, nil_from_length}
 use Rattle.gfx_base.specs.Outcome.{Applies, Gives}
 use Rattle.gfx_base.specs.Results.{and_then, check}
 use Rattle.gfx_base.specs.declared.answer.Cause.{Cause}
@@ -22,7 +23,6 @@ use Rattle.gfx_prog_block.specs.Reading.{blocks_of}
 use Rattle.gfx_tile_state.specs.declared.state.TileState.{TileState}
 use Rattle.gfx_prog_decode.specs.declared.key.Key.{Key}
 use Rattle.gfx_prog_decode.specs.declared.key.Place.{Place}
-use Rattle.gfx_prog_decode.specs.declared.saved.Saved.{Saved}
 use Rattle.gfx_prog_decode.specs.Coding.{Coding, are_bases, coding_of}
 use Rattle.gfx_prog_decode.specs.Inside.{Begins, Passes, Starts, improved_in}
 use Rattle.gfx_prog_decode.specs.Passes.{improved, may_start, start_of, started}
@@ -30,9 +30,9 @@ use Rattle.gfx_prog_decode.specs.Progressive.{after_block, after_first, after_me
 use Rattle.gfx_prog_decode.specs.Records.{Records}
 use Rattle.gfx_prog_decode.specs.Scene.{Scene, in_turn, scene}
 use Rattle.gfx_prog_decode.specs.Showing.{shown_in}
-use Rattle.gfx_prog_decode.specs.Undo.{IsUndoable, Keeps, StaysUndoable, undone}
+use Rattle.gfx_prog_decode.specs.Undo.{Keeps, Kept, StaysUndoable, nothing, undone}
 use Rattle.gfx_prog_decode.proofs.Keys.{get-inserted}
-use Rattle.gfx_prog_decode.proofs.Undoing.{only_insert, only_self, only_shown}
+use Rattle.gfx_prog_decode.proofs.Undoing.{is_back, none_kept, only_insert, only_self, only_shown}
 
 -- ---- a loop over a list
 
@@ -67,16 +67,16 @@ module _ {X : Type 0} (step : X → Scene → Result Scene Refusal) where
 -- ---- what can still be undone
 
 -- step after step
-pub still : (one two three : List Saved) (a b c : Scene) → StaysUndoable one a two b → StaysUndoable two b three c → StaysUndoable one a three c
+pub still : (one two three : Kept) (a b c : Scene) → StaysUndoable one a two b → StaysUndoable two b three c → StaysUndoable one a three c
 still one two three a b c first then before u = then before (first before u)
 
 -- ---- the whole message
 
 -- a message that is refused, or for which memory is wanting, is undone
-pub undone_applies : (fault : Cause Refusal) (due : Result Scene Refusal) (old now new : Scene) (log : List Saved)
-    → Gives {X = Unit {0}} (λ _. now) (Err fault) due → IsUndoable old log now → new ≡ undone log now → Applies (Err fault) old new due
-undone_applies Memory due old now new log told u is = is ∙ u.back
-undone_applies (Refused refusal) due old now new log told u is = (told, is ∙ u.back)
+pub undone_applies : (fault : Cause Refusal) (due : Result Scene Refusal) (old now new : Scene) (empty log : Kept) → empty ≡ nothing
+    → Gives {X = Unit {0}} (λ _. now) (Err fault) due → StaysUndoable empty old log now → new ≡ undone log now → Applies (Err fault) old new due
+undone_applies Memory due old now new empty log none told stays is = is ∙ is_back old log now (stays old (none_kept empty old none))
+undone_applies (Refused refusal) due old now new empty log none told stays is = (told, is ∙ is_back old log now (stays old (none_kept empty old none)))
 
 -- ---- a pass of a key's record
 
@@ -191,7 +191,7 @@ module _ (place : Place) (region : RegionRead) (head : TileHead) (quality : ℕ)
 -- ---- what a tile leaves can be undone
 
 -- whatever came of its pass
-pub pass_undone : (key : Key) (records begun after : Records) (result : Result (Unit {0}) Refusal) (due : Result TileState Refusal) (picture : Picture) (log more : List Saved)
+pub pass_undone : (key : Key) (records begun after : Records) (result : Result (Unit {0}) Refusal) (due : Result TileState Refusal) (picture : Picture) (log more : Kept)
     → IsPicture picture → ((tile : TileState) → insert begun key tile ≡ insert records key tile)
     → Passes result due key begun after → Keeps key (scene records picture) log more → StaysUndoable log (scene records picture) more (scene after picture)
 pass_undone key records begun after result due picture log more shape same (next, says, left) keeps =
@@ -199,7 +199,7 @@ pass_undone key records begun after result due picture log more shape same (next
     (keeps (scene (insert records key next) picture) (only_insert key records next picture shape))
 
 -- and once it is drawn
-pub shown_undone : (key : Key) (records after : Records) (tile : TileState) (old new : Picture) (areas : List Area) (log more : List Saved)
+pub shown_undone : (key : Key) (records after : Records) (tile : TileState) (old new : Picture) (areas : List Area) (log more : Kept)
     → after ≡ insert records key tile → new ≡ shown_in old key areas tile
     → Keeps key (scene records old) log more → StaysUndoable log (scene records old) more (scene after new)
 shown_undone key records after tile old new areas log more left drawn keeps =
@@ -208,14 +208,14 @@ shown_undone key records after tile old new areas log more left drawn keeps =
 
 -- a record that was begun
 pub begun_undone : (key : Key) (records begun after : Records) (result : Result (Unit {0}) Refusal) (due : TileState → Result TileState Refusal) (picture : Picture)
-    (log more : List Saved) → IsPicture picture → Begins key records begun → IfSome (get begun key) (λ tile. Passes result (due tile) key begun after)
+    (log more : Kept) → IsPicture picture → Begins key records begun → IfSome (get begun key) (λ tile. Passes result (due tile) key begun after)
     → Keeps key (scene records picture) log more → StaysUndoable log (scene records picture) more (scene after picture)
 begun_undone key records begun after result due picture log more shape begins passes keeps =
     pass_undone key records begun after result (due (start_of (get records key))) picture log more shape begins.same
     (of_found key begun after (get begun key) (start_of (get records key)) result due begins.stands passes) keeps
 
 -- a record that took a pass and was drawn
-pub started_shown : (key : Key) (records after : Records) (due : Result TileState Refusal) (old new : Picture) (areas : List Area) (log more : List Saved)
+pub started_shown : (key : Key) (records after : Records) (due : Result TileState Refusal) (old new : Picture) (areas : List Area) (log more : Kept)
     → Starts (Ok tt) due key records after → IfSome (get after key) (λ t. new ≡ shown_in old key areas t)
     → Keeps key (scene records old) log more → StaysUndoable log (scene records old) more (scene after new)
 started_shown key records after due old new areas log more (next, is, left) shown keeps =
@@ -227,7 +227,7 @@ where_err (Ok x) P holds = tt
 where_err (Err e) P holds = holds
 
 -- nothing was done yet
-pub self_undone : (key : Key) (records after : Records) (picture : Picture) (log more : List Saved) → IsPicture picture → after ≡ records
+pub self_undone : (key : Key) (records after : Records) (picture : Picture) (log more : Kept) → IsPicture picture → after ≡ records
     → Keeps key (scene records picture) log more → StaysUndoable log (scene records picture) more (scene after picture)
 self_undone key records after picture log more shape same keeps =
     subst (λ r. StaysUndoable log (scene records picture) more (scene r picture)) (sym same) (keeps (scene records picture) (only_self key (scene records picture) shape))
@@ -253,6 +253,13 @@ pub data_unread : (place : Place) (bytes : List ℕ) (fault : Cause Refusal) (bl
 unfolding after_message
 data_unread place bytes Memory blocks old new is told same = same
 data_unread place bytes (Refused refusal) blocks old new is told same = (and_then_refused (blocks_of bytes) refusal _ (is ∙ told), same)
+
+pub data_empty : (place : Place) (bytes : List ℕ) (all : List Block) (old : Scene) → blocks_of bytes ≡ Ok all → eqb (length all) 0 ≡ true
+    → after_message place bytes old ≡ Ok old
+unfolding after_message in_turn
+data_empty place bytes all old is none =
+    and_then_at (blocks_of bytes) all (λ all. in_turn (after_block place) all old) is
+    ∙ ap (λ l. in_turn (after_block place) l old) (nil_from_length all (eqb-true (length all) 0 none))
 
 pub data_read : (place : Place) (bytes : List ℕ) (all : List Block) (result : Result (Unit {0}) (Cause Refusal)) (old new : Scene) → blocks_of bytes ≡ Ok all
     → Applies result old new (in_turn (after_block place) all old) → Applies result old new (after_message place bytes old)

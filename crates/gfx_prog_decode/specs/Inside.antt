@@ -1,5 +1,5 @@
 -- How records are kept, and what the calls between them hand on.
-use Rattle.std.specs.Prelude.{◌≡◌, ◌<◌, ℕ, ◌+◌, ◌-◌, ◌*◌, ◌==◌, min, max, nat_le, Bool, ◌&&◌, IsTrue, if◌then◌else◌, List, Option, Some, Result, Ok, Err, slice_get}
+use Rattle.std.specs.Prelude.{◌≡◌, ◌<◌, ℕ, ◌+◌, ◌-◌, ◌*◌, min, max, nat_le, Bool, ◌&&◌, IsTrue, if◌then◌else◌, List, Option, Some, Result, Ok, Err, slice_get}
 use Rattle.std.specs.FinMap as finmap
 use Rattle.std.specs.FinMap.{from_entries}
 use Rattle.std.specs.List.{list_any}
@@ -11,7 +11,7 @@ use Rattle.gfx_base.specs.declared.geometry.Rect.{Rect}
 use Rattle.gfx_base.specs.declared.pixel.Pixel.{Pixel}
 use Rattle.gfx_base.specs.declared.refusal.Refusal.{Refusal}
 use Rattle.gfx_base.specs.declared.refusal.Refusal.TheVariants.{NoFirstPass}
-use Rattle.gfx_base.specs.Geometry.{holds, height_of, width_of}
+use Rattle.gfx_base.specs.Geometry.{holds}
 use Rattle.gfx_base.specs.Outcome.{Says}
 use Rattle.gfx_base.specs.Results.{◌>>=◌}
 use Rattle.gfx_prog_block.specs.declared.area.Area.{Area}
@@ -78,9 +78,9 @@ has_all cell area =
     nat_le area.x cell.left && nat_le cell.right (min (area.x + area.width) 65535)
     && nat_le area.y cell.top && nat_le cell.bottom (min (area.y + area.height) 65535)
 
--- a cell has all pixels of a tile, and one of these areas all of the cell
-abbrev pub is_whole : Rect → List Area → Bool
-is_whole cell areas = (width_of cell == 64) && (height_of cell == 64) && list_any (has_all cell) areas
+-- one of these areas has all of a cell
+abbrev pub is_in_one : Rect → List Area → Bool
+is_in_one cell areas = list_any (has_all cell) areas
 
 -- a surface of one tile
 pub record IsCanvas (picture : Picture) : Type 0 where

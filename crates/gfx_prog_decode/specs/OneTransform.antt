@@ -1,8 +1,7 @@
 -- Records of which each component's passes have the record's transform ([MS-RDPEGFX] 3.2.8; this project's own words).
-use Rattle.std.specs.Prelude.{◌≡◌, ◌<◌, ℕ, List, Bool, Option, Some}
+use Rattle.std.specs.Prelude.{◌≡◌, Some}
 use Rattle.std.specs.FinMap as finmap
 use Rattle.gfx_dwt.specs.declared.layout.Transform.{Transform}
-use Rattle.gfx_quant.specs.declared.quant.Component.{Component}
 use Rattle.gfx_tile_state.specs.declared.state.TileState.{TileState}
 use Rattle.gfx_tile_state.specs.Known.{History, Leaves}
 use Rattle.gfx_tile_state.specs.Passes.{Part}

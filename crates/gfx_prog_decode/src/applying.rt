@@ -1,13 +1,14 @@
 //! The data of a message, applied block after block. Where a step gives no answer, the caller undoes the message.
-ghost use Rattle.std.specs.Prelude.{◌≡◌, [], IfSome, IsTrue};
+ghost use Rattle.std.specs.Prelude.{◌≡◌, IfSome, IsTrue};
 ghost use Rattle.std.specs.FinMap as finmap;
-ghost use Rattle.gfx_base.specs.Outcome.{Applies, Gives};
+ghost use Rattle.gfx_base.specs.Outcome.{Applies, Gives, WantsOnlyIf};
+ghost use Rattle.gfx_prog_block.specs.Reading.{begins_block};
 ghost use Rattle.gfx_prog_decode.specs.Coding.{are_bases, begins_in};
 ghost use Rattle.gfx_prog_decode.specs.Inside.{IsCanvas};
 ghost use Rattle.gfx_prog_decode.specs.Progressive.{after_block, after_first, after_message, after_region, after_tile, after_upgrade};
 ghost use Rattle.gfx_prog_decode.specs.Scene.{in_turn, scene};
 ghost use Rattle.gfx_prog_decode.specs.Showing.{shown_in};
-ghost use Rattle.gfx_prog_decode.specs.Undo.{StaysUndoable};
+ghost use Rattle.gfx_prog_decode.specs.Undo.{StaysUndoable, kept, nothing};
 
 use crate::canvas::Canvas;
 use crate::coding::{check_bases, shape_of};
@@ -26,7 +27,8 @@ use gfx_prog_block::{
 use gfx_surface::Surface;
 use std::alloc::Global;
 
-/// Applies the data of a message. Any fault leaves records and surface as they were.
+/// Applies the data of a message. Any fault leaves records and surface as they were. Memory is wanted only where the first
+/// block's frame and type are accepted.
 pub(crate) fn apply_data(
     alloc: Global,
     records: &mut Records,
@@ -34,9 +36,13 @@ pub(crate) fn apply_data(
     place: Place,
     bytes: &[u8],
 ) -> Result<(), Fault>
-    ensures { Applies result (scene records.old surface.old) (scene records.new surface.new) (after_message place bytes.now (scene records.old surface.old)) }
+    ensures value { Applies result (scene records.old surface.old) (scene records.new surface.new) (after_message place bytes.now (scene records.old surface.old)) }
+    ensures memory { WantsOnlyIf result (begins_block bytes.now) }
 {
     let blocks = read_blocks(alloc, bytes)?;
+    if blocks.is_empty() {
+        return Ok(());
+    }
     let mut canvas = Canvas::new(alloc)?;
     apply_all(
         alloc,
@@ -77,7 +83,7 @@ fn apply_whole(
     blocks: &[Block<'_>],
 ) -> Result<(), Fault>
     requires canvas { IsCanvas canvas.old }
-    requires empty { log.old.cells.items ≡ [] }
+    requires empty { kept log.old ≡ nothing }
     ensures { Applies result (scene records.old surface.old) (scene records.new surface.new) (in_turn (after_block place) blocks.now (scene records.old surface.old)) }
 {
     match apply_blocks(alloc, records, surface, canvas, log, place, blocks) {
@@ -101,7 +107,7 @@ fn apply_blocks(
 ) -> Result<(), Fault>
     requires { IsCanvas canvas.old }
     ensures gives { Gives (λ _. scene records.new surface.new) result (in_turn (after_block place) blocks.now (scene records.old surface.old)) }
-    ensures undo { StaysUndoable log.old.cells.items (scene records.old surface.old) log.new.cells.items (scene records.new surface.new) }
+    ensures undo { StaysUndoable (kept log.old) (scene records.old surface.old) (kept log.new) (scene records.new surface.new) }
 {
     'all: for block in blocks {
         apply_block(alloc, records, surface, canvas, log, place, block)?;
@@ -121,7 +127,7 @@ fn apply_block(
 ) -> Result<(), Fault>
     requires { IsCanvas canvas.old }
     ensures gives { Gives (λ _. scene records.new surface.new) result (after_block place block.now (scene records.old surface.old)) }
-    ensures undo { StaysUndoable log.old.cells.items (scene records.old surface.old) log.new.cells.items (scene records.new surface.new) }
+    ensures undo { StaysUndoable (kept log.old) (scene records.old surface.old) (kept log.new) (scene records.new surface.new) }
     ensures canvas { IsCanvas canvas.new }
 {
     match block {
@@ -142,7 +148,7 @@ fn apply_region(
 ) -> Result<(), Fault>
     requires { IsCanvas canvas.old }
     ensures gives { Gives (λ _. scene records.new surface.new) result (after_region place region.now (scene records.old surface.old)) }
-    ensures undo { StaysUndoable log.old.cells.items (scene records.old surface.old) log.new.cells.items (scene records.new surface.new) }
+    ensures undo { StaysUndoable (kept log.old) (scene records.old surface.old) (kept log.new) (scene records.new surface.new) }
     ensures canvas { IsCanvas canvas.new }
 {
     check_bases(region.quants.as_slice())?;
@@ -172,7 +178,7 @@ fn apply_tiles(
     requires canvas { IsCanvas canvas.old }
     requires bases { IsTrue (are_bases region.now.quants) }
     ensures gives { Gives (λ _. scene records.new surface.new) result (in_turn (after_tile place region.now) tiles.now (scene records.old surface.old)) }
-    ensures undo { StaysUndoable log.old.cells.items (scene records.old surface.old) log.new.cells.items (scene records.new surface.new) }
+    ensures undo { StaysUndoable (kept log.old) (scene records.old surface.old) (kept log.new) (scene records.new surface.new) }
     ensures canvas { IsCanvas canvas.new }
 {
     'tiles: for tile in tiles {
@@ -195,7 +201,7 @@ fn apply_tile(
     requires canvas { IsCanvas canvas.old }
     requires bases { IsTrue (are_bases region.now.quants) }
     ensures gives { Gives (λ _. scene records.new surface.new) result (after_tile place region.now tile.now (scene records.old surface.old)) }
-    ensures undo { StaysUndoable log.old.cells.items (scene records.old surface.old) log.new.cells.items (scene records.new surface.new) }
+    ensures undo { StaysUndoable (kept log.old) (scene records.old surface.old) (kept log.new) (scene records.new surface.new) }
     ensures canvas { IsCanvas canvas.new }
 {
     match tile {
@@ -237,7 +243,7 @@ fn apply_first(
     requires canvas { IsCanvas canvas.old }
     requires bases { IsTrue (are_bases region.now.quants) }
     ensures gives { Gives (λ _. scene records.new surface.new) result (after_first place region.now head.now flags quality pass.now (scene records.old surface.old)) }
-    ensures undo { StaysUndoable log.old.cells.items (scene records.old surface.old) log.new.cells.items (scene records.new surface.new) }
+    ensures undo { StaysUndoable (kept log.old) (scene records.old surface.old) (kept log.new) (scene records.new surface.new) }
     ensures canvas { IsCanvas canvas.new }
 {
     let shape = shape_of(region, surface.size(), head, quality)?;
@@ -273,7 +279,7 @@ fn apply_upgrade(
     requires canvas { IsCanvas canvas.old }
     requires bases { IsTrue (are_bases region.now.quants) }
     ensures gives { Gives (λ _. scene records.new surface.new) result (after_upgrade place region.now head.now quality pass.now (scene records.old surface.old)) }
-    ensures undo { StaysUndoable log.old.cells.items (scene records.old surface.old) log.new.cells.items (scene records.new surface.new) }
+    ensures undo { StaysUndoable (kept log.old) (scene records.old surface.old) (kept log.new) (scene records.new surface.new) }
     ensures canvas { IsCanvas canvas.new }
 {
     let shape = shape_of(region, surface.size(), head, quality)?;

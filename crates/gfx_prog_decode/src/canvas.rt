@@ -2,14 +2,11 @@
 ghost use Rattle.std.specs.Prelude.{IfOk};
 ghost use Rattle.gfx_prog_decode.specs.Inside.{IsCanvas};
 
-use gfx_base::{Format, NoMemory, Pixel};
+use gfx_base::{CELL_SIDE, Format, NoMemory, Pixel};
 use gfx_surface::Surface;
 use gfx_tile_state::Scratch;
 use std::alloc::Global;
 use std::marker::Model;
-
-/// The side of a tile.
-pub(crate) const SIDE: u16 = 64;
 
 /// A surface of one tile, from which tiles are drawn, and what they are read and drawn in: one for a message.
 /// Contracts see the surface's picture; of what else stands in it nothing is said between two tiles.
@@ -34,7 +31,7 @@ impl Canvas {
         ensures { IfOk result IsCanvas }
     {
         Ok(Canvas {
-            surface: Surface::new(alloc, SIDE, SIDE, Format::Argb)?,
+            surface: Surface::new(alloc, CELL_SIDE, CELL_SIDE, Format::Argb)?,
             pixels: [Pixel::default(); 4096],
             scratch: Scratch::new(),
         })

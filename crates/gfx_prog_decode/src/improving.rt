@@ -6,7 +6,8 @@ ghost use Rattle.gfx_base.specs.Outcome.{Says};
 ghost use Rattle.gfx_prog_decode.specs.Coding.{begins_in};
 ghost use Rattle.gfx_prog_decode.specs.Inside.{Starts, coding_seen, improved_in};
 ghost use Rattle.gfx_prog_decode.specs.Scene.{scene};
-ghost use Rattle.gfx_prog_decode.specs.Undo.{Keeps, StaysUndoable};
+ghost use Rattle.gfx_prog_decode.specs.Undo.{Keeps, StaysUndoable, kept};
+ghost use Rattle.gfx_surface.specs.Picture.{IsPicture};
 
 use crate::key::Key;
 use crate::log::{Log, exchange};
@@ -29,10 +30,11 @@ pub(crate) fn improve(
     pass: &UpgradePass<'_>,
     scratch: &mut Scratch,
 ) -> Result<(), Fault>
-    requires { IsTrue (begins_in surface.now.width surface.now.height key.x key.y) }
+    requires shape { IsPicture surface.now }
+    requires begins { IsTrue (begins_in surface.now.width surface.now.height key.x key.y) }
     ensures starts { Starts result (improved_in (coding_seen shape.now) pass.now (finmap.get records.old key)) key records.old records.new }
-    ensures keeps { OnOk result (Keeps key (scene records.old surface.now) log.old.cells.items log.new.cells.items) }
-    ensures undo { OnErr result (StaysUndoable log.old.cells.items (scene records.old surface.now) log.new.cells.items (scene records.new surface.now)) }
+    ensures keeps { OnOk result (Keeps key (scene records.old surface.now) (kept log.old) (kept log.new)) }
+    ensures undo { OnErr result (StaysUndoable (kept log.old) (scene records.old surface.now) (kept log.new) (scene records.new surface.now)) }
 {
     let mut tile = log.tile(alloc)?;
     improve_found(&mut tile, records.get(key), shape, pass, scratch)?;

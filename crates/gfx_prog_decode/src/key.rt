@@ -1,7 +1,9 @@
 //! Where a record belongs.
 ghost use Rattle.std.specs.Prelude.{◌≡◌};
+ghost use Rattle.gfx_base.specs.Cells.{cell};
 ghost use Rattle.gfx_prog_decode.specs.Progressive.{key_of};
 
+use gfx_base::Cell;
 use gfx_prog_block::TileHead;
 
 /// A surface and an encoding context ([MS-RDPEGFX] 2.2.2.2, surfaceId and codecContextId).
@@ -30,6 +32,18 @@ impl Place {
             context: self.context,
             x: head.x_idx,
             y: head.y_idx,
+        }
+    }
+}
+
+impl Key {
+    /// The key's cell of its surface.
+    pub(crate) fn cell(self) -> Cell
+        ensures { result ≡ cell self.x self.y }
+    {
+        Cell {
+            x: self.x,
+            y: self.y,
         }
     }
 }

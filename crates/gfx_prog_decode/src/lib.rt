@@ -18,6 +18,7 @@ mod saved;
 mod showing;
 mod spare;
 mod starting;
+mod tile_log;
 
 pub use key::{Key, Place};
 pub use laws::one_transform;

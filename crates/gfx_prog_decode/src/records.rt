@@ -2,13 +2,14 @@ ghost use Rattle.std.specs.Prelude.{◌≡◌, [], ◌==◌, ◌&&◌, not, IfOk
 ghost use Rattle.std.specs.FinMap as finmap;
 ghost use Rattle.std.specs.Option.{option_copied, option_copied_mut};
 ghost use Rattle.std.specs.Borrow.{sem};
-ghost use Rattle.gfx_base.specs.Outcome.{Applies};
+ghost use Rattle.gfx_base.specs.Outcome.{Applies, WantsOnlyIf};
+ghost use Rattle.gfx_prog_block.specs.Reading.{begins_block};
 ghost use Rattle.gfx_prog_decode.specs.Inside.{Begins};
 ghost use Rattle.gfx_prog_decode.specs.Lending.{LendsFrom};
 ghost use Rattle.gfx_prog_decode.specs.Progressive.{after_message};
 ghost use Rattle.gfx_prog_decode.specs.Records.{without_context, without_surface};
 ghost use Rattle.gfx_prog_decode.specs.Scene.{scene};
-ghost use Rattle.gfx_prog_decode.specs.Undo.{HasPlace, records_back};
+ghost use Rattle.gfx_prog_decode.specs.Undo.{HasPlace, kept, nothing, records_back};
 
 use crate::applying::apply_data;
 use crate::key::{Key, Place};
@@ -26,7 +27,7 @@ use std::mem;
 #[derive(Drop)]
 pub struct Records {
     tiles: IndexMap<Key, TileState>,
-    /// Between messages it has no cells, only memory for them.
+    /// Between messages nothing is kept in it but memory.
     log: Log,
 }
 
@@ -62,7 +63,8 @@ impl Records {
 
     /// Applies the data of a message for a surface, which has this id, in an encoding context ([MS-RDPEGFX]
     /// 2.2.2.2, RDPGFX_WIRE_TO_SURFACE_PDU_2 of codec 9). First all structure is checked, then regions and their
-    /// tiles are applied in their order. Any fault leaves records and surface as they were.
+    /// tiles are applied in their order. Any fault leaves records and surface as they were. Memory is wanted only where the
+    /// first block's frame and type are accepted.
     pub fn apply(
         &mut self,
         alloc: Global,
@@ -71,8 +73,9 @@ impl Records {
         context: u32,
         bytes: &[u8],
     ) -> Result<(), Fault>
-        ensures { Applies result (scene self.old surface.old) (scene self.new surface.new)
+        ensures value { Applies result (scene self.old surface.old) (scene self.new surface.new)
             (after_message (record { surface = id; context = context }) bytes.now (scene self.old surface.old)) }
+        ensures memory { WantsOnlyIf result (begins_block bytes.now) }
     {
         let place = Place {
             surface: id,
@@ -103,13 +106,13 @@ impl Records {
         );
     }
 
-    /// A log without cells, in the memory of messages before. It takes none itself.
+    /// A log that keeps nothing, in the memory of messages before. It takes none itself.
     pub(crate) fn take_log(&mut self, alloc: Global) -> Log
-        ensures empty { result.cells.items ≡ [] }
+        ensures empty { kept result ≡ nothing }
         ensures same { self.new ≡ self.old }
     {
         let mut log = mem::replace(&mut self.log, Log::new(alloc));
-        log.cells.clear();
+        log.spend();
         log
     }
 

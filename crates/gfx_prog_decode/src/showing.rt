@@ -1,15 +1,17 @@
 //! Tiles, drawn on a surface.
 ghost use Rattle.std.specs.Prelude.{◌≡◌, ◌≤◌, ◌+◌, IsTrue};
-ghost use Rattle.std.specs.List.{list_any};
+ghost use Rattle.gfx_base.specs.Cells.{cell};
 ghost use Rattle.gfx_base.specs.Geometry.{lies_in};
 ghost use Rattle.gfx_prog_decode.specs.Coding.{begins_in};
 ghost use Rattle.gfx_prog_decode.specs.Showing.{cell_in, shown_in};
-ghost use Rattle.gfx_prog_decode.specs.Inside.{ArePixels, IsCanvas, area_shown, areas_shown, has_all, is_whole, overlap};
+ghost use Rattle.gfx_prog_decode.specs.Inside.{ArePixels, IsCanvas, area_shown, areas_shown, has_all, is_in_one, overlap};
+ghost use Rattle.gfx_surface.specs.Picture.{AreOpaque};
+ghost use Rattle.gfx_surface.specs.Views.{with_cell};
 ghost use Rattle.gfx_tile_state.specs.declared.state.TileState.{TileState as Record};
 
-use crate::canvas::{Canvas, SIDE};
+use crate::canvas::Canvas;
 use crate::key::Key;
-use gfx_base::{Pixel, Point, Rect};
+use gfx_base::{CELL_SIDE, Pixel, Point, Rect};
 use gfx_prog_block::Area;
 use gfx_surface::Surface;
 use gfx_tile_state::TileState;
@@ -21,12 +23,12 @@ pub(crate) fn cell_in(size: (u16, u16), key: Key) -> Rect
     ensures inside { IsTrue (lies_in size.0 size.1 result) }
 {
     let (width, height) = size;
-    let (left, top) = (SIDE * key.x, SIDE * key.y);
+    let (left, top) = (CELL_SIDE * key.x, CELL_SIDE * key.y);
     Rect {
         left,
         top,
-        right: left.saturating_add(SIDE).min(width),
-        bottom: top.saturating_add(SIDE).min(height),
+        right: left.saturating_add(CELL_SIDE).min(width),
+        bottom: top.saturating_add(CELL_SIDE).min(height),
     }
 }
 
@@ -47,7 +49,8 @@ pub(crate) fn show(
     show_pixels(&canvas.pixels, &mut canvas.surface, surface, key, areas);
 }
 
-/// Draws the pixels of a tile where these rectangles have a key's cell: by way of a canvas, if none has all of it.
+/// Draws the pixels of a tile where these rectangles have a key's cell: all of them at once where one has all that lies on
+/// the surface, and else by way of a canvas.
 fn show_pixels(
     pixels: &[Pixel; 4096],
     canvas: &mut Surface,
@@ -61,25 +64,26 @@ fn show_pixels(
     ensures shown { (tile : Record) → ArePixels tile pixels.now → surface.new ≡ shown_in surface.old key areas.now tile }
     ensures canvas { IsCanvas canvas.new }
 {
-    let cell = cell_in(surface.size(), key);
-    if is_whole(cell, areas) {
-        surface.put_opaque(cell, pixels);
+    if is_in_one(cell_in(surface.size(), key), areas) {
+        put_tile(pixels, surface, key);
         return;
     }
-    canvas.put(Rect::sized(SIDE, SIDE), pixels);
+    canvas.put(Rect::sized(CELL_SIDE, CELL_SIDE), pixels);
     show_areas(canvas, surface, key, areas);
 }
 
-/// Whether a cell has all pixels of a tile, and one of these areas all of the cell.
-fn is_whole(cell: Rect, areas: &[Area]) -> bool
-    ensures { result ≡ is_whole cell areas.now }
+/// Puts the pixels of a tile into a key's cell, as far as it lies on the surface.
+fn put_tile(pixels: &[Pixel; 4096], surface: &mut Surface, key: Key)
+    requires begins { IsTrue (begins_in surface.old.width surface.old.height key.x key.y) }
+    requires opaque { AreOpaque pixels.now }
+    ensures { surface.new ≡ with_cell surface.old (cell key.x key.y) pixels.now }
 {
-    cell.width() == SIDE && cell.height() == SIDE && is_in_one(cell, areas)
+    surface.strip_mut(key.y).put_opaque(key.x, pixels);
 }
 
-/// Whether one of these areas has all of a cell.
+/// Whether one of these areas has all that lies on the surface of a cell.
 fn is_in_one(cell: Rect, areas: &[Area]) -> bool
-    ensures { result ≡ list_any (has_all cell) areas.now }
+    ensures { result ≡ is_in_one cell areas.now }
 {
     areas.iter().any(|area| has_all(cell, area))
 }

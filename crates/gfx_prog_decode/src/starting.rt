@@ -5,7 +5,7 @@ ghost use Rattle.gfx_prog_decode.specs.Coding.{begins_in};
 ghost use Rattle.gfx_prog_decode.specs.Inside.{Passes, Starts, coding_seen};
 ghost use Rattle.gfx_prog_decode.specs.Passes.{start_of, started};
 ghost use Rattle.gfx_prog_decode.specs.Scene.{scene};
-ghost use Rattle.gfx_prog_decode.specs.Undo.{Keeps, StaysUndoable};
+ghost use Rattle.gfx_prog_decode.specs.Undo.{Keeps, StaysUndoable, kept};
 ghost use Rattle.gfx_surface.specs.Picture.{IsPicture};
 ghost use Rattle.gfx_tile_state.specs.Record.{fits_transform};
 
@@ -35,8 +35,8 @@ pub(crate) fn start(
     requires begins { IsTrue (begins_in surface.now.width surface.now.height key.x key.y) }
     requires fits { difference ≡ true → fits_transform (start_of (finmap.get records.old key)).transform shape.now.transform ≡ true }
     ensures starts { Starts result (started difference (coding_seen shape.now) pass.now (start_of (finmap.get records.old key))) key records.old records.new }
-    ensures keeps { OnOk result (Keeps key (scene records.old surface.now) log.old.cells.items log.new.cells.items) }
-    ensures undo { OnErr result (StaysUndoable log.old.cells.items (scene records.old surface.now) log.new.cells.items (scene records.new surface.now)) }
+    ensures keeps { OnOk result (Keeps key (scene records.old surface.now) (kept log.old) (kept log.new)) }
+    ensures undo { OnErr result (StaysUndoable (kept log.old) (scene records.old surface.now) (kept log.new) (scene records.new surface.now)) }
 {
     if difference {
         start_over(alloc, log, records, surface, key, shape, pass, scratch)
@@ -60,8 +60,8 @@ fn start_over(
     requires begins { IsTrue (begins_in surface.now.width surface.now.height key.x key.y) }
     requires fits { IsTrue (fits_transform (start_of (finmap.get records.old key)).transform shape.now.transform) }
     ensures starts { Starts result (started true (coding_seen shape.now) pass.now (start_of (finmap.get records.old key))) key records.old records.new }
-    ensures keeps { OnOk result (Keeps key (scene records.old surface.now) log.old.cells.items log.new.cells.items) }
-    ensures undo { OnErr result (StaysUndoable log.old.cells.items (scene records.old surface.now) log.new.cells.items (scene records.new surface.now)) }
+    ensures keeps { OnOk result (Keeps key (scene records.old surface.now) (kept log.old) (kept log.new)) }
+    ensures undo { OnErr result (StaysUndoable (kept log.old) (scene records.old surface.now) (kept log.new) (scene records.new surface.now)) }
 {
     keep(alloc, log, records, surface, key)?;
     records.begin(alloc, key)?;
@@ -80,10 +80,11 @@ fn start_anew(
     pass: &FirstPass<'_>,
     scratch: &mut Scratch,
 ) -> Result<(), Fault>
-    requires { IsTrue (begins_in surface.now.width surface.now.height key.x key.y) }
+    requires shape { IsPicture surface.now }
+    requires begins { IsTrue (begins_in surface.now.width surface.now.height key.x key.y) }
     ensures starts { Starts result (started false (coding_seen shape.now) pass.now (start_of (finmap.get records.old key))) key records.old records.new }
-    ensures keeps { OnOk result (Keeps key (scene records.old surface.now) log.old.cells.items log.new.cells.items) }
-    ensures undo { OnErr result (StaysUndoable log.old.cells.items (scene records.old surface.now) log.new.cells.items (scene records.new surface.now)) }
+    ensures keeps { OnOk result (Keeps key (scene records.old surface.now) (kept log.old) (kept log.new)) }
+    ensures undo { OnErr result (StaysUndoable (kept log.old) (scene records.old surface.now) (kept log.new) (scene records.new surface.now)) }
 {
     let mut tile = log.tile(alloc)?;
     start_tile(&mut tile, false, shape, pass, scratch)?;

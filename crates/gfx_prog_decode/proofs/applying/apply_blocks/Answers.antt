@@ -2,6 +2,7 @@ use Rattle.std.proofs.Common.{arith}
 use Rattle.std.proofs.lemmas.Result.{err_from_is_err_and}
 use Rattle.gfx_prog_decode.specs.Progressive.{after_block}
 use Rattle.gfx_prog_decode.specs.Scene.{scene}
+use Rattle.gfx_prog_decode.specs.Undo.{kept}
 use Rattle.gfx_prog_decode.proofs.Steps.{so_ended, so_failed, so_more, still}
 use Rattle.gfx_prog_decode.proofs.applying.apply_blocks.Goals as goal
 
@@ -13,14 +14,14 @@ returns-in_err-apply_block-clause-gives c =
 
 pub returns-in_err-apply_block-clause-undo : goal.returns-in_err-apply_block-clause-undo
 returns-in_err-apply_block-clause-undo c =
-    still c.args.log.now.cells.items c.all.log.cells.items c.apply_block.new.log.cells.items (scene c.args.records.now c.args.surface.now) (scene c.all.records c.all.surface)
+    still (kept c.args.log.now) (kept c.all.log) (kept c.apply_block.new.log) (scene c.args.records.now c.args.surface.now) (scene c.all.records c.all.surface)
     (scene c.apply_block.new.records c.apply_block.new.surface) c.all.invariant.undo c.apply_block.ensures.undo
 
 pub all-preserved : goal.all-preserved
 all-preserved c = record {
   so = so_more (after_block c.args.place) c.args.blocks.now (scene c.args.records.now c.args.surface.now) (scene c.all.records c.all.surface)
       (scene c.apply_block.new.records c.apply_block.new.surface) c.all.block-index _ (omega (arith, c.all-test.true)) (rw c.block-item.is at c.in_ok-apply_block.ensures.gives) c.all.invariant.so;
-  undo = still c.args.log.now.cells.items c.all.log.cells.items c.apply_block.new.log.cells.items (scene c.args.records.now c.args.surface.now) (scene c.all.records c.all.surface)
+  undo = still (kept c.args.log.now) (kept c.all.log) (kept c.apply_block.new.log) (scene c.args.records.now c.args.surface.now) (scene c.all.records c.all.surface)
       (scene c.apply_block.new.records c.apply_block.new.surface) c.all.invariant.undo c.apply_block.ensures.undo;
   drawing = c.apply_block.ensures.canvas;
 }

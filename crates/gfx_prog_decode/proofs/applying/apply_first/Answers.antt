@@ -4,6 +4,7 @@ use Rattle.std.specs.FinMap.{get}
 use Rattle.gfx_prog_decode.specs.Inside.{coding_seen}
 use Rattle.gfx_prog_decode.specs.Progressive.{is_difference}
 use Rattle.gfx_prog_decode.specs.Scene.{scene}
+use Rattle.gfx_prog_decode.specs.Undo.{kept}
 use Rattle.gfx_prog_decode.proofs.Steps.{first_done, first_failed, first_uncoded, first_unstarted, started_shown}
 use Rattle.gfx_prog_decode.proofs.Tiles.{begun_alike}
 use Rattle.gfx_prog_decode.proofs.applying.apply_first.Goals as goal
@@ -43,4 +44,4 @@ returns-clause-gives c =
 pub returns-clause-undo : goal.returns-clause-undo
 returns-clause-undo c =
     started_shown c.key-key.result c.args.records.now c.start.new.records _ c.args.surface.now c.show_record.new.surface c.as_slice.result.now
-    c.args.log.now.cells.items c.start.new.log.cells.items c.in_ok-start.ensures.starts c.show_record.ensures.shown c.in_ok-start.ensures.keeps
+    (kept c.args.log.now) (kept c.start.new.log) c.in_ok-start.ensures.starts c.show_record.ensures.shown c.in_ok-start.ensures.keeps

@@ -1,6 +1,7 @@
 use Rattle.std.proofs.lemmas.Result.{err_from_is_err_and}
 use Rattle.gfx_prog_decode.specs.Inside.{coding_seen}
 use Rattle.gfx_prog_decode.specs.Scene.{scene}
+use Rattle.gfx_prog_decode.specs.Undo.{kept}
 use Rattle.gfx_prog_decode.proofs.Steps.{started_shown, upgrade_done, upgrade_failed, upgrade_uncoded}
 use Rattle.gfx_prog_decode.proofs.applying.apply_upgrade.Goals as goal
 
@@ -26,4 +27,4 @@ returns-clause-gives c =
 pub returns-clause-undo : goal.returns-clause-undo
 returns-clause-undo c =
     started_shown c.key-key.result c.args.records.now c.improve.new.records _ c.args.surface.now c.show_record.new.surface c.as_slice.result.now
-    c.args.log.now.cells.items c.improve.new.log.cells.items c.in_ok-improve.ensures.starts c.show_record.ensures.shown c.in_ok-improve.ensures.keeps
+    (kept c.args.log.now) (kept c.improve.new.log) c.in_ok-improve.ensures.starts c.show_record.ensures.shown c.in_ok-improve.ensures.keeps

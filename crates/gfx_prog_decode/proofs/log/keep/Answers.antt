@@ -1,13 +1,16 @@
 use Rattle.gfx_prog_decode.specs.Scene.{scene}
-use Rattle.gfx_prog_decode.proofs.Undoing.{keeps_found, keeps_pushed}
+use Rattle.gfx_prog_decode.specs.Undo.{Kept, kept}
+use Rattle.gfx_prog_decode.proofs.Steps.{where_err}
+use Rattle.gfx_prog_decode.proofs.Undoing.{keeps_both, stays_recorded}
 use Rattle.gfx_prog_decode.proofs.log.keep.Goals as goal
 
-pub returns-in_ok-push-clause-ok : goal.returns-in_ok-push-clause-ok
-returns-in_ok-push-clause-ok c =
-    keeps_pushed c.args.key c.in_ok-saved.saved (scene c.args.records.now c.args.surface.now) c.args.log.now.cells.items c.push.new.self.items
-    c.in_ok-push.ensures.items c.size-size.ensures.shape c.requires c.in_ok-saved.ensures
+pub returns-clause-ok : goal.returns-clause-ok
+returns-clause-ok c =
+    let more : Kept = record { cells = c.keep-2.new.self.cells.items; tiles = c.keep.new.self.tiles.items } in
+    keeps_both c.args.key (scene c.args.records.now c.args.surface.now) (kept c.args.log.now) more c.in_ok-keep.ensures.ok (rw c.cell.ensures at c.in_ok-keep-2.ensures.ok)
 
-pub returns-else-not-is_kept-clause-ok : goal.returns-else-not-is_kept-clause-ok
-returns-else-not-is_kept-clause-ok c =
-    keeps_found c.args.key (scene c.args.records.now c.args.surface.now) c.args.log.now.cells.items c.deref.result.now c.size-size.result c.is_kept.result
-    c.size-size.ensures.size c.deref.ensures.value c.is_kept.ensures c.if-not-is_kept.false
+pub returns-in_err-keep-2-clause-err : goal.returns-in_err-keep-2-clause-err
+returns-in_err-keep-2-clause-err c =
+    let more : Kept = record { cells = c.keep-2.new.self.cells.items; tiles = c.keep.new.self.tiles.items } in
+    where_err c.from_residual-in_err-keep-2.result _
+    (stays_recorded c.args.key (scene c.args.records.now c.args.surface.now) (kept c.args.log.now) more c.in_ok-keep.ensures.ok c.in_err-keep-2.ensures.err)

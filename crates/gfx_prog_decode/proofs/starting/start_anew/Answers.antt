@@ -4,6 +4,10 @@ use Rattle.std.specs.FinMap.{get}
 use Rattle.gfx_prog_decode.specs.Inside.{coding_seen}
 use Rattle.gfx_prog_decode.specs.Passes.{start_of}
 use Rattle.gfx_prog_decode.proofs.Tiles.{started_anew}
+use Rattle.gfx_prog_decode.specs.Scene.{scene}
+use Rattle.gfx_prog_decode.specs.Undo.{kept}
+use Rattle.gfx_prog_decode.proofs.Steps.{where_err}
+use Rattle.gfx_prog_decode.proofs.Undoing.{keeps_from, stays_from, stays_same}
 use Rattle.gfx_prog_decode.proofs.starting.start_anew.Goals as goal
 
 pub returns-in_err-start_tile-clause-starts : goal.returns-in_err-start_tile-clause-starts
@@ -19,4 +23,19 @@ returns-clause-starts c = (
 )
 
 pub returns-clause-keeps : goal.returns-clause-keeps
-returns-clause-keeps c = rw c.tile.ensures at c.in_ok-exchange.ensures.keeps
+returns-clause-keeps c =
+    keeps_from c.args.key (scene c.args.records.now c.args.surface.now) (kept c.args.log.now) (kept c.tile.new.self) (kept c.exchange.new.log) c.tile.ensures c.in_ok-exchange.ensures.keeps
+
+pub returns-in_err-tile-clause-undo : goal.returns-in_err-tile-clause-undo
+returns-in_err-tile-clause-undo c =
+    where_err c.from_residual.result _ (stays_same (kept c.args.log.now) (kept c.tile.new.self) (scene c.args.records.now c.args.surface.now) c.tile.ensures)
+
+pub returns-in_err-start_tile-clause-undo : goal.returns-in_err-start_tile-clause-undo
+returns-in_err-start_tile-clause-undo c =
+    where_err c.from_residual-in_err-start_tile.result _ (stays_same (kept c.args.log.now) (kept c.tile.new.self) (scene c.args.records.now c.args.surface.now) c.tile.ensures)
+
+pub returns-in_err-exchange-clause-undo : goal.returns-in_err-exchange-clause-undo
+returns-in_err-exchange-clause-undo c =
+    where_err c.from_residual-in_err-exchange.result _
+    (stays_from (kept c.args.log.now) (kept c.tile.new.self) (kept c.exchange.new.log) (scene c.args.records.now c.args.surface.now) (scene c.exchange.new.records c.args.surface.now)
+    c.tile.ensures c.in_err-exchange.ensures.undo)

@@ -3,7 +3,6 @@ use Rattle.std.proofs.Common.{◌≡◌, ◌∙◌, ap, sym, refl, subst, cond, 
 use Rattle.std.specs.Prelude.{IfSome}
 use Rattle.std.specs.FinMap.{empty, get, get-empty, get-insert, get-remove, get-retain_keys, remove, retain_keys}
 use Rattle.std.specs.Ordering.{eq_by_cmp}
-use Rattle.gfx_base.specs.Cells.{cell}
 use Rattle.gfx_prog_decode.specs.declared.key.Key.{Key}
 use Rattle.gfx_prog_decode.specs.Records.{key_cmp}
 use Rattle.gfx_prog_decode.proofs.Keys.{key_same, key_total, tied}
@@ -40,11 +39,11 @@ removed_in_place live gone placed key =
 -- those with one that was sent
 pub kept_in_place : (id : ℕ) (live : Live) (send : TileSend) → AreInPlace live → AreInPlace (with_live id live send)
 kept_in_place id live send placed key =
-    subst (λ o. IfSome o (IsInPlace key)) (sym (get-insert key_total live (cell_key id (cell send.x send.y)) send key))
-    (by (eq_by_cmp key_cmp key (cell_key id (cell send.x send.y))) refl)
+    subst (λ o. IfSome o (IsInPlace key)) (sym (get-insert key_total live (cell_key id send.cell) send key))
+    (by (eq_by_cmp key_cmp key (cell_key id send.cell)) refl)
   where
-    by : (b : Bool) → eq_by_cmp key_cmp key (cell_key id (cell send.x send.y)) ≡ b → IfSome (cond b (Some send) (get live key)) (IsInPlace key)
+    by : (b : Bool) → eq_by_cmp key_cmp key (cell_key id send.cell) ≡ b → IfSome (cond b (Some send) (get live key)) (IsInPlace key)
     by true ties =
-        let same : key ≡ cell_key id (cell send.x send.y) = tied key (cell_key id (cell send.x send.y)) ties in
-        same ∙ ap (λ (n : ℕ). cell_key n (cell send.x send.y)) (sym (ap (λ (k : Key). k.surface) same))
+        let same : key ≡ cell_key id send.cell = tied key (cell_key id send.cell) ties in
+        same ∙ ap (λ (n : ℕ). cell_key n send.cell) (sym (ap (λ (k : Key). k.surface) same))
     by false ties = placed key

@@ -111,12 +111,12 @@ send_is_over script live id picture rect c = refl
 pub sent_made : (script : Script) (before : Option TileSend) (drawing : Picture) (rect cut : Rect) (c : Cell) (pixels : List Pixel) (setting : Setting) (made gone : Source)
     → cut ≡ cut_to_cell rect c → pixels ≡ cell_pixels drawing rect c → setting ≡ script.setting → made ≡ source_of setting pixels
     → gone ≡ gone_on script.differences before made
-    → ◌≡◌ {A = TileSend} (record { x = c.x; y = c.y; rect = cut; tile = gone; level = 0 }) (sent_over script before drawing rect c)
+    → ◌≡◌ {A = TileSend} (record { cell = c; rect = cut; tile = gone; level = 0 }) (sent_over script before drawing rect c)
 unfolding sent_over
 sent_made script before drawing rect cut c pixels setting made gone part drawn by from on =
     let source : made ≡ source_of script.setting (cell_pixels drawing rect c) = from ∙ (λ i. source_of (by i) (drawn i)) in
     let tile : gone ≡ gone_on script.differences before (source_of script.setting (cell_pixels drawing rect c)) = on ∙ ap (gone_on script.differences before) source in
-    λ i. record { x = c.x; y = c.y; rect = part i; tile = tile i; level = 0 }
+    λ i. record { cell = c; rect = part i; tile = tile i; level = 0 }
 
 -- one cell more
 pub one_sent : (script : Script) (live : Live) (id : ℕ) (drawing : Picture) (rect : Rect) (cells : List Cell) (place : ℕ) (c : Cell) (before : Option TileSend) (send : TileSend)

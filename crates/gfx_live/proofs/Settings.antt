@@ -7,7 +7,7 @@ use Rattle.std.specs.Option.{option_and_then}
 use Rattle.std.specs.Ordering.{eq_by_cmp}
 use Rattle.gfx_base.specs.declared.geometry.Cell.{Cell}
 use Rattle.gfx_base.specs.declared.geometry.Rect.{Rect}
-use Rattle.gfx_base.specs.Cells.{cell, cells_met}
+use Rattle.gfx_base.specs.Cells.{cells_met}
 use Rattle.gfx_quant.specs.declared.setting.Setting.{Setting}
 use Rattle.gfx_prog_decode.specs.declared.key.Key.{Key}
 use Rattle.gfx_prog_decode.specs.Records.{key_cmp}
@@ -45,8 +45,8 @@ without_surface_by setting live id = retained_by setting live (λ key. not (key.
 -- those with one that was sent
 with_by : (setting : Setting) (id : ℕ) (live : Live) (send : TileSend) → IsBy setting send → AreBy setting live → AreBy setting (with_live id live send)
 with_by setting id live send is are key =
-    subst (λ o. IfSome o (IsBy setting)) (sym (get-insert key_total live (cell_key id (cell send.x send.y)) send key))
-    (by (eq_by_cmp key_cmp key (cell_key id (cell send.x send.y))))
+    subst (λ o. IfSome o (IsBy setting)) (sym (get-insert key_total live (cell_key id send.cell) send key))
+    (by (eq_by_cmp key_cmp key (cell_key id send.cell)))
   where
     by : (b : Bool) → IfSome (cond b (Some send) (get live key)) (IsBy setting)
     by true = is

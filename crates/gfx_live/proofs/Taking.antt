@@ -152,27 +152,27 @@ alike_after : (id : ℕ) (sends : List TileSend) (a b : Live) (q : Key) → get 
 alike_after id [] a b q same = same
 alike_after id (send ∷ sends) a b q same =
     alike_after id sends (with_live id a send) (with_live id b send) q
-    (get-insert key_total a (cell_key id (cell send.x send.y)) send q
-    ∙ ap (cond (eq_by_cmp key_cmp q (cell_key id (cell send.x send.y))) (Some send)) same
-    ∙ sym (get-insert key_total b (cell_key id (cell send.x send.y)) send q))
+    (get-insert key_total a (cell_key id send.cell) send q
+    ∙ ap (cond (eq_by_cmp key_cmp q (cell_key id send.cell)) (Some send)) same
+    ∙ sym (get-insert key_total b (cell_key id send.cell) send q))
 
 -- put back at its key, a tile that was taken out is where it was
 put_back : (id : ℕ) (send : TileSend) (sends : List TileSend) (old live : Live) → after_sends id sends live ≡ after_sends id sends old
-    → after_sends id (sends ++ send ∷ []) (remove live (cell_key id (cell send.x send.y))) ≡ after_sends id (sends ++ send ∷ []) old
+    → after_sends id (sends ++ send ∷ []) (remove live (cell_key id send.cell)) ≡ after_sends id (sends ++ send ∷ []) old
 put_back id send sends old live back =
-    fold-append (with_live id) (remove live (cell_key id (cell send.x send.y))) sends (send ∷ [])
+    fold-append (with_live id) (remove live (cell_key id send.cell)) sends (send ∷ [])
     ∙ same_map key_total key_same _ _ (λ q.
-    get-insert key_total (after_sends id sends (remove live (cell_key id (cell send.x send.y)))) (cell_key id (cell send.x send.y)) send q
-    ∙ by q (eq_by_cmp key_cmp q (cell_key id (cell send.x send.y))) refl
-    ∙ sym (get-insert key_total (after_sends id sends old) (cell_key id (cell send.x send.y)) send q))
+    get-insert key_total (after_sends id sends (remove live (cell_key id send.cell))) (cell_key id send.cell) send q
+    ∙ by q (eq_by_cmp key_cmp q (cell_key id send.cell)) refl
+    ∙ sym (get-insert key_total (after_sends id sends old) (cell_key id send.cell) send q))
     ∙ sym (fold-append (with_live id) old sends (send ∷ []))
   where
-    by : (q : Key) (b : Bool) → eq_by_cmp key_cmp q (cell_key id (cell send.x send.y)) ≡ b
-        → cond b (Some send) (get (after_sends id sends (remove live (cell_key id (cell send.x send.y)))) q) ≡ cond b (Some send) (get (after_sends id sends old) q)
+    by : (q : Key) (b : Bool) → eq_by_cmp key_cmp q (cell_key id send.cell) ≡ b
+        → cond b (Some send) (get (after_sends id sends (remove live (cell_key id send.cell))) q) ≡ cond b (Some send) (get (after_sends id sends old) q)
     by q true ties = refl
     by q false ties =
-        alike_after id sends (remove live (cell_key id (cell send.x send.y))) live q
-        (get-remove key_total live (cell_key id (cell send.x send.y)) q ∙ ap (λ b. cond b None (get live q)) ties)
+        alike_after id sends (remove live (cell_key id send.cell)) live q
+        (get-remove key_total live (cell_key id send.cell) q ∙ ap (λ b. cond b None (get live q)) ties)
         ∙ ap (λ m. get m q) back
 
 -- no key stands at two places
@@ -197,7 +197,7 @@ one_taken id rect cells old live new sends more place c send are within at is le
     let from : ComesOf (get live (cell_key id c)) send = comes_of _ send is in
     let raise : IsRaisedFrom from.old send = raised_from from.old send from.raises in
     let here : IsInPlace (cell_key id c) from.old = subst (λ o. IfSome o (IsInPlace (cell_key id c))) from.is (before.placed (cell_key id c)) in
-    let key : cell_key id c ≡ cell_key id (cell send.x send.y) = here ∙ ap (λ (s : TileSend). cell_key id (cell s.x s.y)) (sym raise.is) in
+    let key : cell_key id c ≡ cell_key id send.cell = here ∙ ap (λ (s : TileSend). cell_key id s.cell) (sym raise.is) in
     let there : key_at id cells place ≡ cell_key id c = ap (cell_key id) (sym at) in
     let sent : improved id old (get_or cells place (cell 0 0)) ≡ Some send =
     ap (option_and_then raised) (sym (before.rest place (omega arith) within)) ∙ ap (improved id live) (sym at) ∙ sym is in

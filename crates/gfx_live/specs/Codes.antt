@@ -13,6 +13,7 @@ use Rattle.gfx_quant.specs.Quant.{are_nibbles}
 use Rattle.gfx_tile_make.specs.Source.{Planes, Source}
 use Rattle.gfx_prog_decode.specs.Codes.{transform_code}
 use Rattle.gfx_prog_decode.specs.Records.{key_code}
+use Rattle.gfx_base.specs.Cells.{cell}
 use Rattle.gfx_prog_encode.specs.declared.send.TileSend.{TileSend}
 use Rattle.gfx_live.specs.Live.{Live, Passes}
 
@@ -54,8 +55,8 @@ source_code =
 abbrev send_code : Coded TileSend
 send_code =
     code_by (ℕ × (ℕ × (Rect × (Source × ℕ)))) (coded× coded_ℕ (coded× coded_ℕ (coded× rect_code (coded× source_code coded_ℕ))))
-    (λ s. (s.x, (s.y, (s.rect, (s.tile, s.level)))))
-    (λ t. record { x = t.0; y = t.1.0; rect = t.1.1.0; tile = t.1.1.1.0; level = t.1.1.1.1 }) (λ _. refl)
+    (λ s. (s.cell.x, (s.cell.y, (s.rect, (s.tile, s.level)))))
+    (λ t. record { cell = cell t.0 t.1.0; rect = t.1.1.0; tile = t.1.1.1.0; level = t.1.1.1.1 }) (λ _. refl)
 
 abbrev pub live_code : Coded Live
 live_code = finmap.code key_code send_code

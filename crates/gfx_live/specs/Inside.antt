@@ -5,7 +5,7 @@ use Rattle.std.specs.FinMap.{from_entries}
 use Rattle.std.specs.List.{slice_get}
 use Rattle.gfx_base.specs.declared.geometry.Cell.{Cell}
 use Rattle.gfx_base.specs.declared.geometry.Rect.{Rect}
-use Rattle.gfx_base.specs.Cells.{cell, cut_to_cell}
+use Rattle.gfx_base.specs.Cells.{cut_to_cell}
 use Rattle.gfx_quant.specs.declared.setting.Setting.{Setting}
 use Rattle.gfx_prog_decode.specs.declared.key.Key.{Key}
 use Rattle.gfx_prog_encode.specs.declared.send.TileSend.{TileSend}
@@ -23,7 +23,7 @@ live_of a = from_entries a.tiles.entries
 
 -- a tile stands at the key of its cell
 abbrev pub IsInPlace : Key → TileSend → Type 0
-IsInPlace key send = key ≡ cell_key key.surface (cell send.x send.y)
+IsInPlace key send = key ≡ cell_key key.surface send.cell
 
 -- so does each live tile
 abbrev pub AreInPlace : Live → Type 0
@@ -48,8 +48,7 @@ OfPicture script picture P = (drawing : Picture) → slice_get script.pictures p
 -- what is sent of a cell, by what was live there before
 unfoldable pub sent_over : Script → Option TileSend → Picture → Rect → Cell → TileSend
 sent_over script before picture rect cell = record {
-  x = cell.x;
-  y = cell.y;
+  cell = cell;
   rect = cut_to_cell rect cell;
   tile = gone_on script.differences before (source_of script.setting (cell_pixels picture rect cell));
   level = 0;

@@ -40,8 +40,7 @@ at_start = record { live = finmap.empty; next = 0 }
 -- the tile of a cell, in the part of a picture's rectangle that lies in it, at the first level
 unfoldable pub send_of : Script → Live → ℕ → Picture → Rect → Cell → TileSend
 send_of script live id picture rect cell = record {
-  x = cell.x;
-  y = cell.y;
+  cell = cell;
   rect = cut_to_cell rect cell;
   tile = gone_on script.differences (finmap.get live (cell_key id cell)) (source_of script.setting (cell_pixels picture rect cell));
   level = 0;
@@ -64,7 +63,7 @@ improved_sends live id width height =
 
 -- a tile that was sent is live
 abbrev pub with_live : ℕ → Live → TileSend → Live
-with_live id live send = finmap.insert live (cell_key id (cell send.x send.y)) send
+with_live id live send = finmap.insert live (cell_key id send.cell) send
 
 abbrev pub after_sends : ℕ → List TileSend → Live → Live
 after_sends id sends live = fold (with_live id) live sends

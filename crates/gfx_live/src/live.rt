@@ -82,11 +82,7 @@ impl LiveTiles {
     fn keep(&mut self, id: u16, send: TileSend) -> Result<(), NoMemory>
         ensures { OnOk result (self.new ≡ with_live id self.old send) }
     {
-        let cell = Cell {
-            x: send.x,
-            y: send.y,
-        };
-        self.tiles.insert(cell_key(id, cell), send)?;
+        self.tiles.insert(cell_key(id, send.cell), send)?;
         Ok(())
     }
 

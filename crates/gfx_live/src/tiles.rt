@@ -62,8 +62,7 @@ fn send_over(
     let mut tile = SourceTile::from_pixels(alloc, &pixels, script.setting())?;
     go_on(&mut tile, script, before);
     Ok(TileSend {
-        x: cell.x,
-        y: cell.y,
+        cell,
         rect: rect.cut_to(cell),
         tile,
         level: 0,

@@ -76,10 +76,10 @@ ApartBy column row [] = Unit {0}
 ApartBy column row (x ∷ xs) = AllByRecursion (DifferBy column row x) xs × ApartBy column row xs
 
 abbrev pub Differ : TileSend → TileSend → Type 0
-Differ one other = DifferBy (λ (send : TileSend). send.x) (λ (send : TileSend). send.y) one other
+Differ one other = DifferBy (λ (send : TileSend). send.cell.x) (λ (send : TileSend). send.cell.y) one other
 
 abbrev pub Apart : List TileSend → Type 0
-Apart sends = ApartBy (λ (send : TileSend). send.x) (λ (send : TileSend). send.y) sends
+Apart sends = ApartBy (λ (send : TileSend). send.cell.x) (λ (send : TileSend). send.cell.y) sends
 
 abbrev pub CellsApart : List Cell → Type 0
 CellsApart cells = ApartBy (λ (c : Cell). c.x) (λ (c : Cell). c.y) cells
@@ -95,7 +95,7 @@ apart-drop (suc n) [] apart = tt
 apart-drop (suc n) (send ∷ sends) apart = apart-drop n sends apart.1
 
 -- tiles of cells, each of its own
-module _ (g : Cell → Option TileSend) (own : (c : Cell) (send : TileSend) → g c ≡ Some send → (send.x ≡ c.x) × (send.y ≡ c.y)) where
+module _ (g : Cell → Option TileSend) (own : (c : Cell) (send : TileSend) → g c ≡ Some send → (send.cell.x ≡ c.x) × (send.cell.y ≡ c.y)) where
   abbrev Other : Cell → Cell → Type 0
   Other c d = DifferBy (λ (c : Cell). c.x) (λ (c : Cell). c.y) c d
 

@@ -1,6 +1,7 @@
 -- What a painted tile goes on.
 use Rattle.std.proofs.Common.{◌≡◌, ◌∙◌, ℕ, Bool, true, false, ◌&&◌, ◌==◌, if◌then◌else◌, true≢false, List, length, Option, Some, None, refl, sym, ap, eqb-true}
 use Rattle.gfx_base.specs.declared.pixel.Pixel.{Pixel}
+use Rattle.gfx_base.specs.declared.geometry.Cell.{Cell}
 use Rattle.gfx_base.specs.declared.geometry.Rect.{Rect}
 use Rattle.gfx_dwt.specs.declared.layout.Transform.{Transform}
 use Rattle.gfx_dwt.specs.declared.layout.Transform.TheVariants.{Plain, Reduced}
@@ -54,17 +55,17 @@ plain-of setting pixels Cb = refl
 plain-of setting pixels Cr = refl
 
 -- a tile of pixels goes on nothing
-pub plain-goes : (x y : ℕ) (rect : Rect) (setting : Setting) (pixels : List Pixel) (before : Option TileState) → GoesOn before (record { x = x; y = y; rect = rect; tile = source_of setting pixels; level = 0 })
-plain-goes x y rect setting pixels before = record {
+pub plain-goes : (c : Cell) (rect : Rect) (setting : Setting) (pixels : List Pixel) (before : Option TileState) → GoesOn before (record { cell = c; rect = rect; tile = source_of setting pixels; level = 0 })
+plain-goes c rect setting pixels before = record {
   transform = λ e. absurd (true≢false (sym e));
   kept = λ component. sym (plain-kept (source_of setting pixels) component 0 (plain-of setting pixels component));
 }
 
 -- a difference tile on the record of the last level
-pub difference-goes : (x y : ℕ) (rect : Rect) (tile : Source) (old : TileSend) (before : Option TileState) → MayBeSent old.tile → old.tile.setting ≡ tile.setting
+pub difference-goes : (c : Cell) (rect : Rect) (tile : Source) (old : TileSend) (before : Option TileState) → MayBeSent old.tile → old.tile.setting ≡ tile.setting
     → old.level ≡ length old.tile.setting.levels → before ≡ Some (tile_at old.tile old.level)
-    → GoesOn before (record { x = x; y = y; rect = rect; tile = difference_of tile old.tile; level = 0 })
-difference-goes x y rect tile old before may coded last e = record {
+    → GoesOn before (record { cell = c; rect = rect; tile = difference_of tile old.tile; level = 0 })
+difference-goes c rect tile old before may coded last e = record {
   transform = λ _.
       ap (λ b. fits_transform (start_of b).transform tile.setting.transform) e
       ∙ ap (λ (s : Setting). fits_transform (Some s.transform) tile.setting.transform) coded

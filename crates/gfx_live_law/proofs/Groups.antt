@@ -35,8 +35,8 @@ tiles-sides id width height [] old sides = sides
 tiles-sides id width height (send ∷ sends) old sides = tiles-sides id width height sends (with_record id old send) sides
 
 -- a cell begins on it
-pub begins-there : (width height : ℕ) (old : Scene) (send : TileSend) → HasSides width height old → BeginsIn width height send → begins_in old.picture.width old.picture.height send.x send.y ≡ true
-begins-there width height old send sides begins = (λ i. begins_in (sides.0 i) (sides.1 i) send.x send.y) ∙ begins
+pub begins-there : (width height : ℕ) (old : Scene) (send : TileSend) → HasSides width height old → BeginsIn width height send → begins_in old.picture.width old.picture.height send.cell.x send.cell.y ≡ true
+begins-there width height old send sides begins = (λ i. begins_in (sides.0 i) (sides.1 i) send.cell.x send.cell.y) ∙ begins
 
 -- ---- groups
 

@@ -5,7 +5,7 @@ use Rattle.std.specs.List.{AllByRecursion}
 use Rattle.std.specs.Option.{option_and_then}
 use Rattle.std.proofs.lemmas.List.Elements.{All-from_recursion}
 use Rattle.gfx_base.specs.declared.geometry.Cell.{Cell}
-use Rattle.gfx_base.specs.Cells.{cell, cells_met}
+use Rattle.gfx_base.specs.Cells.{cells_met}
 use Rattle.gfx_base.specs.Geometry.{sized}
 use Rattle.gfx_quant.specs.declared.setting.Setting.{Setting}
 use Rattle.gfx_quant.specs.Setting.{IsSetting}
@@ -45,7 +45,7 @@ may-all id width height areas [] old sides begins apart asked = tt
 may-all id width height areas (send ∷ sends) old sides begins apart asked = (
   record { begins = begins-there width height old send sides begins.0; first = asked.0.0; listed = asked.0.1.0; before = asked.0.1.1 },
   may-all id width height areas sends (shown_at_level (place_of id) areas send.level send old)
-      (tile-sides width height old (cell_key id (cell send.x send.y)) areas (tile_at send.tile send.level) sides) begins.1 apart.1
+      (tile-sides width height old (cell_key id send.cell) areas (tile_at send.tile send.level) sides) begins.1 apart.1
       (asked-next RaiseAsk id old.records send (tile_at send.tile send.level) sends apart.0 asked.1),
 )
 
@@ -66,13 +66,13 @@ module _ (setting : Setting) (id width height : ℕ) (set : IsSetting setting) (
 -- ---- the tiles of an improvement
 
 -- a live tile that isn't at the last level, and the same at the next
-record IsRaised (before : Option TileSend) (send : TileSend) : Type 0 where
-  tile : TileSend
-  there : before ≡ Some tile
-  below : tile.level < length tile.tile.setting.levels
-  is : send ≡ record tile { level = tile.level + 1 }
+pub record IsRaised (before : Option TileSend) (send : TileSend) : Type 0 where
+  pub tile : TileSend
+  pub there : before ≡ Some tile
+  pub below : tile.level < length tile.tile.setting.levels
+  pub is : send ≡ record tile { level = tile.level + 1 }
 
-raised-from : (before : Option TileSend) (send : TileSend) → option_and_then raised before ≡ Some send → IsRaised before send
+pub raised-from : (before : Option TileSend) (send : TileSend) → option_and_then raised before ≡ Some send → IsRaised before send
 unfolding raised
 raised-from None send e = cc
 raised-from (Some tile) send e = by (nat_lt tile.level (length tile.tile.setting.levels)) refl e
@@ -83,15 +83,15 @@ raised-from (Some tile) send e = by (nat_lt tile.level (length tile.tile.setting
 
 module _ (setting : Setting) (live : Live) (id width height : ℕ) (records : Records) (agree : LiveIn setting id width height live records) where
   -- what is sent to a cell
-  abbrev sent : Cell → Option TileSend
+  abbrev pub sent : Cell → Option TileSend
   sent c = option_and_then raised (finmap.get live (cell_key id c))
 
   -- as it is of a live tile of this cell
-  own-cell : (c : Cell) (send : TileSend) → sent c ≡ Some send → (send.x ≡ c.x) × (send.y ≡ c.y)
+  pub own-cell : (c : Cell) (send : TileSend) → sent c ≡ Some send → (send.cell.x ≡ c.x) × (send.cell.y ≡ c.y)
   own-cell c send e =
       let from : IsRaised (finmap.get live (cell_key id c)) send = raised-from (finmap.get live (cell_key id c)) send e in
-      let stands : cell_key id c ≡ cell_key id (cell from.tile.x from.tile.y) = (agree.each (cell_key id c) from.tile refl from.there).0 in
-      (ap (λ s. s.x) from.is ∙ sym (ap (λ k. k.x) stands), ap (λ s. s.y) from.is ∙ sym (ap (λ k. k.y) stands))
+      let stands : cell_key id c ≡ cell_key id from.tile.cell = (agree.each (cell_key id c) from.tile refl from.there).0 in
+      (ap (λ s. s.cell.x) from.is ∙ sym (ap (λ k. k.x) stands), ap (λ s. s.cell.y) from.is ∙ sym (ap (λ k. k.y) stands))
 
   raised-was : (tile : TileSend) → WasSent setting width height tile → tile.level < length tile.tile.setting.levels → WasSent setting width height (record tile { level = tile.level + 1 })
   raised-was tile was below = record {
@@ -105,7 +105,7 @@ module _ (setting : Setting) (live : Live) (id width height : ℕ) (records : Re
     some = was.some;
   }
 
-  raised-asks : (key : Key) (tile : TileSend) → finmap.get records key ≡ Some (tile_at tile.tile tile.level) → key ≡ cell_key id (cell tile.x tile.y) → tile.level < length tile.tile.setting.levels
+  raised-asks : (key : Key) (tile : TileSend) → finmap.get records key ≡ Some (tile_at tile.tile tile.level) → key ≡ cell_key id tile.cell → tile.level < length tile.tile.setting.levels
       → Asked RaiseAsk id records (record tile { level = tile.level + 1 })
   raised-asks key tile stands same below =
       let one : tile.level ≡ tile.level + 1 - 1 = omega arith in
@@ -122,7 +122,7 @@ module _ (setting : Setting) (live : Live) (id width height : ℕ) (records : Re
       let before = agree.each (cell_key id c) from.tile refl from.there in
       subst (Asked RaiseAsk id records) (sym from.is) (raised-asks (cell_key id c) from.tile before.1.1 before.0 from.below)
 
-  any-cells : AllByRecursion (λ _. Unit {0}) (cells_met (sized width height))
+  pub any-cells : AllByRecursion (λ _. Unit {0}) (cells_met (sized width height))
   any-cells = all-any (λ _. Unit {0}) (λ _. tt) (cells_met (sized width height))
 
   pub improved-sent : AllByRecursion (WasSent setting width height) (improved_sends live id width height)

@@ -4,7 +4,6 @@ use Rattle.std.specs.FinMap as finmap
 use Rattle.std.specs.FinMap.{get-insert, get-retain_keys, len-insert}
 use Rattle.std.specs.List.{AllByRecursion}
 use Rattle.std.specs.Ordering.{eq_by_cmp}
-use Rattle.gfx_base.specs.Cells.{cell}
 use Rattle.gfx_quant.specs.declared.setting.Setting.{Setting}
 use Rattle.gfx_tile_state.specs.declared.state.TileState.{TileState}
 use Rattle.gfx_tile_make.specs.Levels.{tile_at}
@@ -53,21 +52,21 @@ module _ {X : Type 0} (m : finmap.FinMap key_cmp X) (k : Key) (x : X) where
       by true e is = here (tied q k e)
       by false e is = there is
 
-keys-apart : (id : ℕ) (one other : TileSend) → Differ one other → KeysDiffer (cell_key id (cell one.x one.y)) (cell_key id (cell other.x other.y))
+keys-apart : (id : ℕ) (one other : TileSend) → Differ one other → KeysDiffer (cell_key id one.cell) (cell_key id other.cell)
 keys-apart id one other differ same = differ (sym (ap (λ k. k.x) same)) (sym (ap (λ k. k.y) same))
 
 -- ---- what is asked of a cell's record before its tile
 
 module _ (Ask : Option TileState → TileSend → Type 0) (id : ℕ) where
   abbrev pub Asked : Records → TileSend → Type 0
-  Asked records send = Ask (finmap.get records (cell_key id (cell send.x send.y))) send
+  Asked records send = Ask (finmap.get records (cell_key id send.cell)) send
 
   -- it holds still once tiles of other cells were sent
   pub asked-next : (records : Records) (send : TileSend) (tile : TileState) (sends : List TileSend) → AllByRecursion (Differ send) sends → AllByRecursion (Asked records) sends
-      → AllByRecursion (Asked (finmap.insert records (cell_key id (cell send.x send.y)) tile)) sends
+      → AllByRecursion (Asked (finmap.insert records (cell_key id send.cell) tile)) sends
   asked-next records send tile sends apart asked =
-      all-with (Differ send) (Asked records) (Asked (finmap.insert records (cell_key id (cell send.x send.y)) tile))
-      (λ other differ ask. subst (λ o. Ask o other) (sym (get-elsewhere records (cell_key id (cell send.x send.y)) tile (cell_key id (cell other.x other.y)) (keys-apart id send other differ))) ask)
+      all-with (Differ send) (Asked records) (Asked (finmap.insert records (cell_key id send.cell) tile))
+      (λ other differ ask. subst (λ o. Ask o other) (sym (get-elsewhere records (cell_key id send.cell) tile (cell_key id other.cell) (keys-apart id send other differ))) ask)
       sends apart asked
 
   pub asked-later : (n : ℕ) (sends : List TileSend) (old : Scene) → Apart sends → AllByRecursion (Asked old.records) sends
@@ -79,7 +78,7 @@ module _ (Ask : Option TileState → TileSend → Type 0) (id : ℕ) where
 -- ---- live tiles and records agree
 
 pub live-next : (setting : Setting) (id width height : ℕ) (send : TileSend) (live : Live) (records : Records) → WasSent setting width height send → LiveIn setting id width height live records
-    → LiveIn setting id width height (with_live id live send) (finmap.insert records (cell_key id (cell send.x send.y)) (tile_at send.tile send.level))
+    → LiveIn setting id width height (with_live id live send) (finmap.insert records (cell_key id send.cell) (tile_at send.tile send.level))
 live-next setting id width height send live records was agree = record {
   each = λ key later same found.
       found-by live k send (Holds key) key later found
@@ -92,13 +91,13 @@ live-next setting id width height send live records was agree = record {
 }
   where
     k : Key
-    k = cell_key id (cell send.x send.y)
+    k = cell_key id send.cell
 
     tile : TileState
     tile = tile_at send.tile send.level
 
     Holds : Key → TileSend → Type 0
-    Holds key later = (key ≡ cell_key id (cell later.x later.y)) × (WasSent setting width height later × (finmap.get (finmap.insert records k tile) key ≡ Some (tile_at later.tile later.level)))
+    Holds key later = (key ≡ cell_key id later.cell) × (WasSent setting width height later × (finmap.get (finmap.insert records k tile) key ≡ Some (tile_at later.tile later.level)))
 
 pub live-after : (setting : Setting) (id width height : ℕ) (sends : List TileSend) (live : Live) (old : Scene) → AllByRecursion (WasSent setting width height) sends → LiveIn setting id width height live old.records
     → LiveIn setting id width height (after_sends id sends live) (after_tiles id sends old).records
@@ -114,13 +113,13 @@ module _ (id : ℕ) (key : Key) (apart : key.surface ≡ id → ⊥) where
   records-elsewhere [] old = refl
   records-elsewhere (send ∷ sends) old =
       records-elsewhere sends (with_record id old send)
-      ∙ get-elsewhere old.records (cell_key id (cell send.x send.y)) (tile_at send.tile send.level) key (λ same. apart (ap (λ k. k.surface) same))
+      ∙ get-elsewhere old.records (cell_key id send.cell) (tile_at send.tile send.level) key (λ same. apart (ap (λ k. k.surface) same))
 
   -- and what is live there
   pub live-elsewhere : (sends : List TileSend) (live : Live) → finmap.get (after_sends id sends live) key ≡ finmap.get live key
   live-elsewhere [] live = refl
   live-elsewhere (send ∷ sends) live =
-      live-elsewhere sends (with_live id live send) ∙ get-elsewhere live (cell_key id (cell send.x send.y)) send key (λ same. apart (ap (λ k. k.surface) same))
+      live-elsewhere sends (with_live id live send) ∙ get-elsewhere live (cell_key id send.cell) send key (λ same. apart (ap (λ k. k.surface) same))
 
 -- so live tiles and records of another surface agree still
 pub live-beside : (setting : Setting) (id other width height : ℕ) (sends : List TileSend) (live : Live) (old : Scene) → (other ≡ id → ⊥) → LiveIn setting other width height live old.records
@@ -154,13 +153,13 @@ live-retained setting id width height live test records agree = record {
 
 -- a tile's cell begins on a surface of these sides
 abbrev pub BeginsIn : ℕ → ℕ → TileSend → Type 0
-BeginsIn width height send = begins_in width height send.x send.y ≡ true
+BeginsIn width height send = begins_in width height send.cell.x send.cell.y ≡ true
 
 module _ (id width height : ℕ) where
-  key-before : (records : Records) (send : TileSend) (tile : TileState) → BeginsIn width height send → (key : Key) → finmap.contains_key (finmap.insert records (cell_key id (cell send.x send.y)) tile) key ≡ true
+  key-before : (records : Records) (send : TileSend) (tile : TileState) → BeginsIn width height send → (key : Key) → finmap.contains_key (finmap.insert records (cell_key id send.cell) tile) key ≡ true
       → (finmap.contains_key records key ≡ true) ⊎ IsCell id width height key
   key-before records send tile begins key has =
-      has-by records (cell_key id (cell send.x send.y)) tile ((finmap.contains_key records key ≡ true) ⊎ IsCell id width height key) key has
+      has-by records (cell_key id send.cell) tile ((finmap.contains_key records key ≡ true) ⊎ IsCell id width height key) key has
       (λ is. inr (ap (λ k. k.surface) is, ap (λ k. k.context) is, ap (λ k. begins_in width height k.x k.y) is ∙ begins))
       (λ there. inl there)
 
@@ -174,7 +173,7 @@ module _ (id width height : ℕ) where
   ]
 
   -- there is room still
-  pub room-next : (records : Records) (send : TileSend) (tile : TileState) → BeginsIn width height send → HasRoom id width height records → HasRoom id width height (finmap.insert records (cell_key id (cell send.x send.y)) tile)
+  pub room-next : (records : Records) (send : TileSend) (tile : TileState) → BeginsIn width height send → HasRoom id width height records → HasRoom id width height (finmap.insert records (cell_key id send.cell) tile)
   room-next records send tile begins room more keys = room more (λ key has. elim (keys key has) [
     | inl there ↦ key-before records send tile begins key there
     | inr new ↦ inr new
@@ -186,11 +185,11 @@ module _ (id width height : ℕ) where
 
   -- a tile's record has its place, or there is room for it
   pub room-for : (records : Records) (send : TileSend) → BeginsIn width height send → HasRoom id width height records
-      → (is_some (finmap.get records (cell_key id (cell send.x send.y))) || nat_lt (finmap.len records) MOST_RECORDS) ≡ true
-  room-for records send begins room = by (is_some (finmap.get records (cell_key id (cell send.x send.y)))) refl
+      → (is_some (finmap.get records (cell_key id send.cell)) || nat_lt (finmap.len records) MOST_RECORDS) ≡ true
+  room-for records send begins room = by (is_some (finmap.get records (cell_key id send.cell))) refl
     where
       k : Key
-      k = cell_key id (cell send.x send.y)
+      k = cell_key id send.cell
 
       tile : TileState
       tile = tile_at send.tile send.level

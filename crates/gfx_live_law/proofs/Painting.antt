@@ -6,7 +6,7 @@ use Rattle.std.proofs.lemmas.List.Elements.{All-from_recursion}
 use Rattle.gfx_base.specs.declared.geometry.Cell.{Cell}
 use Rattle.gfx_base.specs.declared.geometry.Rect.{Rect}
 use Rattle.gfx_base.specs.declared.pixel.Pixel.{Pixel}
-use Rattle.gfx_base.specs.Cells.{cell, cells_met, cut_to_cell, has_pixels}
+use Rattle.gfx_base.specs.Cells.{cells_met, cut_to_cell, has_pixels}
 use Rattle.gfx_base.specs.Geometry.{IsRect, lies_in}
 use Rattle.gfx_quant.specs.declared.setting.Setting.{Setting}
 use Rattle.gfx_quant.specs.Setting.{IsSetting}
@@ -48,7 +48,7 @@ may-all id width height areas [] old sides begins apart goes room = tt
 may-all id width height areas (send ∷ sends) old sides begins apart goes room = (
   record { begins = begins-there width height old send sides begins.0; goes_on = goes.0; room = room-for id width height old.records send begins.0 room },
   may-all id width height areas sends (shown_at_level (place_of id) areas 0 send old)
-      (tile-sides width height old (cell_key id (cell send.x send.y)) areas (tile_at send.tile 0) sides) begins.1 apart.1
+      (tile-sides width height old (cell_key id send.cell) areas (tile_at send.tile 0) sides) begins.1 apart.1
       (asked-next GoesOn id old.records send (tile_at send.tile 0) sends apart.0 goes.1) (room-next id width height old.records send (tile_at send.tile 0) begins.0 room),
 )
 
@@ -79,9 +79,9 @@ module _ (setting : Setting) (id width height : ℕ) (set : IsSetting setting) (
 
 -- they are of different cells, and lie in them
 module _ (script : Script) (live : Live) (id : ℕ) (drawing : Drawing) (rect : Rect) where
-  sent-there : (c : Cell) (send : TileSend) → ◌≡◌ {A = Option TileSend} (Some (send_of script live id drawing rect c)) (Some send) → (send.x ≡ c.x) × (send.y ≡ c.y)
+  sent-there : (c : Cell) (send : TileSend) → ◌≡◌ {A = Option TileSend} (Some (send_of script live id drawing rect c)) (Some send) → (send.cell.x ≡ c.x) × (send.cell.y ≡ c.y)
   unfolding send_of
-  sent-there c send e = let same : send_of script live id drawing rect c ≡ send = cc in (ap (λ s. s.x) (sym same), ap (λ s. s.y) (sym same))
+  sent-there c send e = let same : send_of script live id drawing rect c ≡ send = cc in (ap (λ s. s.cell.x) (sym same), ap (λ s. s.cell.y) (sym same))
 
   pub painted-apart : Apart (painted_sends script live id drawing rect)
   painted-apart = subst Apart (map-kept (send_of script live id drawing rect) (cells_met rect)) (apart-kept (λ c. Some (send_of script live id drawing rect c)) sent-there (cells_met rect) (cells-apart rect))
@@ -132,10 +132,10 @@ module _ (script : Script) (live : Live) (id width height : ℕ) (drawing : Draw
   painted-asks : (c : Cell) → Met rect c → Asked PaintAsk id records (sent c)
   unfolding send_of
   painted-asks c met = (
-    gone-by (λ (t : Source). GoesOn (finmap.get records (cell_key id c)) (record { x = c.x; y = c.y; rect = cut_to_cell rect c; tile = t; level = 0 })) script.differences (before c) (own-tile c)
-        (plain-goes c.x c.y (cut_to_cell rect c) script.setting (own-pixels c) (finmap.get records (cell_key id c)))
+    gone-by (λ (t : Source). GoesOn (finmap.get records (cell_key id c)) (record { cell = c; rect = cut_to_cell rect c; tile = t; level = 0 })) script.differences (before c) (own-tile c)
+        (plain-goes c (cut_to_cell rect c) script.setting (own-pixels c) (finmap.get records (cell_key id c)))
         (λ old last.
-        difference-goes c.x c.y (cut_to_cell rect c) (own-tile c) old (finmap.get records (cell_key id c)) (live-was c old last.0).may (live-was c old last.0).coded last.1.0 (live-stands c old last.0)),
+        difference-goes c (cut_to_cell rect c) (own-tile c) old (finmap.get records (cell_key id c)) (live-was c old last.0).may (live-was c old last.0).coded last.1.0 (live-stands c old last.0)),
     refl,
   )
 

@@ -62,10 +62,10 @@ showing-shape id (send ∷ sends) picture =
 
 -- a pixel once a tile is shown
 shown-pixel : (id : ℕ) (picture : Picture) (send : TileSend) (x y : ℕ) → x < picture.width → y < picture.height
-    → pixel_at (with_shown id picture send) x y ≡ drawer picture (cell_key id (cell send.x send.y)) (area_of send ∷ []) (tile_at send.tile send.level) x y
+    → pixel_at (with_shown id picture send) x y ≡ drawer picture (cell_key id send.cell) (area_of send ∷ []) (tile_at send.tile send.level) x y
 unfolding shown_in
 shown-pixel id picture send x y column row =
-    pixel_at-drawn picture.width picture.height x y (drawer picture (cell_key id (cell send.x send.y)) (area_of send ∷ []) (tile_at send.tile send.level)) no_pixel column row
+    pixel_at-drawn picture.width picture.height x y (drawer picture (cell_key id send.cell) (area_of send ∷ []) (tile_at send.tile send.level)) no_pixel column row
 
 -- outside of its rectangle it is as it was
 area-misses : (send : TileSend) (x y : ℕ) → holds send.rect x y ≡ false → has_pixel x y (area_of send) ≡ false
@@ -81,11 +81,11 @@ not-chosen false b p q e = refl
 
 shown-outside : (id : ℕ) (picture : Picture) (send : TileSend) (x y : ℕ) → x < picture.width → y < picture.height → holds send.rect x y ≡ false → pixel_at (with_shown id picture send) x y ≡ pixel_at picture x y
 shown-outside id picture send x y column row miss =
-    shown-pixel id picture send x y column row ∙ not-chosen (holds (cell_in picture.width picture.height (cell_key id (cell send.x send.y))) x y) (has_pixel x y (area_of send)) _ _ (area-misses send x y miss)
+    shown-pixel id picture send x y column row ∙ not-chosen (holds (cell_in picture.width picture.height (cell_key id send.cell)) x y) (has_pixel x y (area_of send)) _ _ (area-misses send x y miss)
 
 -- inside it is the tile's
 abbrev pub tile-shows : Picture → TileSend → ℕ → ℕ → Pixel
-tile-shows picture send x y = shade picture.format (shown_at send.tile send.level (y - CELL_SIDE * send.y) (x - CELL_SIDE * send.x))
+tile-shows picture send x y = shade picture.format (shown_at send.tile send.level (y - CELL_SIDE * send.cell.y) (x - CELL_SIDE * send.cell.x))
 
 chosen : (a b : Bool) (p q : Pixel) → a ≡ true → b ≡ true → (if a && (b || false) then p else q) ≡ p
 chosen a b p q e e' = (λ i. if e i && (e' i || false) then p else q)
@@ -93,20 +93,20 @@ chosen a b p q e e' = (λ i. if e i && (e' i || false) then p else q)
 area-has : (send : TileSend) (x y : ℕ) → holds send.rect x y ≡ true → has_pixel x y (area_of send) ≡ true
 area-has send x y hit = grind (arith, nat_tests)
 
-cell-has : (id : ℕ) (picture : Picture) (send : TileSend) (x y : ℕ) → x < picture.width → y < picture.height → LiesInCell send.rect send.x send.y → holds send.rect x y ≡ true
-    → holds (cell_in picture.width picture.height (cell_key id (cell send.x send.y))) x y ≡ true
+cell-has : (id : ℕ) (picture : Picture) (send : TileSend) (x y : ℕ) → x < picture.width → y < picture.height → LiesInCell send.rect send.cell.x send.cell.y → holds send.rect x y ≡ true
+    → holds (cell_in picture.width picture.height (cell_key id send.cell)) x y ≡ true
 cell-has id picture send x y column row lies hit = by lies.left lies.right lies.top lies.bottom
   where
-    by : CELL_SIDE * send.x ≤ send.rect.left → send.rect.right ≤ CELL_SIDE * send.x + CELL_SIDE → CELL_SIDE * send.y ≤ send.rect.top → send.rect.bottom ≤ CELL_SIDE * send.y + CELL_SIDE
-        → holds (cell_in picture.width picture.height (cell_key id (cell send.x send.y))) x y ≡ true
+    by : CELL_SIDE * send.cell.x ≤ send.rect.left → send.rect.right ≤ CELL_SIDE * send.cell.x + CELL_SIDE → CELL_SIDE * send.cell.y ≤ send.rect.top → send.rect.bottom ≤ CELL_SIDE * send.cell.y + CELL_SIDE
+        → holds (cell_in picture.width picture.height (cell_key id send.cell)) x y ≡ true
     by left right top bottom = grind (arith, nat_tests)
 
 shown-inside : (id : ℕ) (picture : Picture) (send : TileSend) (x y : ℕ) → x < picture.width → y < picture.height → KeepsCell send → holds send.rect x y ≡ true
     → pixel_at (with_shown id picture send) x y ≡ tile-shows picture send x y
 shown-inside id picture send x y column row keeps hit =
     shown-pixel id picture send x y column row
-    ∙ chosen (holds (cell_in picture.width picture.height (cell_key id (cell send.x send.y))) x y) (has_pixel x y (area_of send)) _ _
-    (cell-has id picture send x y column row (cut-lies send.rect send.x send.y keeps) hit) (area-has send x y hit)
+    ∙ chosen (holds (cell_in picture.width picture.height (cell_key id send.cell)) x y) (has_pixel x y (area_of send)) _ _
+    (cell-has id picture send x y column row (cut-lies send.rect send.cell.x send.cell.y keeps) hit) (area-has send x y hit)
 
 -- a tile's pixel is of no tile of another cell
 misses-other : (x y : ℕ) (send other : TileSend) → KeepsCell send → holds send.rect x y ≡ true → Differ send other → KeepsCell other → holds other.rect x y ≡ false
@@ -115,7 +115,7 @@ misses-other x y send other keeps hit differ keeps' = by (holds other.rect x y) 
     by : (b : Bool) → holds other.rect x y ≡ b → b ≡ false
     by false e = refl
     by true e =
-        let same : (send.x ≡ other.x) × (send.y ≡ other.y) = one-cell send.x send.y other.x other.y x y (rect-in-cell send x y keeps hit) (rect-in-cell other x y keeps' e) in
+        let same : (send.cell.x ≡ other.cell.x) × (send.cell.y ≡ other.cell.y) = one-cell send.cell.x send.cell.y other.cell.x other.cell.y x y (rect-in-cell send x y keeps hit) (rect-in-cell other x y keeps' e) in
         absurd (differ same.0 same.1)
 
 -- in the rectangle of a tile the picture shows what the tile's level does
@@ -155,11 +155,11 @@ live-shows-next : (setting : Setting) (id width height : ℕ) (send : TileSend) 
     → LiveShows id (with_live id live send) (with_shown id old.picture send)
 unfolding shown_in
 live-shows-next setting id width height send live old was agree shows key later same found x y column row hit =
-    found-by live (cell_key id (cell send.x send.y)) send (λ one. holds one.rect x y ≡ true → pixel_at (with_shown id old.picture send) x y ≡ tile-shows old.picture one x y) key later found
+    found-by live (cell_key id send.cell) send (λ one. holds one.rect x y ≡ true → pixel_at (with_shown id old.picture send) x y ≡ tile-shows old.picture one x y) key later found
     (λ is which. subst (λ one. holds one.rect x y ≡ true → pixel_at (with_shown id old.picture send) x y ≡ tile-shows old.picture one x y) which (λ hit. shown-inside id old.picture send x y column row was.in_cell hit))
     (λ was-live untied hit.
     let before = agree.each key later same was-live in
-    let differs : Differ later send = λ e e'. true≢false (sym (itself (cell_key id (cell send.x send.y))) ∙ ap (λ q. eq_by_cmp key_cmp q (cell_key id (cell send.x send.y))) (λ i. cell_key id (cell (sym e i) (sym e' i))) ∙ ap (λ q. eq_by_cmp key_cmp q (cell_key id (cell send.x send.y))) (sym before.0) ∙ untied) in
+    let differs : Differ later send = λ e e'. true≢false (sym (itself (cell_key id send.cell)) ∙ ap (λ q. eq_by_cmp key_cmp q (cell_key id send.cell)) (λ i. cell_key id (cell (sym e i) (sym e' i))) ∙ ap (λ q. eq_by_cmp key_cmp q (cell_key id send.cell)) (sym before.0) ∙ untied) in
     shown-outside id old.picture send x y column row (misses-other x y later send before.1.0.in_cell hit differs was.in_cell)
     ∙ shows key later same was-live x y column row hit)
     hit
@@ -173,10 +173,10 @@ live-shows-after setting id width height (send ∷ sends) live old was agree sho
 
 -- at its last level a tile shows its own values, whatever it goes on
 pub shows-direct : (picture : Picture) (send : TileSend) (x y : ℕ) → MayBeSent send.tile → send.level ≡ length send.tile.setting.levels
-    → tile-shows picture send x y ≡ shade picture.format (direct_pixel send.tile (y - CELL_SIDE * send.y) (x - CELL_SIDE * send.x))
+    → tile-shows picture send x y ≡ shade picture.format (direct_pixel send.tile (y - CELL_SIDE * send.cell.y) (x - CELL_SIDE * send.cell.x))
 shows-direct picture send x y may last =
-    ap (λ n. shade picture.format (shown_at send.tile n (y - CELL_SIDE * send.y) (x - CELL_SIDE * send.x))) last
-    ∙ ap (shade picture.format) (last-shown send.tile may (y - CELL_SIDE * send.y) (x - CELL_SIDE * send.x))
+    ap (λ n. shade picture.format (shown_at send.tile n (y - CELL_SIDE * send.cell.y) (x - CELL_SIDE * send.cell.x))) last
+    ∙ ap (shade picture.format) (last-shown send.tile may (y - CELL_SIDE * send.cell.y) (x - CELL_SIDE * send.cell.x))
 
 -- ---- a paint
 

@@ -25,8 +25,8 @@ pub is-send : (setting : Setting) (width height : ℕ) → width ≤ MOST_SIDE �
 is-send setting width height wide high send was = record {
   may = was.may;
   coded = was.coded;
-  x = omega (arith, begins-column width height send.x send.y was.begins, wide);
-  y = omega (arith, begins-row width height send.x send.y was.begins, high);
+  x = omega (arith, begins-column width height send.cell.x send.cell.y was.begins, wide);
+  y = omega (arith, begins-row width height send.cell.x send.cell.y was.begins, high);
   rect = was.rect;
 }
 

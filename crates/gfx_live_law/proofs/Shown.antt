@@ -3,7 +3,7 @@ use Rattle.std.proofs.Common.{◌≡◌, ◌∙◌, ℕ, Bool, true, false, ◌&
 use Rattle.std.specs.FinMap as finmap
 use Rattle.std.specs.List.{AllByRecursion}
 use Rattle.gfx_base.specs.declared.pixel.Pixel.{Pixel}
-use Rattle.gfx_base.specs.Cells.{cell, cut_to_cell}
+use Rattle.gfx_base.specs.Cells.{cut_to_cell}
 use Rattle.gfx_base.specs.Geometry.{holds}
 use Rattle.gfx_surface.specs.Picture.{Picture, pixel_at}
 use Rattle.gfx_tile_state.specs.declared.state.TileState.{TileState}
@@ -24,23 +24,23 @@ use Rattle.gfx_live_law.proofs.Squares.{InCell, area-in-cell, cell-holds, one-ce
 
 -- what a tile paints lies in its cell
 abbrev pub KeepsCell : TileSend → Type 0
-KeepsCell send = cut_to_cell send.rect (cell send.x send.y) ≡ send.rect
+KeepsCell send = cut_to_cell send.rect send.cell ≡ send.rect
 
 -- of a tile's cell, areas have what its own area has
 abbrev pub Own : List Area → TileSend → Type 0
-Own areas send = (x y : ℕ) → InCell send.x send.y x y → covered areas x y ≡ covered (area_of send ∷ []) x y
+Own areas send = (x y : ℕ) → InCell send.cell.x send.cell.y x y → covered areas x y ≡ covered (area_of send ∷ []) x y
 
 -- the area of a tile of another cell has nothing of it
-elsewhere : (send other : TileSend) (x y : ℕ) → Differ send other → KeepsCell other → InCell send.x send.y x y → has_pixel x y (area_of other) ≡ false
+elsewhere : (send other : TileSend) (x y : ℕ) → Differ send other → KeepsCell other → InCell send.cell.x send.cell.y x y → has_pixel x y (area_of other) ≡ false
 elsewhere send other x y apart keeps here = by (has_pixel x y (area_of other)) refl
   where
     by : (b : Bool) → has_pixel x y (area_of other) ≡ b → b ≡ false
     by false e = refl
     by true e =
-        let same : (send.x ≡ other.x) × (send.y ≡ other.y) = one-cell send.x send.y other.x other.y x y here (area-in-cell other x y keeps e) in
+        let same : (send.cell.x ≡ other.cell.x) × (send.cell.y ≡ other.cell.y) = one-cell send.cell.x send.cell.y other.cell.x other.cell.y x y here (area-in-cell other x y keeps e) in
         absurd (apart same.0 same.1)
 
-others-miss : (send : TileSend) (x y : ℕ) → InCell send.x send.y x y → (sends : List TileSend) → AllByRecursion (Differ send) sends → AllByRecursion KeepsCell sends
+others-miss : (send : TileSend) (x y : ℕ) → InCell send.cell.x send.cell.y x y → (sends : List TileSend) → AllByRecursion (Differ send) sends → AllByRecursion KeepsCell sends
     → covered (map area_of sends) x y ≡ false
 others-miss send x y here [] apart keeps = refl
 others-miss send x y here (other ∷ sends) apart keeps =
@@ -66,10 +66,10 @@ abbrev pub drawer : Picture → Key → List Area → TileState → ℕ → ℕ 
 drawer picture key areas tile x y = if holds (cell_in picture.width picture.height key) x y && covered areas x y then tile_pixel picture key tile x y else pixel_at picture x y
 
 own-shown : (picture : Picture) (id : ℕ) (areas : List Area) (send : TileSend) (tile : TileState) → Own areas send
-    → shown_in picture (cell_key id (cell send.x send.y)) areas tile ≡ shown_in picture (cell_key id (cell send.x send.y)) (area_of send ∷ []) tile
+    → shown_in picture (cell_key id send.cell) areas tile ≡ shown_in picture (cell_key id send.cell) (area_of send ∷ []) tile
 unfolding shown_in
 own-shown picture id areas send tile own =
-    let key : Key = cell_key id (cell send.x send.y) in
+    let key : Key = cell_key id send.cell in
     redrawn_same picture (drawer picture key areas tile) (drawer picture key (area_of send ∷ []) tile) (λ x y _ _.
     same-choice (holds (cell_in picture.width picture.height key) x y) (covered areas x y) (covered (area_of send ∷ []) x y) (tile_pixel picture key tile x y) (pixel_at picture x y)
     (λ hit. own x y (cell-holds picture.width picture.height key x y hit)))
@@ -79,7 +79,7 @@ one-shown : (id : ℕ) (areas : List Area) (level : ℕ) (send : TileSend) (old 
     → shown_at_level (place_of id) areas level send old ≡ with_record id old send
 one-shown id areas level send old own e =
     ap (λ n. shown_at_level (place_of id) areas n send old) (sym e)
-    ∙ ap (scene (finmap.insert old.records (cell_key id (cell send.x send.y)) (tile_at send.tile send.level))) (own-shown old.picture id areas send (tile_at send.tile send.level) own)
+    ∙ ap (scene (finmap.insert old.records (cell_key id send.cell) (tile_at send.tile send.level))) (own-shown old.picture id areas send (tile_at send.tile send.level) own)
 
 -- all of them
 pub painted-shown : (id : ℕ) (areas : List Area) (sends : List TileSend) (old : Scene) → AllByRecursion (Own areas) sends → AllByRecursion (λ (send : TileSend). send.level ≡ 0) sends

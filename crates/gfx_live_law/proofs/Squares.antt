@@ -50,13 +50,13 @@ pub area-holds : (send : TileSend) (x y : ℕ) → has_pixel x y (area_of send) 
 area-holds send x y hit = grind (arith, nat_tests)
 
 -- and of its cell
-pub rect-in-cell : (send : TileSend) (x y : ℕ) → cut_to_cell send.rect (cell send.x send.y) ≡ send.rect → holds send.rect x y ≡ true → InCell send.x send.y x y
+pub rect-in-cell : (send : TileSend) (x y : ℕ) → cut_to_cell send.rect send.cell ≡ send.rect → holds send.rect x y ≡ true → InCell send.cell.x send.cell.y x y
 rect-in-cell send x y cut hit =
-    let lies : LiesInCell send.rect send.x send.y = cut-lies send.rect send.x send.y cut in
+    let lies : LiesInCell send.rect send.cell.x send.cell.y = cut-lies send.rect send.cell.x send.cell.y cut in
     by lies.left lies.right lies.top lies.bottom
   where
-    by : CELL_SIDE * send.x ≤ send.rect.left → send.rect.right ≤ CELL_SIDE * send.x + CELL_SIDE → CELL_SIDE * send.y ≤ send.rect.top → send.rect.bottom ≤ CELL_SIDE * send.y + CELL_SIDE
-        → InCell send.x send.y x y
+    by : CELL_SIDE * send.cell.x ≤ send.rect.left → send.rect.right ≤ CELL_SIDE * send.cell.x + CELL_SIDE → CELL_SIDE * send.cell.y ≤ send.rect.top → send.rect.bottom ≤ CELL_SIDE * send.cell.y + CELL_SIDE
+        → InCell send.cell.x send.cell.y x y
     by left right top bottom = record {
       left = grind (arith, nat_tests);
       right = grind (arith, nat_tests);
@@ -64,5 +64,5 @@ rect-in-cell send x y cut hit =
       bottom = grind (arith, nat_tests);
     }
 
-pub area-in-cell : (send : TileSend) (x y : ℕ) → cut_to_cell send.rect (cell send.x send.y) ≡ send.rect → has_pixel x y (area_of send) ≡ true → InCell send.x send.y x y
+pub area-in-cell : (send : TileSend) (x y : ℕ) → cut_to_cell send.rect send.cell ≡ send.rect → has_pixel x y (area_of send) ≡ true → InCell send.cell.x send.cell.y x y
 area-in-cell send x y cut hit = rect-in-cell send x y cut (area-holds send x y hit)

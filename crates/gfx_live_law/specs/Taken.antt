@@ -3,7 +3,7 @@ use Rattle.std.specs.Prelude.{◌≡◌, ◌⊎◌, ℕ, ◌≤◌, ◌<◌, ◌
 use Rattle.std.specs.FinMap as finmap
 use Rattle.std.specs.List.{All}
 use Rattle.gfx_base.specs.declared.geometry.Rect.{Rect}
-use Rattle.gfx_base.specs.Cells.{cell, cut_to_cell, has_pixels}
+use Rattle.gfx_base.specs.Cells.{cut_to_cell, has_pixels}
 use Rattle.gfx_base.specs.Geometry.{IsRect, lies_in}
 use Rattle.gfx_quant.specs.declared.setting.Setting.{Setting}
 use Rattle.gfx_quant.specs.Setting.{IsSetting}
@@ -29,17 +29,17 @@ pub record WasSent (setting : Setting) (width height : ℕ) (send : TileSend) : 
   pub may : MayBeSent send.tile
   pub coded : send.tile.setting ≡ setting
   pub level : send.level ≤ length setting.levels
-  pub begins : begins_in width height send.x send.y ≡ true
+  pub begins : begins_in width height send.cell.x send.cell.y ≡ true
   pub rect : IsRect send.rect
   pub inside : lies_in width height send.rect ≡ true
-  pub in_cell : cut_to_cell send.rect (cell send.x send.y) ≡ send.rect
+  pub in_cell : cut_to_cell send.rect send.cell ≡ send.rect
   pub some : has_pixels send.rect ≡ true
 
 -- the live tiles of a surface of these sides were sent so, each to the cell that it stands under, and the records of
 -- their cells are at their levels
 pub record LiveIn (setting : Setting) (id width height : ℕ) (live : Live) (records : Records) : Type 0 where
   pub each : (key : Key) (send : TileSend) → key.surface ≡ id → finmap.get live key ≡ Some send
-      → (key ≡ cell_key id (cell send.x send.y)) × (WasSent setting width height send × (finmap.get records key ≡ Some (tile_at send.tile send.level)))
+      → (key ≡ cell_key id send.cell) × (WasSent setting width height send × (finmap.get records key ≡ Some (tile_at send.tile send.level)))
 
 -- a key is one of the records, or a cell of a surface of these sides
 abbrev pub IsCell : ℕ → ℕ → ℕ → Key → Type 0

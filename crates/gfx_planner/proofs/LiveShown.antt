@@ -62,10 +62,10 @@ abbrev pub AllShow : Live → Surfaces → Type 0
 AllShow live surfaces =
     (key : Key) (send : TileSend) (picture : Picture) → get live key ≡ Some send → get surfaces key.surface ≡ Some picture
     → (x y : ℕ) → x < picture.width → y < picture.height → holds send.rect x y ≡ true
-    → pixel_at picture x y ≡ shown_at send.tile send.level (y - CELL_SIDE * send.y) (x - CELL_SIDE * send.x)
+    → pixel_at picture x y ≡ shown_at send.tile send.level (y - CELL_SIDE * send.cell.y) (x - CELL_SIDE * send.cell.x)
 
 -- a format keeps a tile's pixel, which is opaque
-tile-kept : (format : Format) (tile : Tile) (level y x : ℕ) → shade format (shown_at tile level y x) ≡ shown_at tile level y x
+pub tile-kept : (format : Format) (tile : Tile) (level y x : ℕ) → shade format (shown_at tile level y x) ≡ shown_at tile level y x
 tile-kept Xrgb tile level y x = refl
 tile-kept Argb tile level y x = refl
 
@@ -76,21 +76,21 @@ module _ (setting : Setting) (live : Live) (records : Records) (surfaces : Surfa
   live-shows : (id : ℕ) (picture : Picture) → get surfaces id ≡ Some picture → LiveShows id live picture
   live-shows id picture there key send same found x y column row hit =
       shows key send picture found (ap (get surfaces) same ∙ there) x y column row hit
-      ∙ sym (tile-kept picture.format send.tile send.level (y - CELL_SIDE * send.y) (x - CELL_SIDE * send.x))
+      ∙ sym (tile-kept picture.format send.tile send.level (y - CELL_SIDE * send.cell.y) (x - CELL_SIDE * send.cell.x))
 
   sent-show : (id : ℕ) (sends : List TileSend) (picture : Picture) → get surfaces id ≡ Some picture → AllByRecursion (WasSent setting picture.width picture.height) sends
       → AllShow (after_sends id sends live) (insert surfaces id (after_showing id sends picture))
   sent-show id sends picture there was key send after found is = by (cases_eq key.surface id)
     where
       by : (key.surface ≡ id) ⊎ (key.surface ≢ id) → (x y : ℕ) → x < after.width → y < after.height → holds send.rect x y ≡ true
-          → pixel_at after x y ≡ shown_at send.tile send.level (y - CELL_SIDE * send.y) (x - CELL_SIDE * send.x)
+          → pixel_at after x y ≡ shown_at send.tile send.level (y - CELL_SIDE * send.cell.y) (x - CELL_SIDE * send.cell.x)
       by (inl at) x y =
           let one : Some (after_showing id sends picture) ≡ Some after = sym (surface_here surfaces id (after_showing id sends picture) key.surface at) ∙ is in
           let same : after_showing id sends picture ≡ after = cc in
-          subst (λ (p : Picture). x < p.width → y < p.height → holds send.rect x y ≡ true → pixel_at p x y ≡ shown_at send.tile send.level (y - CELL_SIDE * send.y) (x - CELL_SIDE * send.x)) same
+          subst (λ (p : Picture). x < p.width → y < p.height → holds send.rect x y ≡ true → pixel_at p x y ≡ shown_at send.tile send.level (y - CELL_SIDE * send.cell.y) (x - CELL_SIDE * send.cell.x)) same
           (λ column row hit.
           live-shows-after setting id picture.width picture.height sends live (scene records picture) was (tiles.each id picture there) (live-shows id picture there) key send at found x y column row hit
-          ∙ tile-kept (after_showing id sends picture).format send.tile send.level (y - CELL_SIDE * send.y) (x - CELL_SIDE * send.x))
+          ∙ tile-kept (after_showing id sends picture).format send.tile send.level (y - CELL_SIDE * send.cell.y) (x - CELL_SIDE * send.cell.x))
       by (inr apart) x y =
           shows key send after (sym (live-elsewhere id key apart sends live) ∙ found) (sym (surface_elsewhere surfaces id (after_showing id sends picture) key.surface apart) ∙ is) x y
 
@@ -206,7 +206,7 @@ missed-show setting written live left records old new tiles within ends shows ke
     was : (get live key ≡ Some send) × Misses written key
     was = ends key send found
 
-    by : (o : Option Picture) → get old key.surface ≡ o → pixel_at after x y ≡ shown_at send.tile send.level (y - CELL_SIDE * send.y) (x - CELL_SIDE * send.x)
+    by : (o : Option Picture) → get old key.surface ≡ o → pixel_at after x y ≡ shown_at send.tile send.level (y - CELL_SIDE * send.cell.y) (x - CELL_SIDE * send.cell.x)
     by None none = let gone : get live key ≡ None = tiles.others key none in let some : get live key ≡ Some send = was.0 in absurd cc
     by (Some before) there =
         let sent = (tiles.each key.surface before there).each key send refl was.0 in
@@ -218,7 +218,7 @@ missed-show setting written live left records old new tiles within ends shows ke
 -- ---- steps
 
 -- the live tiles of what is wanted agree with the records of the server's end
-tiles-wanted : (script : Script) (held : Held) (server : Server) (wanted : Wanted) → Holds script held server → Agree server wanted → HoldsTiles script.setting wanted.passes.live server.state.records wanted.shown.surfaces
+pub tiles-wanted : (script : Script) (held : Held) (server : Server) (wanted : Wanted) → Holds script held server → Agree server wanted → HoldsTiles script.setting wanted.passes.live server.state.records wanted.shown.surfaces
 tiles-wanted script held server wanted holds agree =
     subst (λ (s : Shown). HoldsTiles script.setting wanted.passes.live server.state.records s.surfaces) agree.shown
     (subst (λ (p : Passes). HoldsTiles script.setting p.live server.state.records server.state.shown.surfaces) agree.passes holds.tiles)
@@ -293,6 +293,6 @@ live-tiles-shown script front rest good fits =
       each = λ key send picture x y is. shows key send picture is.live is.there x y is.column is.row is.inside;
       last = λ key send picture x y is last.
           shows key send picture is.live is.there x y is.column is.row is.inside
-          ∙ ap (λ n. shown_at send.tile n (y - CELL_SIDE * send.y) (x - CELL_SIDE * send.x)) last
-          ∙ last-shown send.tile ((tiles.each key.surface picture is.there).each key send refl is.live).1.0.may (y - CELL_SIDE * send.y) (x - CELL_SIDE * send.x);
+          ∙ ap (λ n. shown_at send.tile n (y - CELL_SIDE * send.cell.y) (x - CELL_SIDE * send.cell.x)) last
+          ∙ last-shown send.tile ((tiles.each key.surface picture is.there).each key send refl is.live).1.0.may (y - CELL_SIDE * send.cell.y) (x - CELL_SIDE * send.cell.x);
     }

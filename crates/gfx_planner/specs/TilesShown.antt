@@ -24,9 +24,9 @@ pub record IsPixelOf (wanted : Wanted) (key : Key) (send : TileSend) (picture : 
 -- quantised values, whatever it goes on
 pub record TilesAreShown (wanted : Wanted) : Type 0 where
   pub each : (key : Key) (send : TileSend) (picture : Picture) (x y : ℕ) → IsPixelOf wanted key send picture x y
-      → pixel_at picture x y ≡ shown_at send.tile send.level (y - CELL_SIDE * send.y) (x - CELL_SIDE * send.x)
+      → pixel_at picture x y ≡ shown_at send.tile send.level (y - CELL_SIDE * send.cell.y) (x - CELL_SIDE * send.cell.x)
   pub last : (key : Key) (send : TileSend) (picture : Picture) (x y : ℕ) → IsPixelOf wanted key send picture x y → send.level ≡ length send.tile.setting.levels
-      → pixel_at picture x y ≡ direct_pixel send.tile (y - CELL_SIDE * send.y) (x - CELL_SIDE * send.x)
+      → pixel_at picture x y ≡ direct_pixel send.tile (y - CELL_SIDE * send.cell.y) (x - CELL_SIDE * send.cell.x)
 
 -- so after each front of an accepted script, whatever kinds its steps go as that they may go as
 abbrev pub LiveTilesAreShown : Type 0

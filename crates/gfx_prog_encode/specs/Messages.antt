@@ -38,7 +38,7 @@ use Rattle.gfx_prog_encode.specs.declared.send.TileSend.{TileSend}
 
 -- the quants of a region are those of Y, Cb and Cr
 abbrev pub head_of : TileSend → TileHead
-head_of send = record { quant_y = 0; quant_cb = 1; quant_cr = 2; x_idx = send.x; y_idx = send.y }
+head_of send = record { quant_y = 0; quant_cb = 1; quant_cr = 2; x_idx = send.cell.x; y_idx = send.cell.y }
 
 -- a component at the first level
 abbrev pub first_code : Source → Component → List ℕ

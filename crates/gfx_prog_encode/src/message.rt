@@ -164,8 +164,8 @@ fn head_of(send: &TileSend) -> TileHead
         quant_y: 0,
         quant_cb: 1,
         quant_cr: 2,
-        x_idx: send.x,
-        y_idx: send.y,
+        x_idx: send.cell.x,
+        y_idx: send.cell.y,
     }
 }
 

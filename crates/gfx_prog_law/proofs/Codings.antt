@@ -122,11 +122,11 @@ bases-again setting send set = λ i. Ok (record {
 
 -- the client reads how a tile is coded at the level that its quality names
 pub coding-again : (setting : Setting) (sends : List TileSend) (tiles : List Tile) (width height : ℕ) (send : TileSend) (quality level : ℕ) → IsSetting setting
-    → begins_in width height send.x send.y ≡ true → Names setting quality level → coding_of (region_of setting sends tiles) width height (head_of send) quality ≡ Ok (coding_at setting level)
+    → begins_in width height send.cell.x send.cell.y ≡ true → Names setting quality level → coding_of (region_of setting sends tiles) width height (head_of send) quality ≡ Ok (coding_at setting level)
 unfolding coding_of
 coding-again setting sends tiles width height send quality level set begins names =
     and_then_at (bases_of (packed setting.y.values ∷ packed setting.cb.values ∷ packed setting.cr.values ∷ []) (head_of send)) _ _ (bases-again setting send set)
-    ∙ and_then_at (check TileOutside (begins_in width height send.x send.y)) tt _ (ap (check TileOutside) begins)
+    ∙ and_then_at (check TileOutside (begins_in width height send.cell.x send.cell.y)) tt _ (ap (check TileOutside) begins)
     ∙ and_then_at (left_at (levels_from 0 setting.levels) quality) _ _ names
     ∙ ap Ok (λ i. record {
       transform = transform-again setting.transform i;

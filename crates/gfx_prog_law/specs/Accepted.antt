@@ -26,8 +26,8 @@ use Rattle.gfx_prog_decode.specs.Scene.{Scene}
 pub record IsSend (setting : Setting) (send : TileSend) : Type 0 where
   pub may : MayBeSent send.tile
   pub coded : send.tile.setting ≡ setting
-  pub x : send.x < 2 ^ 16
-  pub y : send.y < 2 ^ 16
+  pub x : send.cell.x < 2 ^ 16
+  pub y : send.cell.y < 2 ^ 16
   pub rect : IsRect send.rect
 
 -- ---- what is asked of the scene
@@ -38,7 +38,7 @@ record_for place old send = found old (key_of place (head_of send))
 
 -- the cell begins on the picture
 abbrev pub Begins : Scene → TileSend → Type 0
-Begins old send = begins_in old.picture.width old.picture.height send.x send.y ≡ true
+Begins old send = begins_in old.picture.width old.picture.height send.cell.x send.cell.y ≡ true
 
 -- a tile goes on what is kept of its cell, by its own transform; a plain one on nothing
 pub record GoesOn (before : Option TileState) (send : TileSend) : Type 0 where

@@ -1,7 +1,7 @@
 //! Messages that a server makes of tiles, as an independent program makes them.
 ghost use Rattle.std.specs.Prelude.{◌≡◌, ◌∷◌, [], IfSome, length};
 
-use gfx_base::{Bytes, Pixel, Rect};
+use gfx_base::{Bytes, Cell, Pixel, Rect};
 use gfx_dwt::Transform;
 use gfx_prog_encode::{TileSend, improve_message, paint_message};
 use gfx_quant::{Level, Levels, Quant, Setting};
@@ -75,8 +75,7 @@ fn messages(alloc: Global) -> Option<(Bytes, Bytes)> {
     let setting = usual();
     let tile = white_tile(alloc, &setting)?;
     let mut send = TileSend {
-        x: 0,
-        y: 0,
+        cell: Cell { x: 0, y: 0 },
         rect: Rect::sized(64, 64),
         tile,
         level: 0,

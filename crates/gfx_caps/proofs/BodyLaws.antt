@@ -1,10 +1,9 @@
 -- The body of each message: what is spelled is read, and what is read is the body of a message that fits.
-use Rattle.std.proofs.Common.{◌≡◌, ℕ, ◌+◌, ◌<◌, ◌^◌, List, [], ◌∷◌, length, map, Result, Ok, Err, refl, sym, ap, ◌∙◌, subst, arith}
+use Rattle.std.proofs.Common.{◌≡◌, ℕ, ◌+◌, ◌<◌, ◌^◌, List, [], ◌∷◌, length, map, Ok, refl, sym, ap, ◌∙◌, subst, arith}
 use Rattle.std.proofs.lemmas.List.{append-nil, length-map}
 use Rattle.std.proofs.lemmas.List.Sums.{sum_by-cons}
 use Rattle.std.specs.List.{AllByRecursion, sum_by}
 use Rattle.gfx_base.specs.Field.{IsBytes}
-use Rattle.gfx_layout.specs.declared.stop.Stop.{Stop}
 use Rattle.gfx_layout.specs.Layout.{Parts, made, Fit, spelled}
 use Rattle.gfx_layout.proofs.FoundLaws.{read_whole-spelled, read_whole-found}
 use Rattle.gfx_layout.specs.Header.{refused}

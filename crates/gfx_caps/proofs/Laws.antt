@@ -1,21 +1,19 @@
 -- Reading and spelling undo each other.
-use Rattle.std.proofs.Common.{Result, ◌≡◌, ℕ, ◌+◌, ◌-◌, ◌≤◌, ◌<◌, ◌^◌, Bool, true, false, cond, eqb, ltb, List, [], ◌∷◌, ◌++◌, length, take, drop, Option, Some, None, Ok, Err, refl, sym, ap, subst, ◌∙◌, length-drop, arith, lit<, inl, inr}
-use Rattle.std.proofs.lemmas.Bool.{le-ltb, eqb-true, eq-eqb, cases_Bool}
-use Rattle.std.proofs.lemmas.List.{take_all, drop-drop}
-use Rattle.std.specs.Int.{w16, w32}
-use Rattle.std.specs.Option.{ok_or}
-use Rattle.std.specs.List.{find}
+use Rattle.std.proofs.Common.{Result, ◌≡◌, ℕ, ◌+◌, ◌-◌, ◌<◌, ◌^◌, true, eqb, List, ◌++◌, length, take, drop, Some, Ok, Err, refl, sym, ap, subst, ◌∙◌, length-drop, arith, lit<}
+use Rattle.std.proofs.lemmas.Bool.{eqb-true, eq-eqb}
+use Rattle.std.proofs.lemmas.List.{take_all}
+use Rattle.std.specs.Int.{w16}
 use Rattle.gfx_base.specs.Field.{number_at, IsBytes}
 use Rattle.std.specs.Prelude.{IfOk}
 use Rattle.gfx_base.specs.Outcome.{Gives}
 use Rattle.gfx_base.specs.Results.{and_then, check}
 use Rattle.gfx_base.specs.declared.answer.Cause.{Cause}
 use Rattle.gfx_base.specs.declared.refusal.Refusal.{Refusal}
-use Rattle.gfx_base.specs.declared.refusal.Refusal.TheVariants.{PduUnknown, CountMismatch}
+use Rattle.gfx_base.specs.declared.refusal.Refusal.TheVariants.{CountMismatch}
 use Rattle.gfx_base.proofs.FieldLemmas.{IsBytes-drop}
 use Rattle.gfx_base.proofs.ResultLemmas.{and_then_ok, check_ok}
 use Rattle.gfx_layout.specs.Shape.{digits, number_in, u16, u32}
-use Rattle.gfx_layout.proofs.ShapeLaws.{row_digits-row_in, number_in-fits, number_in-digits}
+use Rattle.gfx_layout.proofs.ShapeLaws.{number_in-fits}
 use Rattle.gfx_layout.proofs.FoundLaws.{length-spelled}
 use Rattle.gfx_layout.specs.Header.{size_of, header, no_flags}
 use Rattle.gfx_layout.proofs.Headers.{head, size_of-head, kind_by-head, kind_by-ok, two_flags, find_passes, IsSize, size_of-ok, header-read}

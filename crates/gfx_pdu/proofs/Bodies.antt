@@ -1,10 +1,9 @@
 -- The body of each message: what is spelled is read, and what is read is the body of a message that fits.
-use Rattle.std.proofs.Common.{◌≡◌, ℕ, ◌*◌, ◌-◌, ◌≤◌, List, [], length, Result, Ok, Err, refl, sym, ap, ◌∙◌, subst, arith}
+use Rattle.std.proofs.Common.{◌≡◌, ℕ, ◌*◌, ◌-◌, ◌≤◌, List, [], length, Ok, refl, sym, ap, ◌∙◌, subst, arith}
 use Rattle.std.proofs.lemmas.Bool.{le-leb, leb-true}
 use Rattle.std.proofs.lemmas.List.{append-nil}
 use Rattle.gfx_base.specs.Field.{IsBytes}
 use Rattle.gfx_base.specs.Geometry.{IsPoint, IsRect}
-use Rattle.gfx_layout.specs.declared.stop.Stop.{Stop}
 use Rattle.gfx_layout.specs.Shape.{PartFits}
 use Rattle.gfx_layout.specs.Shapes.{pixel, point, rect}
 use Rattle.gfx_layout.specs.Layout.{Parts, made, Fit, spelled}

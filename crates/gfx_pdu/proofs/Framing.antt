@@ -1,14 +1,10 @@
 -- The header and what stands behind it.
-use Rattle.std.proofs.Common.{◌≡◌, ℕ, ◌+◌, ◌-◌, ◌≤◌, ◌<◌, ◌^◌, Bool, true, false, cond, ltb, List, [], ◌∷◌, ◌++◌, length, take, Option, Some, None, Result, Ok, Err, refl, ap, ◌∙◌, length-append, arith, inl, inr, eqb, sym, lit<}
-use Rattle.std.proofs.lemmas.Bool.{le-ltb, lt-ltb, ltb-false, cases_lt, eqb-true, cases_Bool}
+use Rattle.std.proofs.Common.{◌≡◌, ℕ, ◌+◌, ◌-◌, ◌≤◌, ◌<◌, ◌^◌, List, ◌++◌, length, take, Some, Ok, refl, length-append, arith, eqb, lit<}
+use Rattle.std.proofs.lemmas.Bool.{eqb-true}
 use Rattle.std.proofs.lemmas.List.{take_at}
-use Rattle.std.specs.Int.{w16, w32}
-use Rattle.std.specs.List.{find}
-use Rattle.std.specs.Option.{ok_or}
+use Rattle.std.specs.Int.{w16}
 use Rattle.gfx_base.specs.Field.{number_at}
 use Rattle.gfx_base.specs.Results.{and_then}
-use Rattle.gfx_base.specs.declared.refusal.Refusal.{Refusal}
-use Rattle.gfx_base.specs.declared.refusal.Refusal.TheVariants.{PduTruncated, PduLength, PduUnknown}
 use Rattle.gfx_layout.specs.Header.{header}
 use Rattle.gfx_layout.proofs.Headers.{head, size_of-head, kind_by-head, kind_by-ok, two_flags, find_passes}
 use Rattle.gfx_pdu.specs.declared.id.Id.{Id}

@@ -1,8 +1,8 @@
 -- Reading and spelling undo each other.
-use Rattle.std.proofs.Common.{◌≡◌, ℕ, ◌+◌, ◌-◌, ◌≤◌, ◌<◌, true, false, cond, eqb, List, [], ◌∷◌, ◌++◌, length, take, drop, Option, Some, None, Result, Ok, Err, refl, sym, ap, subst, ◌∙◌, append_assoc, length-append, length-drop, arith}
+use Rattle.std.proofs.Common.{◌≡◌, ℕ, ◌+◌, ◌-◌, ◌≤◌, ◌<◌, true, false, cond, eqb, List, ◌++◌, length, take, drop, Option, Some, None, Result, Ok, Err, refl, sym, ap, subst, ◌∙◌, append_assoc, length-append, length-drop, arith}
 use Rattle.std.proofs.lemmas.Bool.{ne_eqb}
 use Rattle.std.specs.Prelude.{IfOk, IfSome}
-use Rattle.std.proofs.lemmas.List.{take-append-drop, length-take, length-replicate, drop-drop}
+use Rattle.std.proofs.lemmas.List.{take-append-drop, length-take, length-replicate}
 use Rattle.std.specs.Int.{w16, w32}
 use Rattle.std.specs.Option.{option_map}
 use Rattle.gfx_base.specs.Field.{number_at, IsBytes}
@@ -13,7 +13,7 @@ use Rattle.gfx_base.proofs.FieldLemmas.{IsBytes-take, IsBytes-drop, number_at-ap
 use Rattle.gfx_base.proofs.ResultLemmas.{and_then_ok}
 use Rattle.gfx_base.specs.declared.refusal.Refusal.{Refusal}
 use Rattle.gfx_layout.specs.Shape.{digits, number_in, u16, u32}
-use Rattle.gfx_layout.proofs.ShapeLaws.{row_digits-row_in, number_in-fits}
+use Rattle.gfx_layout.proofs.ShapeLaws.{number_in-fits}
 use Rattle.gfx_layout.proofs.FoundLaws.{length-spelled}
 use Rattle.gfx_pdu.specs.declared.id.Id.{Id}
 use Rattle.gfx_pdu.specs.declared.pdu.Pdu.{Pdu}

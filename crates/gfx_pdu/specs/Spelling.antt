@@ -1,5 +1,5 @@
 -- The bytes of a message: its header ([MS-RDPEGFX] 2.2.1.5) and its body.
-use Rattle.std.specs.Prelude.{◌≡◌, ℕ, ◌+◌, ◌-◌, ◌*◌, ◌≤◌, ◌<◌, ◌^◌, List, [], ◌∷◌, ◌++◌, length, replicate}
+use Rattle.std.specs.Prelude.{◌≡◌, ℕ, ◌+◌, ◌-◌, ◌*◌, ◌≤◌, ◌<◌, ◌^◌, List, ◌++◌, length, replicate}
 use Rattle.std.specs.List.{AllByRecursion}
 use Rattle.gfx_base.specs.Geometry.{IsPoint, IsRect}
 use Rattle.gfx_layout.specs.Header.{header, no_flags}

@@ -13,7 +13,7 @@ use Rattle.gfx_script.specs.declared.step.Step.{Step}
 use Rattle.gfx_script.specs.Checks.{Held, held_after, held_through}
 use Rattle.gfx_script.specs.Scripted.{Script}
 use Rattle.gfx_script.specs.Script.{is_framed, IsStep, IsAccepted}
-use Rattle.gfx_script_text.specs.Text.{Top, Head, at_step, head_of, next_step, steps_of, held_before, script_with, script_of}
+use Rattle.gfx_script_text.specs.Text.{Top, Head, at_step, head_of, next_step, steps_of, held_before, script_with, script_in, script_of}
 use Rattle.gfx_script_text.proofs.PictureRanges.{AreGood, pictures_of-good}
 use Rattle.gfx_script_text.proofs.SettingRanges.{progressive_of-good}
 use Rattle.gfx_script_text.proofs.SessionRanges.{IsWindow, window_of-fits, AreOffers, offers_of-good, turns_of-good}
@@ -93,9 +93,10 @@ head_of-good top =
 
 -- a script that is read is good
 pub accepted : (text : List ℕ) (script : Script) → script_of text ≡ Ok script → IsAccepted script
-unfolding script_of
+unfolding script_of script_in
 accepted text script is =
-    let table = and_then_ok _ _ script is in
+    let utf8 = and_then_ok _ _ script is in
+    let table = and_then_ok _ _ script utf8.2 in
     let top = and_then_ok _ _ script table.2 in
     let head = and_then_ok _ _ script top.2 in
     let steps = and_then_ok _ _ script head.2 in

@@ -35,7 +35,7 @@ at_step number (Err kind) = Err record { step = number; kind = kind }
 
 -- the table of a text
 unfoldable pub document_of : List ℕ → Result Members ScriptKind
-document_of bytes = ok_or (if is_utf8 bytes then parse_document bytes else None) Toml
+document_of text = ok_or (parse_document text) Toml
 
 -- the items of an array, which may be missing
 abbrev pub items_or_none : Option Data → Result (List Data) ScriptKind
@@ -113,12 +113,18 @@ script_with head steps turns = record {
 }
 
 -- the script of a text, or what is wrong first
-unfoldable pub script_of : List ℕ → Result Script Wrong
-script_of bytes = do
-  table ← at_step 0 (document_of bytes)
+unfoldable pub script_in : List ℕ → Result Script Wrong
+script_in text = do
+  table ← at_step 0 (document_of text)
   top ← at_step 0 (top_of table)
   head ← at_step 0 (head_of top)
   steps ← steps_of head.gallery.names 1 (held_before head) top.step
   framed ← at_step 0 (check Unframed (is_framed steps))
   turns ← at_step 0 (turns_of top.turn)
   Ok (script_with head steps turns)
+
+-- the script of bytes, which are a text in UTF-8
+unfoldable pub script_of : List ℕ → Result Script Wrong
+script_of bytes = do
+  utf8 ← at_step 0 (check Toml (is_utf8 bytes))
+  script_in bytes

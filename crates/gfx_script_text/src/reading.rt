@@ -1,12 +1,14 @@
 //! The whole of a script's text, and the order of checks.
 
-ghost use Rattle.std.specs.Prelude.{◌≤◌, length, map, IfOk};
+ghost use Rattle.std.specs.Prelude.{◌≡◌, ◌≤◌, true, length, map, IfErr, IfOk};
+ghost use Rattle.std.specs.Str.{is_utf8};
 ghost use Rattle.toml.specs.Data.{get_member};
 ghost use Rattle.toml.specs.View.{table_view, view};
 ghost use Rattle.gfx_base.specs.Outcome.{Gives, Says};
 ghost use Rattle.gfx_script.specs.declared.TheConstants.{MOST_STEPS};
 ghost use Rattle.gfx_script.specs.Script.{IsAccepted};
-ghost use Rattle.gfx_script_text.specs.Text.{script_of, document_of, items_or_none, top_of, head_of, next_step, steps_of};
+ghost use Rattle.gfx_script_text.specs.Text.{script_of, script_in, document_of, items_or_none, top_of, head_of, next_step, steps_of};
+ghost use Rattle.gfx_script_text.specs.declared.error.ScriptError.TheVariants.{Memory};
 ghost use Rattle.gfx_script_text.specs.Told.{Reads, parts_seen, top_seen, head_seen};
 
 use crate::client::read_client;
@@ -60,7 +62,15 @@ struct Head<'a> {
 pub fn read_script(alloc: Global, text: &[u8]) -> Result<Script, ScriptError>
     ensures exact { Reads (λ script. script) result (script_of text.now) }
     ensures accepted { IfOk result IsAccepted }
+    // Bytes that are no text take no memory.
+    ensures memory { IfErr result (λ error. error ≡ Memory → is_utf8 text.now ≡ true) }
 {
+    let Ok(text) = std::str::from_utf8(text) else {
+        return Err(ScriptError::Fault {
+            step: 0,
+            kind: ScriptKind::Toml,
+        });
+    };
     let parts = read_parts(alloc, text)?;
     Ok(Script::new(
         parts.window,
@@ -75,9 +85,9 @@ pub fn read_script(alloc: Global, text: &[u8]) -> Result<Script, ScriptError>
 }
 
 /// Reads the parts of a script.
-#[tactic(auto, unfolding(crate::specs::Text::script_of, gfx_base::specs::Results::and_then))]
-fn read_parts(alloc: Global, text: &[u8]) -> Result<Parts, ScriptError>
-    ensures { Reads parts_seen result (script_of text.now) }
+#[tactic(auto, unfolding(crate::specs::Text::script_in, gfx_base::specs::Results::and_then))]
+fn read_parts(alloc: Global, text: &str) -> Result<Parts, ScriptError>
+    ensures { Reads parts_seen result (script_in text.now) }
 {
     let table = match read_document(alloc, text) {
         Ok(table) => table,
@@ -130,12 +140,9 @@ fn read_parts(alloc: Global, text: &[u8]) -> Result<Parts, ScriptError>
 
 /// Reads the table of a text.
 #[tactic(auto, unfolding(crate::specs::Text::document_of))]
-fn read_document(alloc: Global, text: &[u8]) -> Result<Table, Flaw>
+fn read_document(alloc: Global, text: &str) -> Result<Table, Flaw>
     ensures { Gives table_view result (document_of text.now) }
 {
-    let Ok(text) = std::str::from_utf8(text) else {
-        return Err(Flaw::Refused(ScriptKind::Toml));
-    };
     match toml::table_from_str(alloc, text) {
         Ok(top) => Ok(top),
         Err(error) if error.is_memory() => Err(Flaw::Memory),

@@ -1,6 +1,6 @@
 -- The surfaces of a client or of a server, by their ids ([MS-RDPEGFX], RDPGFX_CREATE_SURFACE_PDU and
 -- RDPGFX_SOLIDFILL_PDU). The limits and the order of the checks are this project's own rules.
-use Rattle.std.specs.Prelude.{◌≡◌, true, false, ℕ, ◌+◌, ◌-◌, ◌*◌, ◌/◌, Bool, IsTrue, All, ◌&&◌, not, nat_le, nat_lt, List, fold, Result, Ok}
+use Rattle.std.specs.Prelude.{◌≡◌, true, false, ℕ, ◌+◌, ◌*◌, Bool, IsTrue, All, ◌&&◌, not, nat_le, nat_lt, List, fold, Result, Ok}
 use Rattle.std.specs.Coded.{Coded, coded_ℕ}
 use Rattle.std.specs.List.{sum_by}
 use Rattle.std.specs.Ordering.{nat_cmp}

@@ -1,0 +1,5 @@
+pub mod PassesShown
+pub mod Raised
+pub mod Stays
+pub mod Delivered
+pub mod Choosing

@@ -8,6 +8,8 @@ mod bitmaps;
 #[cfg(test)]
 mod caps;
 #[cfg(test)]
+mod fragments;
+#[cfg(test)]
 mod framing;
 #[cfg(test)]
 mod messages;

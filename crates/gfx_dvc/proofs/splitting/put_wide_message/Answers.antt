@@ -1,0 +1,13 @@
+use Rattle.std.proofs.Common.{take, drop, length, ap, ◌∙◌}
+use Rattle.std.proofs.lemmas.List.{take_min, drop_min}
+use Rattle.gfx_dvc.specs.declared.profile.TheConstants.{MOST_WIDE_DATA}
+use Rattle.gfx_dvc.specs.Cutting.{wide_fragment}
+use Rattle.gfx_dvc.proofs.CutLemmas.{puts_several}
+use Rattle.gfx_dvc.proofs.splitting.put_wide_message.Goals as goal
+
+pub returns : goal.returns
+returns c =
+    puts_several _ (wide_fragment (length c.args.message.now)) MOST_WIDE_DATA c.args.message.now _ _ _ _ _
+    (c.split_at.ensures.front ∙ ap (λ z. take z c.args.message.now) c.min.ensures ∙ take_min MOST_WIDE_DATA c.args.message.now)
+    (c.split_at.ensures.back ∙ ap (λ z. drop z c.args.message.now) c.min.ensures ∙ drop_min MOST_WIDE_DATA c.args.message.now)
+    c.in_ok-put_wide.ensures c.put_all.ensures

@@ -1,0 +1,12 @@
+use Rattle.gfx_rfx_video.specs.Seen.{seen}
+use Rattle.std.proofs.Common.{◌-◌}
+use Rattle.gfx_bits.specs.Bits.{bits_of}
+use Rattle.gfx_rlgr.specs.declared.mode.Mode.TheVariants.{Rlgr3}
+use Rattle.gfx_rlgr.proofs.Filling.{Fills}
+use Rattle.gfx_rfx_video.proofs.reading.fill.Given as goal
+
+abbrev pub invariant-tokens : goal.invariant-tokens
+invariant-tokens l = Fills Rlgr3 4096 (bits_of l.bytes) l.bits (seen l.params) l.at l.out l.most
+
+abbrev pub decreases-tokens : goal.decreases-tokens
+decreases-tokens l = 4096 - l.at

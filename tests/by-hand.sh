@@ -1,7 +1,7 @@
 #!/usr/bin/env bash
 # Runs the built program where the machine refuses it a stream, on the examples, at the limits of its input and of
-# its tiles and, where a reference program is given, beside that one on many streams. It takes some minutes, and
-# needs python3 and xz.
+# its tiles, on inputs that would show what takes too many steps or too much room, and, where a reference program
+# is given, beside that one on many streams. It takes some minutes, and needs python3, xz and valgrind.
 #
 #     tests/by-hand.sh PROGRAM [REFERENCE [SEEDS]]
 #
@@ -116,6 +116,60 @@ if last:
 PYTHON
 }
 
+# Writes a stream that is refused for a size, as the word says: `side` a surface of 65,535 by 65,535, `cells` one of
+# 8,192 by 8,192 beside a small one, `bitmap` a bitmap of one row more than the cache of a small client takes.
+refused_of() {
+    python3 - "$1" <<'PYTHON'
+import struct, sys
+
+def message(number, body):
+    payload = struct.pack("<HHI", number, 0, 8 + len(body)) + body
+    return struct.pack("<IBB", 2 + len(payload), 0xE0, 0x04) + payload
+
+def surface(number, width, height):
+    return message(9, struct.pack("<HHHB", number, width, height, 0x20))
+
+small_client = message(19, struct.pack("<III", 0x80004, 4, 2))
+whole_to_slot = message(6, struct.pack("<HQHHHHH", 1, 1, 1, 0, 0, 2048, 2049))
+sys.stdout.buffer.write({
+    "side": surface(1, 65535, 65535),
+    "cells": surface(1, 1, 1) + surface(2, 8192, 8192),
+    "bitmap": small_client + surface(1, 2048, 2049) + whole_to_slot,
+}[sys.argv[1]])
+PYTHON
+}
+
+# Writes an input with as many parts as the number says: `messages` a stream of channel messages without a payload,
+# `columns` a script that paints a picture of noise, so wide, as bands, `paints` one that paints so many pictures
+# of noise, each of two columns, as bands.
+many_of() {
+    python3 - "$@" <<'PYTHON'
+import struct, sys
+
+def script(pictures, width, height):
+    """Paints noise of these names and this size, one on the other, in one frame."""
+    size = f"width = {width}, height = {height}"
+    yield "picture = ["
+    for name in pictures:
+        yield f'    {{ name = "{name}", {size}, pattern = "noise", seed = {name} }},'
+    yield "]"
+    yield "step = ["
+    yield f'    {{ do = "surface", id = 1, {size} }},'
+    for name in pictures:
+        yield f'    {{ do = "paint", id = 1, picture = "{name}", at = [0, 0], kind = "bands" }},'
+    yield '    { do = "frame" },'
+    yield "]"
+
+kind, count = sys.argv[1], int(sys.argv[2])
+if kind == "messages":
+    sys.stdout.buffer.write(struct.pack("<IBB", 2, 0xE0, 0x04) * count)
+elif kind == "columns":
+    print("\n".join(script(range(1), count, 52)))
+else:
+    print("\n".join(script(range(count), 2, 2)))
+PYTHON
+}
+
 # Passes its input on in small pieces, whose sizes the seed decides.
 in_pieces() {
     python3 -c '
@@ -165,6 +219,45 @@ report "no memory" "5 memory: none left" "$(ended $?)$(cat "$work/out")"
 printf '\x12\0\0\0\xe0\x04\x0b\0\0\0\x10\0\0\0\0\0\0\0\x01\0\0\0\x11\0\0\0\xe0\x04\x09\0\0\0\x0f\0\0\0\x01\0\0\x20\0\x20\x20' |
     (ulimit -v 100000 && "$program" audit > "$work/out" 2> "$work/err")
 report "no memory in an audit" "5 memory: none left, 1 StartFrame 16" "$(ended $?), $(cat "$work/out")"
+
+# What is refused for its size takes no room first: 64,000 KiB are enough for what was there before. A bitmap of the
+# third stream would be 16 MiB more.
+refused_case() {
+    refused_of "$2" > "$work/input"
+    (ulimit -v 64000 && "$program" render < "$work/input" > "$work/out" 2> "$work/err")
+    report "no room for $1" "$3" "$(ended $?)"
+}
+refused_case "a side that is too long" side "1 message 1: 12 SurfaceSize"
+refused_case "cells beyond the limit" cells "1 message 2: 13 SurfaceBudget"
+refused_case "a bitmap that is too large" bitmap "1 message 3: 20 CacheBudget"
+
+# Each part takes no more than so many instructions, and twice as many parts take about twice as many. What the
+# program does without any is left out.
+instructions() {
+    valgrind --tool=callgrind --callgrind-out-file=/dev/null "$program" "$1" < "$work/input" 2>&1 > /dev/null |
+        sed -n 's/.*Collected : //p'
+}
+growth_case() {
+    local name=$1 word=$2 kind=$3 count=$4 most=$5 size steps=()
+    for size in 1 "$count" $((2 * count)); do
+        many_of "$kind" "$size" > "$work/input"
+        steps+=("$(instructions "$word")")
+    done
+    local once=$((steps[1] - steps[0])) twice=$((steps[2] - steps[0])) growth=few
+    [ $((once / count)) -le "$most" ] || growth="$((once / count)) each"
+    [ $((2 * twice)) -le $((5 * once)) ] || growth="$once, and $twice for twice as many"
+    report "the instructions of $name" few "$growth"
+}
+if command -v valgrind > /dev/null; then
+    # A buffer that is moved at each message has 3,000 and more instructions each, and four times as many.
+    growth_case "messages in one piece" render messages 5000 500
+    # A search without an index has 380,000 each.
+    growth_case "columns of noise" encode columns 1000 30000
+    # An index that is made anew at each paint has
+    growth_case "paints as bands" encode paints 1000 200000
+else
+    echo "not run instructions: there is no valgrind"
+fi
 
 # Words.
 usage="2 usage: gfxpipe encode | render [--output] | audit | session | make N | trial N"

@@ -183,3 +183,39 @@ fn sends_what_another_program_does(rt: HostRuntime) -> Result<(), NoMemory> {
     }
     Ok(())
 }
+
+// A band of one column, white above black or above another grey, with a sequence number.
+fn column(flags: u8, sequence: u8, shade: u8) -> [u8; 30] {
+    [
+        flags, sequence, 0, 0, 0, 0, 16, 0, 0, 0, 0, 0, 0, 0, 0, 0, 0, 0, 0, 0, 1, 0, 255, 255,
+        255, 1, 2, shade, shade, shade,
+    ]
+}
+
+// A foreign server lays the same bar on the places 0 and 1. A picture of it goes as a hit on the first, and once
+// that is overwritten, as one on the other.
+#[test]
+fn least_place_of_a_stream(rt: HostRuntime) -> Result<(), NoMemory> {
+    let mut state = ClearState::new(rt.alloc())?;
+    let mut surface = Surface::new(rt.alloc(), 1, 2, Format::Xrgb)?;
+    let table = [
+        (column(0, 0, 0), Some(0)),
+        (column(0, 1, 0), Some(0)),
+        (column(0, 2, 7), Some(0)),
+        (column(4, 3, 9), Some(1)),
+    ];
+    for (stream, place) in table {
+        assert_eq!(rt; refusal(&mut state, &mut surface, &stream), None);
+        assert_eq!(rt; state.store().find_bar(&[WHITE, BLACK]), place);
+    }
+    assert_eq!(rt; state.cursors(), (1, 1));
+    let due = [
+        1, 4, 159, 15, 0, 0, 0, 0, 13, 0, 0, 0, 0, 0, 0, 0, 0, 0, 0, 0, 0, 0, 1, 0, 255, 255, 255,
+        1, 128,
+    ];
+    match sent(&mut state, &[WHITE, BLACK], 1, 2, Layer::Bands) {
+        Some(bytes) => assert!(rt; bytes.as_slice() == due.as_slice()),
+        None => assert!(rt; false),
+    }
+    Ok(())
+}

@@ -14,3 +14,5 @@ mod clear_store;
 mod glyph;
 #[cfg(test)]
 mod noise;
+#[cfg(test)]
+mod rolled_back;

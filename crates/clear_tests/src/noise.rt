@@ -1,9 +1,10 @@
 //! Pictures of noise as bands: no column is there twice, and each is looked for among all that the rings hold. A
-//! walk along the rings would take minutes.
+//! walk along the rings would take minutes. What was sent is decoded by another state, on a surface of its own.
 ghost use Rattle.std.specs.Prelude.{◌≡◌, IfOk, length};
 
-use gfx_base::{NoMemory, Rgb};
+use gfx_base::{Format, NoMemory, Pixel, Rect, Rgb};
 use gfx_clear::{ClearState, Layer};
+use gfx_surface::Surface;
 use std::alloc::Global;
 use std::test::Fail;
 
@@ -18,13 +19,31 @@ const LENGTH: usize = 25_493_678;
 
 #[test]
 fn eight_pictures_of_noise(rt: HostRuntime) -> Result<(), Fail> {
-    let mut state = ClearState::new(rt.alloc())?;
-    for seed in 0..8 {
-        let pixels = noise(rt.alloc(), seed)?;
-        let stream = state.encode(&pixels, WIDTH, HEIGHT, Layer::Bands, None)?;
-        assert_eq!(rt; stream.len(), LENGTH);
+    let mut server = ClearState::new(rt.alloc())?;
+    let mut client = ClearState::new(rt.alloc())?;
+    let mut surface = Surface::new(rt.alloc(), WIDTH, HEIGHT, Format::Argb)?;
+    for seed in 1..9 {
+        let shown = is_exchanged(rt.alloc(), &mut server, &mut client, &mut surface, seed)?;
+        assert!(rt; shown, "seed {seed}");
     }
     Ok(())
+}
+
+/// Whether the noise of a seed goes in a stream of the length that is due, and is shown where another state decodes it.
+fn is_exchanged(
+    alloc: Global,
+    server: &mut ClearState,
+    client: &mut ClearState,
+    surface: &mut Surface,
+    seed: u32,
+) -> Result<bool, NoMemory> {
+    let pixels = noise(alloc, seed)?;
+    let stream = server.encode(&pixels, WIDTH, HEIGHT, Layer::Bands, None)?;
+    Ok(
+        stream.len() == LENGTH
+            && is_decoded(client, surface, stream.as_slice())
+            && shows_noise(surface, seed),
+    )
 }
 
 /// A picture of noise.
@@ -34,18 +53,39 @@ fn noise(alloc: Global, seed: u32) -> Result<Vec<Rgb>, NoMemory>
     let black = Rgb { b: 0, g: 0, r: 0 };
     let mut pixels = Vec::from_elem(alloc, black, AREA)?;
     'pixels: for at in 0..AREA {
-        pixels[at] = colour_at(at, seed);
+        pixels[at] = colour_at((at % 8192) as u32, (at / 8192 % 1024) as u32, seed);
     }
     Ok(pixels)
 }
 
-/// The colour at a place of the noise of a seed.
-fn colour_at(at: usize, seed: u32) -> Rgb {
-    let (x, y) = ((at % 8192) as u32, (at / 8192 % 1024) as u32);
+/// The colour in a column and a row of the noise of a seed.
+fn colour_at(x: u32, y: u32, seed: u32) -> Rgb {
     let hash = x
         .wrapping_mul(2_654_435_761)
         .wrapping_add(y.wrapping_mul(2_246_822_519))
         .wrapping_add(seed.wrapping_mul(3_266_489_917));
     let [_, r, g, b] = hash.to_le_bytes();
     Rgb { b, g, r }
+}
+
+/// Whether a stream for a whole surface is accepted.
+fn is_decoded(state: &mut ClearState, surface: &mut Surface, stream: &[u8]) -> bool {
+    let (width, height) = surface.size();
+    state
+        .decode(surface, Rect::sized(width, height), stream)
+        .is_ok()
+}
+
+/// Whether a surface shows the noise of a seed, opaque.
+fn shows_noise(surface: &Surface, seed: u32) -> bool {
+    let (width, height) = surface.size();
+    for y in 0..height {
+        for x in 0..width {
+            let Rgb { b, g, r } = colour_at(u32::from(x), u32::from(y), seed);
+            if surface.pixel(x, y) != (Pixel { b, g, r, a: 255 }) {
+                return false;
+            }
+        }
+    }
+    true
 }

@@ -155,3 +155,17 @@ fn each_write_of_audit_fails(rt: HostRuntime) -> Result<(), Fail> {
     }
     Ok(())
 }
+
+/// So of no messages.
+#[test]
+fn each_write_of_an_empty_audit_fails(rt: HostRuntime) -> Result<(), Fail> {
+    for (write, length) in [(1, 0), (2, 8), (3, 82), (4, 158), (5, 232)] {
+        let fails = [write];
+        let ran = run_on(rt.alloc(), &["audit"], &[], &[], &fails)?;
+        assert_eq!(rt; ran.status, Status::WriteFault);
+        assert_eq!(rt; ran.out.held().len(), length);
+        assert!(rt; NOTHING.as_bytes().starts_with(ran.out.held()));
+        assert_eq!(rt; ran.err.held(), b"output: write failed\n".as_slice());
+    }
+    Ok(())
+}

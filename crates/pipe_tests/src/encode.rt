@@ -71,6 +71,7 @@ fn each_read_and_write_of_encode_fails(rt: HostRuntime) -> Result<(), Fail> {
         )?;
         assert_eq!(rt; ran.status, status);
         assert_eq!(rt; ran.out.held().len(), stream);
+        assert!(rt; FILL.starts_with(ran.out.held()));
         assert_eq!(rt; ran.err.held(), line.as_bytes());
     }
     Ok(())

@@ -163,6 +163,7 @@ fn each_write_of_session_fails(rt: HostRuntime) -> Result<(), Fail> {
         )?;
         assert_eq!(rt; ran.status, Status::WriteFault);
         assert_eq!(rt; ran.out.held().len(), length);
+        assert!(rt; JOINED.as_bytes().starts_with(ran.out.held()));
         assert_eq!(rt; ran.err.held(), b"output: write failed\n".as_slice());
     }
     Ok(())

@@ -1,5 +1,5 @@
 //! Messages on one surface and one set of records.
-use gfx_base::{Fault, Format, Pixel, Refusal};
+use gfx_base::{Fault, Format, Pixel, Rect, Refusal};
 use gfx_prog_decode::Records;
 use gfx_surface::Surface;
 use std::alloc::Global;
@@ -55,6 +55,14 @@ const OUTSIDE: &[u8] =
 \0\x44\x44\x44\x44\x44\x44\x44\x44\x44\x44\x44\x44\x44\x44\x44\
 \xc6\xcc\x20\0\0\0\0\x01\x02\0\0\0\0\0\0\x03\0\x03\0\x03\0\0\0\0\0\0\0\0\0\0\0\0\
 \xc5\xcc\x16\0\0\0\0\x01\x02\x05\0\0\0\0\0\0\0\0\0\0\0\0";
+
+// A grey tile, and an upgrade in the cell to its right, which has no tile.
+const UPGRADE_BESIDE: &[u8] =
+    b"\xc4\xcc\x73\0\0\0\x40\x01\0\x03\x01\x01\x02\0\x3a\0\0\0\0\0\0\0\x80\0\x40\0\
+\x66\x66\x66\x66\x66\x66\x66\x66\x66\x66\x66\x66\x66\x66\x66\
+\0\x44\x44\x44\x44\x44\x44\x44\x44\x44\x44\x44\x44\x44\x44\x44\
+\xc6\xcc\x20\0\0\0\0\x01\x02\0\0\0\0\0\0\x03\0\x03\0\x03\0\0\0\0\0\0\0\0\0\0\0\0\
+\xc7\xcc\x1a\0\0\0\0\x01\x02\x01\0\0\0\0\0\0\0\0\0\0\0\0\0\0\0\0";
 
 fn grey(value: u8) -> Pixel {
     Pixel {
@@ -187,5 +195,43 @@ fn counts(alloc: Global) -> Option<[usize; 3]> {
 #[test]
 fn records_dropped(rt: HostRuntime) -> Result<(), Fail> {
     assert_eq!(rt; counts(rt.alloc()), Some([3, 2, 1]));
+    Ok(())
+}
+
+// Whether all pixels of a surface are this one.
+fn is_filled(surface: &Surface, pixel: Pixel) -> bool {
+    let (width, height) = surface.size();
+    for y in 0..height {
+        for x in 0..width {
+            if surface.pixel(x, y) != pixel {
+                return false;
+            }
+        }
+    }
+    true
+}
+
+// Gives a surface one colour.
+fn fill(surface: &mut Surface, colour: Pixel) {
+    let (width, height) = surface.size();
+    surface.fill(Rect::sized(width, height), colour);
+}
+
+// A message that is refused at its second tile leaves no trace of its first.
+#[test]
+fn staged_tiles(rt: HostRuntime) -> Result<(), Fail> {
+    let mut records = Records::new(rt.alloc());
+    let mut surface = Surface::new(rt.alloc(), 128, 64, Format::Argb).map_err(|_| "no memory")?;
+    let before = Pixel {
+        b: 1,
+        g: 2,
+        r: 3,
+        a: 4,
+    };
+    fill(&mut surface, before);
+    let done = records.apply(rt.alloc(), &mut surface, 1, 1, UPGRADE_BESIDE);
+    assert!(rt; done == Err(Fault::Refused(Refusal::NoFirstPass)));
+    assert!(rt; is_filled(&surface, before));
+    assert_eq!(rt; records.count(), 0);
     Ok(())
 }

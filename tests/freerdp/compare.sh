@@ -42,9 +42,8 @@ compare() {
         different "$1: exit $ours $(cat "$work/ours.end"), FreeRDP exit $theirs $(tail -n +2 "$work/theirs.end")"
     elif [ "$2" -gt 0 ] || ! cmp -s "$work/ours" "$work/theirs"; then
         local found
-        found=$(./differences.py "$work/ours" "$work/theirs" "$2" "$work/off") ||
-            found="the dumps can't be compared"
-        [ -z "$found" ] || different "$1: $found"
+        found=$(../../tools/compare "$work/ours" "$work/theirs" --off "$2" --counts "$work/off") ||
+            different "$1: ${found:-the dumps are none}"
     fi
 }
 

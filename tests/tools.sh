@@ -1,0 +1,375 @@
+#!/usr/bin/env bash
+# Runs the tools on the examples: their words, their ends, and what they say, beside what the program says. It takes
+# a minute or two, and needs python3 and xz; what stands on FreeRDP is left out where Debian's freerdp2-dev isn't
+# there.
+#
+#     tests/tools.sh PROGRAM
+#
+# Each case is a line, `ok` or `FAILED`; the exit number is 1 where one failed. It is no part of `rt ci`, and takes
+# no server: tools/recorder/loopback tries `record` on a real session.
+set -u
+if [ $# -ne 1 ] || [ ! -x "$1" ]; then
+    echo "usage: tests/tools.sh PROGRAM, as rt run leaves it: crates/gfxpipe_main/out/gfxpipe_main" >&2
+    exit 2
+fi
+program=$(realpath "$1")
+export GFXPIPE=$program PYTHONDONTWRITEBYTECODE=1
+here=$(realpath "$(dirname "$0")")
+tools=$here/../tools examples=$here/../examples docs=$here/../docs
+work=$(mktemp -d)
+trap 'rm -rf "$work"' EXIT
+failures=0
+
+# The result of a case: its name, what is wanted and what came.
+report() {
+    if [ "$2" = "$3" ]; then
+        echo "ok      $1"
+    else
+        echo "FAILED  $1: wanted \"$2\", got \"$3\""
+        failures=$((failures + 1))
+    fi
+}
+
+# The exit number of the last run, and what it wrote on the standard error.
+ended() {
+    echo "$1 $(cat "$work/err")"
+}
+
+# The exit number of a run, and how many lines it wrote on the standard error.
+ended_lines() {
+    "$@" > "$work/out" 2> "$work/err"
+    echo "$? $(wc -l < "$work/err")"
+}
+
+same() {
+    cmp -s "$1" "$2" && echo same
+}
+
+# A PNG as a dump: the first line is the head that stands there, the rows are those of the picture.
+dump_of() {
+    python3 - "$@" <<'PYTHON'
+import struct, sys, zlib
+head, name = sys.argv[1:]
+data = open(name, "rb").read()
+at, packed = 8, b""
+while at < len(data):
+    size, kind = struct.unpack_from(">I4s", data, at)
+    if kind == b"IHDR":
+        width, height, _, colours = struct.unpack_from(">IIBB", data, at + 8)
+    if kind == b"IDAT":
+        packed += data[at + 8:at + 8 + size]
+    at += 12 + size
+samples = 4 if colours == 6 else 3
+rows = zlib.decompress(packed)
+print(head)
+for y in range(height):
+    row = rows[y * (1 + samples * width) + 1:(y + 1) * (1 + samples * width)]
+    pixels = (row[at:at + samples] for at in range(0, len(row), samples))
+    print("".join(bytes((p[2], p[1], p[0], p[3] if samples == 4 else 255)).hex() for p in pixels))
+PYTHON
+}
+
+# Puts the payloads of a recording into one channel message, or with `compressed` each into blocks that are
+# compressed, every byte as a literal: a 0 and its eight bits.
+rewritten() {
+    python3 - "$@" <<'PYTHON'
+import struct, sys
+way, tools = sys.argv[1], sys.argv[2]
+sys.path.insert(0, tools)
+from gfxtools import recording
+
+def literal(payload):
+    bits = "".join("0" + format(byte, "08b") for byte in payload)
+    unused = -len(bits) % 8
+    bits += "0" * unused
+    return bytes(int(bits[at:at + 8], 2) for at in range(0, len(bits), 8)) + bytes([unused])
+
+payloads = [channel.payload for channel in recording.channels(open(sys.argv[3], "rb"))]
+if way == "joined":
+    sys.stdout.buffer.write(recording.wrap(b"".join(payloads)))
+else:
+    for payload in payloads:
+        data = b"\xe0\x24" + literal(payload)
+        sys.stdout.buffer.write(struct.pack("<I", len(data)) + data)
+PYTHON
+}
+
+xz -dc "$examples/gnome.bin.xz" > "$work/gnome.bin"
+
+# ---- Words, and ends
+for tool in stream frames picture compare record gfx load; do
+    report "$tool --help" "0 0" "$(ended_lines "$tools/$tool" --help)"
+    report "$tool --help says its words" "usage: $tool" "$(head -n 1 "$work/out" | cut -d ' ' -f -2)"
+    report "$tool, a wrong word" "2 1" "$(ended_lines "$tools/$tool" --nonsense)"
+done
+for tool in stream frames compare record gfx load; do
+    report "$tool, no words" "2 1" "$(ended_lines "$tools/$tool")"
+done
+report "loopback --help" "0 0" "$(ended_lines "$tools/recorder/loopback" --help)"
+report "loopback, no words" "2 1" "$(ended_lines "$tools/recorder/loopback")"
+for words in "stream list $work/none" "frames $work/none $work/to" "picture $work/png --from $work/none" \
+    "compare $work/none $work/none" "record $work/new.bin $work/none" "gfx render $work/none" "stream list $work" \
+    "frames $work $work/to" "picture --list --from $work" "gfx audit $work" "stream list $docs/gnome.png" \
+    "picture --list --from $docs/gnome.png" "compare $docs/gnome.png $docs/gnome.png"; do
+    # shellcheck disable=SC2086
+    report "${words//$work/..}" "1 1" "$(ended_lines "$tools/"$words)"
+done
+report "a failed record leaves nothing" "" "$(ls "$work/new.bin" 2> /dev/null)"
+head -c 1000 "$examples/gnome.bin.xz" > "$work/cut.xz"
+for words in "stream stats" "gfx render"; do
+    # shellcheck disable=SC2086
+    report "$words of an .xz file that is cut" "1 1" "$(ended_lines "$tools/"$words "$work/cut.xz")"
+done
+for words in "stream list $work/gnome.bin" "stream json $work/gnome.bin" "load small" "gfx render $work/gnome.bin" \
+    "frames --video --every 5 --last 30 --jobs 2 $work/gnome.bin -" "picture --list --from $examples/desktop.txt"; do
+    # shellcheck disable=SC2086
+    { "$tools/"$words 2> "$work/err"; echo $? > "$work/number"; } | true
+    report "${words//$work/..} that nobody reads" "0 " "$(cat "$work/number") $(grep -v ffmpeg "$work/err")"
+    # shellcheck disable=SC2086
+    "$tools/"$words > /dev/full 2> "$work/err"
+    number=$?
+    report "${words//$work/..} on a full output" "1 line" \
+        "$([ $number -ne 0 ] && wc -l < "$work/err") line"
+done
+"$tools/stream" list < "$examples/fill.bin" 2> "$work/err" >&-
+report "stream on a closed output" "1 stream: the standard output is closed" "$(ended $?)"
+"$tools/stream" list 2> "$work/err" <&-
+report "stream on a closed input" "1 stream: the standard input is closed" "$(ended $?)"
+"$tools/stream" list < /dev/null > "$work/out" 2> "$work/err"
+report "stream on an empty input" "0 stream: the recording is empty" "$(ended $?)"
+
+# ---- Tables
+python3 - "$tools" "$docs" > "$work/out" <<'PYTHON'
+import re, sys
+sys.path.insert(0, sys.argv[1])
+from gfxtools import judge, recording, refusals
+profile = open(sys.argv[2] + "/PROFILE.md").read()
+rows = re.findall(r"^\| (\d+) \| (\w+) \| (.*) \|$", profile[profile.index("## Refusals"):], re.M)
+if {int(number): (name, why) for number, name, why in rows} != refusals.NAMES:
+    print("refusals")
+scripts = open(sys.argv[2] + "/SCRIPTS.md").read()
+told = scripts[scripts.index("## What a fault is told as"):scripts.index("## The order of checks")]
+faults = [name for names in re.findall(r"^\| (\w+(?:, \w+)*) \|", told, re.M) for name in names.split(", ")]
+if set(faults) - {"Kind"} != set(refusals.SCRIPT_FAULTS):
+    print("faults of scripts")
+formats = open(sys.argv[2] + "/FORMATS.md").read()
+ids = re.findall(r"^\| 0x(\w\w) \| (\w+) \| RDPGFX", formats, re.M)
+if {int(number, 16): name for number, name in ids} != {n: name for n, (name, _) in recording.READERS.items()}:
+    print("messages")
+PYTHON
+report "the tables of refusals, faults and messages are those of docs/" "" "$(cat "$work/out")"
+
+# ---- stream
+for example in fill desktop output outside passes pictures text; do
+    "$program" audit < "$examples/$example.bin" 2> "$work/wanted.err" | grep '^[0-9]' > "$work/wanted"
+    "$tools/stream" json "$examples/$example.bin" 2> "$work/err" > "$work/json"
+    python3 -c '
+import json, sys
+for line in sys.stdin:
+    one = json.loads(line)
+    if one["refused"]:
+        break
+    print(one["number"], one["message"], one["bytes"])' < "$work/json" > "$work/out"
+    report "stream json of $example is what audit says" "same" "$(same "$work/out" "$work/wanted")"
+    report "stream of $example, its end" "$(cat "$work/wanted.err")" \
+        "$(sed 's/^stream: \(message [0-9]*: [0-9]* [A-Za-z]*\).*/\1/' "$work/err")"
+done
+"$tools/stream" list "$examples/gnome.bin.xz" > "$work/out"
+report "stream list reads .xz and the standard input alike" "same" \
+    "$("$tools/stream" list < "$work/gnome.bin" | cmp -s - "$work/out" && echo same)"
+report "stream list of gnome, its lines" "$(($("$program" audit < "$work/gnome.bin" | grep -c '^[0-9]') + 1))" \
+    "$(wc -l < "$work/out")"
+report "stream list, a line" "4 79 1 SolidFill 32 7 - [0, 0, 2, 1] 0000ffff, 2 rectangles; refused: 14 RectOutside" \
+    "$("$tools/stream" list "$examples/outside.bin" 2> /dev/null | sed -n '5s/  */ /gp' | sed 's/^ //')"
+"$tools/stream" stats "$work/gnome.bin" > "$work/out"
+report "stream stats, the first line" \
+    "706,899 bytes, 74 channel messages, 1 of them of several blocks, 70 frames" "$(head -n 1 "$work/out")"
+report "stream stats, the codec" "progressive 70 704,085 3,129,344" \
+    "$(sed -n '/^progressive/s/  */ /gp' "$work/out")"
+report "stream stats, the tiles" "tiles of progressive messages: 764 simple" "$(grep ^tiles "$work/out")"
+report "stream frames of gnome" "72" "$("$tools/stream" frames "$work/gnome.bin" | wc -l)"
+report "stream frames, a line" "2 2 5 583 3 2041 - 1 progressive" \
+    "$("$tools/stream" frames "$examples/passes.bin" | sed -n '3s/  */ /gp' | sed 's/^ //')"
+for cut in 4 50 100 240 241; do
+    head -c $cut "$examples/text.bin" > "$work/cut.bin"
+    "$program" audit < "$work/cut.bin" 2> "$work/wanted" > /dev/null
+    "$tools/stream" list "$work/cut.bin" 2> "$work/err" > /dev/null
+    report "stream of $cut bytes of text" "$(cat "$work/wanted")" \
+        "$(sed 's/^stream: \(message [0-9]*: [0-9]* [A-Za-z]*\).*/\1/' "$work/err")"
+done
+# Messages and codecs that the profile leaves out, versions, and a rest of two bytes.
+python3 - "$tools" > "$work/foreign.bin" <<'PYTHON'
+import struct, sys
+sys.path.insert(0, sys.argv[1])
+from gfxtools import recording
+BODIES = (
+    (0x09, struct.pack("<HHHB", 1, 64, 64, 0x20)),
+    (0x02, struct.pack("<HHIBI", 1, 0xD, 7, 0x20, 3) + b"abc"),
+    (0x01, struct.pack("<HHB4HI", 1, 0xB, 0x20, 0, 0, 9, 9, 3) + b"abc"),
+    (0x01, struct.pack("<HHB4HI", 1, 0x77, 0x20, 0, 0, 9, 9, 0)),
+    (0x15, bytes(7)), (0x99, b""),
+    (0x13, struct.pack("<II", 0x000A0701, 0)),
+    (0x0C, struct.pack("<I", 9)),
+    (0x0B, struct.pack("<II", 5, 9)),
+    (0x02, struct.pack("<HHIBI", 1, 9, 7, 0x20, 6) + struct.pack("<HI", 0xCCC2, 7)),
+    (0x07, struct.pack("<HHH", 3, 1, 0)),
+)
+payloads = [struct.pack("<HHI", kind, 0, 8 + len(body)) + body for kind, body in BODIES]
+sys.stdout.buffer.write(b"".join(map(recording.wrap, [*payloads, b"\1\0"])))
+PYTHON
+for what in list stats frames json; do
+    report "stream $what of what is left out" "1 1" "$(ended_lines "$tools/stream" $what "$work/foreign.bin")"
+done
+report "stream of what is left out, its refusals" \
+    "2:16 3:16 4:16 5:8 6:8 7:23 8:22 10:38 11:19 12:6" \
+    "$("$tools/stream" json "$work/foreign.bin" 2> /dev/null | python3 -c '
+import json, sys
+for one in map(json.loads, sys.stdin):
+    if one["refused"]:
+        print(one["number"], one["refused"]["number"], sep=":")' | paste -sd ' ')"
+# A sequence number that comes twice is found by decoding alone.
+cat "$examples/text.bin" "$examples/text.bin" | python3 -c '
+import sys
+data = sys.stdin.buffer.read()
+half = len(data) // 2
+sys.stdout.buffer.write(data[:half] + data[half:].replace(b"\x01\x00\x40\x00\x28\x00", b"\x02\x00\x40\x00\x28\x00", 1))
+' > "$work/twice.bin"
+"$program" audit < "$work/twice.bin" 2> "$work/wanted" > /dev/null
+"$tools/stream" list "$work/twice.bin" --program "$program" 2> "$work/err" > /dev/null
+report "stream --program asks it" "$(cat "$work/wanted")" \
+    "$(sed 's/^stream: \(message [0-9]*: [0-9]* [A-Za-z]*\).*/\1/' "$work/err")"
+
+# ---- picture
+"$tools/picture" --list < "$examples/desktop.txt" > "$work/out"
+report "picture --list" "surface 1 160x100 xrgb, surface 2 120x80 xrgb, surface 65535 96x96 argb" \
+    "$(paste -sd , "$work/out" | sed 's/,/, /g')"
+"$tools/picture" --all "$work/all" < "$examples/desktop.txt"
+report "picture --all" "surface-1.png surface-2.png surface-65535.png" "$(cd "$work/all" && echo *)"
+for id in 1 2 65535; do
+    dump_of "$(grep "^surface $id " "$examples/desktop.txt")" "$work/all/surface-$id.png"
+done > "$work/out"
+report "picture --all, the pixels" "same" "$(same "$work/out" "$examples/desktop.txt")"
+"$tools/picture" 65535 "$work/one.png" --from "$examples/desktop.txt"
+report "picture of one surface" "same" "$(same "$work/one.png" "$work/all/surface-65535.png")"
+"$tools/picture" "$work/one.png" < "$examples/passes-3.txt"
+dump_of "$(head -n 1 "$examples/passes-3.txt")" "$work/one.png" > "$work/out"
+report "picture of the only surface" "same" "$(same "$work/out" "$examples/passes-3.txt")"
+"$tools/picture" --scale 32 < "$examples/output.txt" > "$work/one.png"
+report "picture of the output, to the standard output" "output 256x128" \
+    "$(dump_of x "$work/one.png" | awk 'NR > 1 { width = length($0) / 8; height++ } END { print "output " width "x" height }')"
+report "picture of several" "1 1" "$(ended_lines "$tools/picture" "$work/two.png" --from "$examples/desktop.txt")"
+report "picture of one that isn't there" "1 1" "$(ended_lines "$tools/picture" 9 "$work/two.png" --from "$examples/desktop.txt")"
+report "picture, a scale beyond the limit" "2 1" "$(ended_lines "$tools/picture" 1 "$work/two.png" --scale 65)"
+report "picture, a side beyond the limit" "1 1" \
+    "$(printf 'surface 1 2000x1 xrgb\n%s\n' "$(printf '000000ff%.0s' $(seq 2000))" > "$work/wide.txt"
+    ended_lines "$tools/picture" "$work/two.png" --scale 64 --from "$work/wide.txt")"
+printf 'output 0x0\n' > "$work/empty.txt"
+report "picture of no pixels" "1 1" "$(ended_lines "$tools/picture" "$work/two.png" --from "$work/empty.txt")"
+report "what fails leaves no file" "" "$(ls "$work/two.png"* 2> /dev/null)"
+
+# ---- compare
+"$tools/compare" "$examples/desktop.txt" "$examples/desktop.txt" > "$work/out" 2> "$work/err"
+report "compare, the same" "0 " "$(ended $?)$(cat "$work/out")"
+printf 'surface 1 2x2 xrgb\n000000ff000000ff\n000000ff000000ff\n' > "$work/a.txt"
+printf 'surface 1 2x2 xrgb\n000000ff000200ff\n000000ff010000ff\n' > "$work/b.txt"
+"$tools/compare" "$work/a.txt" - --picture "$work/difference.png" < "$work/b.txt" > "$work/out" 2> "$work/err"
+report "compare, two pixels" \
+    "1 surface 1 2x2 xrgb: 2 of 4 pixels differ, by up to 2, within [1, 0, 2, 2]; the first at column 1 of row 0: 000000ff and 000200ff" \
+    "$(ended $?)$(cat "$work/out")"
+dump_of "a" "$work/difference.png" > "$work/out"
+report "compare, its picture" "a 000000ff000081ff 000000ff000080ff" "$(paste -sd ' ' "$work/out")"
+"$tools/compare" "$work/a.txt" "$work/b.txt" --off 2 --counts "$work/counts" > "$work/out"
+report "compare, not so far off" "0 bytes 12 1-off 1 2-off 1" "$? $(cat "$work/counts")"
+report "compare, other surfaces" "1 0" "$(ended_lines "$tools/compare" "$examples/desktop.txt" "$examples/text.txt")"
+report "compare, what one alone has" "2" "$(grep -c 'alone has it' "$work/out")"
+
+# ---- frames
+for input in passes.toml passes.bin; do
+    "$tools/frames" "$examples/$input" "$work/passes" --jobs 2 2> "$work/err"
+    report "frames of $input" "0 $work/passes: 3 pictures of surface 1" "$(ended $?)"
+    for number in 1 2 3; do
+        dump_of "surface 1 80x48 xrgb" "$work/passes/frame-000$number.png" > "$work/out"
+        report "frames of $input, frame $number" "same" "$(same "$work/out" "$examples/passes-$number.txt")"
+    done
+    rm -rf "$work/passes"
+done
+rewritten joined "$tools" "$examples/passes.bin" > "$work/joined.bin"
+"$tools/frames" "$work/joined.bin" "$work/passes" 2> "$work/err"
+dump_of "surface 1 80x48 xrgb" "$work/passes/frame-0002.png" > "$work/out"
+report "frames that share a channel message" "same" "$(same "$work/out" "$examples/passes-2.txt")"
+"$tools/frames" - "$work/video" --video < "$examples/passes.bin" 2> "$work/err"
+grep -hv surface "$examples"/passes-[123].txt |
+    python3 -c 'import sys; sys.stdout.buffer.write(bytes.fromhex(sys.stdin.read()))' > "$work/wanted"
+report "frames --video" "same" "$(same "$work/video" "$work/wanted")"
+"$tools/frames" "$examples/gnome.bin.xz" "$work/gnome" --first 60 --every 5 2> "$work/err"
+report "frames --every of gnome" "0 frame-0060.png frame-0065.png frame-0070.png" "$? $(cd "$work/gnome" && echo *)"
+xz -dc "$examples/gnome.bin.xz" | "$program" render --output > "$work/wanted"
+dump_of "output 800x600" "$work/gnome/frame-0070.png" > "$work/out"
+report "frames, the last of gnome" "same" "$(same "$work/out" "$work/wanted")"
+"$tools/frames" "$examples/desktop.bin" "$work/end.png" --end --of 2 2> "$work/err"
+report "frames --end" "same" "$(same "$work/end.png" "$work/all/surface-2.png")"
+report "frames of several surfaces" "1 1" "$(ended_lines "$tools/frames" "$examples/desktop.bin" "$work/to")"
+report "frames of a refused recording" "1 1" "$(ended_lines "$tools/frames" "$examples/outside.bin" "$work/to")"
+cat "$examples/fill.bin" "$examples/outside.bin" > "$work/refused.bin"
+report "frames before a refusal" "1 2" "$(ended_lines "$tools/frames" "$work/refused.bin" "$work/to" --of 1)"
+report "frames before a refusal, their pictures" "frame-0001.png" "$(cd "$work/to" && echo *)"
+
+# ---- gfx
+"$tools/gfx" render "$examples/desktop.bin" "$work/out" 2> "$work/err"
+report "gfx render, into a file" "0 same" "$? $(same "$work/out" "$examples/desktop.txt")"
+"$tools/gfx" render --output < "$examples/output.bin" > "$work/out" 2> "$work/err"
+report "gfx render --output" "0 same" "$? $(same "$work/out" "$examples/output.txt")"
+"$tools/gfx" encode "$examples/text.toml" "$work/out" 2> "$work/err"
+report "gfx encode" "0 same" "$? $(same "$work/out" "$examples/text.bin")"
+"$tools/gfx" audit "$examples/text.bin" > "$work/out" 2> "$work/err"
+report "gfx audit" "0 same" "$? $(same "$work/out" "$examples/text-audit.txt")"
+"$tools/gfx" session "$examples/joined.toml" > "$work/out" 2> "$work/err"
+report "gfx session" "0 same" "$? $(same "$work/out" "$examples/joined.txt")"
+"$tools/gfx" trial 1 > "$work/out" 2> "$work/err"
+report "gfx trial" "0 same" "$? $(same "$work/out" "$examples/trial-1.txt")"
+report "gfx make" "same" "$("$tools/gfx" make 1 | cmp -s - <("$program" make 1) && echo same)"
+report "gfx render of an .xz file" "cd0976e038ed9c2cac37714d1eec4f5a36ba689aa7fb5ce8e61ebe6710708b53  -" \
+    "$("$tools/gfx" render "$examples/gnome.bin.xz" | sha256sum)"
+"$tools/gfx" render "$examples/outside.bin" > "$work/out" 2> "$work/err"
+report "gfx, a refusal" "1 same RectOutside" \
+    "$? $(same "$work/out" "$examples/outside.txt") $(grep -o RectOutside "$work/err")"
+for words in "render $docs/gnome.png" "render $examples/fill.toml" "encode $examples/fill.bin"; do
+    # shellcheck disable=SC2086
+    report "gfx ${words//$here\/..\//}, in one line" "1 1" "$(ended_lines "$tools/gfx" $words)"
+    report "gfx ${words//$here\/..\//}, what it looks like" "looks like" "$(grep -o "looks like" "$work/err")"
+done
+report "gfx, a number that is none" "2 1" "$(ended_lines "$tools/gfx" make 4294967296)"
+report "gfx on an empty input" "0 1" "$(ended_lines "$tools/gfx" render /dev/null)"
+cp "$examples/fill.bin" "$work/fill.bin"
+report "gfx into its own input" "2 1" "$(ended_lines "$tools/gfx" render "$work/fill.bin" "$work/fill.bin")"
+report "gfx into its own input leaves it" "same" "$(same "$work/fill.bin" "$examples/fill.bin")"
+report "gfx stream is stream" "same" \
+    "$("$tools/gfx" stream list "$work/gnome.bin" | cmp -s - <("$tools/stream" list "$work/gnome.bin") && echo same)"
+
+# ---- record, over FreeRDP's decoder
+if ! pkg-config --exists freerdp2 winpr2 2> /dev/null; then
+    echo "left out: record; freerdp2-dev isn't there"
+else
+    make --silent -C "$here/freerdp" || exit 2
+    freerdp=$here/freerdp/out/render
+    "$tools/record" "$work/recorded.bin" "$freerdp" < "$work/gnome.bin" > "$work/out" 2> "$work/err"
+    report "record of gnome" "0 same" "$? $(same "$work/recorded.bin" "$work/gnome.bin")"
+    report "record, what it says" \
+        "$work/recorded.bin: 706,899 bytes, 74 channel messages, 70 frames; the client ended with exit number 0" \
+        "$(cat "$work/err")"
+    report "record, the client's own output" "$("$freerdp" < "$work/gnome.bin" | sha256sum)" "$(sha256sum < "$work/out")"
+    rewritten compressed "$tools" "$examples/desktop.bin" > "$work/compressed.bin"
+    report "a compressed recording" "message 1: 5 BulkCompressed" "$("$program" render < "$work/compressed.bin" 2>&1)"
+    "$tools/record" "$work/plain.bin" "$freerdp" < "$work/compressed.bin" > "$work/out" 2> "$work/err"
+    report "record of a compressed one" "0 same" "$? $(same "$work/plain.bin" "$examples/desktop.bin")"
+    report "record doesn't write over" "1 1" "$(ended_lines "$tools/record" "$work/plain.bin" "$freerdp")"
+    report "record of a client without the channel" "1 1" "$(ended_lines "$tools/record" "$work/new.bin" true)"
+    (ulimit -f 100 && "$tools/record" "$work/full.bin" sh -c "trap '' XFSZ; exec $freerdp" < "$work/gnome.bin" \
+        > "$work/out" 2> "$work/err")
+    report "record where no more can be written" "0 1 nothing more is recorded" \
+        "$? $(grep -c . <(grep -o 'nothing more is recorded' "$work/err")) $(grep -o 'nothing more is recorded' "$work/err")"
+    report "record where no more can be written keeps whole messages" "0" \
+        "$("$tools/stream" stats "$work/full.bin" > /dev/null 2>&1; echo $?)"
+fi
+
+[ "$failures" -eq 0 ]

@@ -1,0 +1,185 @@
+"""Which messages the program refuses, by what the messages before them left (docs/FORMATS.md, "What messages do").
+
+What only the decoding of pixels finds isn't seen here: the refusals 24 to 49, but for the structure of progressive
+blocks."""
+
+from .recording import FORMATS
+
+MOST_SIDE = 8192
+MOST_SURFACES = 1024
+MOST_CELLS = 16384
+CELL_SIDE = 64
+MOST_OUTPUT_SIDE = 32766
+MOST_SLOTS, MOST_SMALL_SLOTS = 25600, 4096
+MOST_BYTES, MOST_SMALL_BYTES = 104857600, 16777216
+SMALL_CACHE = 0x02
+VERSIONS_TAKEN = (0x00080004, 0x00080105, 0x000A0002)
+# The codecs that are taken in WireToSurface1 and WireToSurface2.
+CODECS_1, CODECS_2 = (0x0, 0x8), (0x9,)
+
+
+def cells(width, height):
+    return -(-width // CELL_SIDE) * -(-height // CELL_SIDE)
+
+
+def lies_on(sides, rectangle):
+    left, top, right, bottom = rectangle
+    return left <= right <= sides[0] and top <= bottom <= sides[1]
+
+
+def fits(sides, width, height, points):
+    return all(x + width <= sides[0] and y + height <= sides[1] for x, y in points)
+
+
+class Judge:
+    """What accepted messages leave, as far as later ones are judged by it."""
+
+    def __init__(self):
+        self.surfaces = {}  # id: width, height
+        self.formats = {}  # id: format
+        self.cells = 0
+        self.slots = {}  # slot: width, height
+        self.bytes = 0
+        self.output = (0, 0)
+        self.mapped = set()
+        self.small = False
+        self.frame = None
+
+    def refusal(self, message):
+        """The refusal of a message, or None; what an accepted one does is done."""
+        if message.refusal:
+            return message.refusal
+        return getattr(self, "judge_" + message.name)(message.says)
+
+    def absent(self, *ids):
+        return "NoSurface" if any(id not in self.surfaces for id in ids) else None
+
+    def bytes_in(self, slot):
+        width, height = self.slots.get(slot, (0, 0))
+        return 4 * width * height
+
+    def judge_StartFrame(self, says):
+        if self.frame is not None:
+            return "FrameOpen"
+        self.frame = says["frame"]
+
+    def judge_EndFrame(self, says):
+        if self.frame != says["frame"]:
+            return "FrameMismatch"
+        self.frame = None
+
+    def judge_CreateSurface(self, says):
+        sides = says["width"], says["height"]
+        if says["surface"] in self.surfaces:
+            return "SurfaceExists"
+        if not all(1 <= side <= MOST_SIDE for side in sides):
+            return "SurfaceSize"
+        if says["format"] not in FORMATS:
+            return "PixelFormat"
+        if len(self.surfaces) >= MOST_SURFACES or self.cells + cells(*sides) > MOST_CELLS:
+            return "SurfaceBudget"
+        self.cells += cells(*sides)
+        self.surfaces[says["surface"]] = sides
+        self.formats[says["surface"]] = says["format"]
+
+    def judge_DeleteSurface(self, says):
+        if says["surface"] not in self.surfaces:
+            return "NoSurface"
+        self.cells -= cells(*self.surfaces.pop(says["surface"]))
+        del self.formats[says["surface"]]
+        self.mapped.discard(says["surface"])
+
+    def judge_SolidFill(self, says):
+        if absent := self.absent(says["surface"]):
+            return absent
+        sides = self.surfaces[says["surface"]]
+        if not all(lies_on(sides, rectangle) for rectangle in says["rectangles"]):
+            return "RectOutside"
+
+    def judge_SurfaceToSurface(self, says):
+        if absent := self.absent(says["source"], says["surface"]):
+            return absent
+        left, top, right, bottom = says["rectangle"]
+        if not lies_on(self.surfaces[says["source"]], says["rectangle"]):
+            return "RectOutside"
+        if not fits(self.surfaces[says["surface"]], right - left, bottom - top, says["points"]):
+            return "RectOutside"
+
+    def judge_WireToSurface1(self, says):
+        if absent := self.absent(says["surface"]):
+            return absent
+        if says["codec"] not in CODECS_1:
+            return "CodecRefused"
+        if says["format"] not in FORMATS:
+            return "PixelFormat"
+        left, top, right, bottom = says["rectangle"]
+        if not lies_on(self.surfaces[says["surface"]], says["rectangle"]):
+            return "RectOutside"
+        if says["codec"] == 0 and len(says["data"]) != 4 * (right - left) * (bottom - top):
+            return "PayloadLength"
+
+    def judge_WireToSurface2(self, says):
+        if absent := self.absent(says["surface"]):
+            return absent
+        if says["codec"] not in CODECS_2:
+            return "CodecRefused"
+        if says["format"] not in FORMATS:
+            return "PixelFormat"
+        return says["blocks"].refusal
+
+    def judge_ResetGraphics(self, says):
+        sides = says["width"], says["height"]
+        if not all(1 <= side <= MOST_OUTPUT_SIDE for side in sides):
+            return "OutputSize"
+        self.output = sides
+
+    def judge_MapSurfaceToOutput(self, says):
+        if absent := self.absent(says["surface"]):
+            return absent
+        self.mapped.add(says["surface"])
+
+    def judge_SurfaceToCache(self, says):
+        if absent := self.absent(says["surface"]):
+            return absent
+        if not 1 <= says["slot"] <= (MOST_SMALL_SLOTS if self.small else MOST_SLOTS):
+            return "SlotRange"
+        left, top, right, bottom = says["rectangle"]
+        if not lies_on(self.surfaces[says["surface"]], says["rectangle"]):
+            return "RectOutside"
+        after = self.bytes - self.bytes_in(says["slot"]) + 4 * (right - left) * (bottom - top)
+        if after > (MOST_SMALL_BYTES if self.small else MOST_BYTES):
+            return "CacheBudget"
+        self.slots[says["slot"]] = right - left, bottom - top
+        self.bytes = after
+
+    def judge_CacheToSurface(self, says):
+        if not 1 <= says["slot"] <= MOST_SLOTS:
+            return "SlotRange"
+        if says["slot"] not in self.slots:
+            return "SlotEmpty"
+        if absent := self.absent(says["surface"]):
+            return absent
+        if not fits(self.surfaces[says["surface"]], *self.slots[says["slot"]], says["points"]):
+            return "RectOutside"
+
+    def judge_EvictCacheEntry(self, says):
+        if not 1 <= says["slot"] <= MOST_SLOTS:
+            return "SlotRange"
+        self.bytes -= self.bytes_in(says["slot"])
+        self.slots.pop(says["slot"], None)
+
+    def judge_CapsConfirm(self, says):
+        if says["version"] not in VERSIONS_TAKEN or says["flags"] is None:
+            return "CapsVersion"
+        self.small = bool(says["flags"] & SMALL_CACHE)
+
+    def judge_DeleteEncodingContext(self, says):
+        return self.absent(says["surface"])
+
+
+def judged(messages):
+    """The messages, each with its refusal, and with what the accepted ones have left after it."""
+    judge = Judge()
+    for message in messages:
+        message.refusal = judge.refusal(message)
+        yield message, judge

@@ -3,3 +3,4 @@ pub mod Raised
 pub mod Stays
 pub mod Delivered
 pub mod Choosing
+pub mod Kept

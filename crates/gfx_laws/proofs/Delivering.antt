@@ -1,10 +1,8 @@
 -- A whole channel message delivers what its payload holds.
-use Rattle.std.proofs.Common.{◌≡◌, ◌∙◌, ℕ, List, [], ◌++◌, None, Result, Ok, Err, ap, sym}
-use Rattle.gfx_base.specs.declared.refusal.Refusal.{Refusal}
+use Rattle.std.proofs.Common.{◌≡◌, ◌∙◌, ℕ, List, ◌++◌, ap, sym}
 use Rattle.gfx_segment.specs.Framing.{Whole, front, payload}
 use Rattle.gfx_segment.proofs.FrontLemmas.{front-nil}
-use Rattle.gfx_state.specs.Payload.{messages_of}
-use Rattle.gfx_state.specs.Run.{Run, deliver, eats, opened, refuse}
+use Rattle.gfx_state.specs.Run.{Run, eats, opened}
 use Rattle.gfx_state.proofs.Runs.{eats_whole}
 use Rattle.gfx_laws.specs.Delivered.{IsBetween, WholeMessagesAreDelivered}
 

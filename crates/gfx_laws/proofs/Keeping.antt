@@ -1,13 +1,11 @@
 -- Both ends keep the records of live tiles.
-use Rattle.std.proofs.Common.{◌≡◌, ◌∙◌, List, ◌++◌, Option, Some, None, refl, sym, ap}
+use Rattle.std.proofs.Common.{◌≡◌, ◌∙◌, Option, Some, None, refl, sym, ap}
 use Rattle.std.specs.FinMap.{get}
 use Rattle.gfx_live.specs.Live.{Live}
 use Rattle.gfx_prog_decode.specs.declared.key.Key.{Key}
 use Rattle.gfx_prog_decode.specs.Records.{Records}
 use Rattle.gfx_prog_encode.specs.declared.send.TileSend.{TileSend}
 use Rattle.gfx_quant.specs.declared.setting.Setting.{Setting}
-use Rattle.gfx_script.specs.Kinds.{Fits, KindedStep}
-use Rattle.gfx_script.specs.Scripted.{Script}
 use Rattle.gfx_state.specs.State.{fresh}
 use Rattle.gfx_state.proofs.Wider.{sent_wider, started_fresh}
 use Rattle.gfx_surface.specs.Picture.{Picture}

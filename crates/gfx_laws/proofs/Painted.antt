@@ -2,7 +2,6 @@
 use Rattle.std.proofs.Common.{◌≡◌, ◌∙◌, ◌-◌, ◌*◌, ◌/◌, ◌%◌, ◌<◌, ℕ, Bool, true, List, Option, Some, inl, inr, refl, ap, arith}
 use Rattle.std.specs.FinMap.{get, insert}
 use Rattle.gfx_base.specs.declared.geometry.Point.{Point}
-use Rattle.gfx_base.specs.declared.geometry.Rect.{Rect}
 use Rattle.gfx_base.specs.declared.pixel.Pixel.{Pixel}
 use Rattle.gfx_base.specs.Cells.{cell}
 use Rattle.gfx_base.specs.Geometry.{holds}

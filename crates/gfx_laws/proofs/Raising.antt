@@ -1,5 +1,5 @@
 -- An improvement raises the live tiles of its surface.
-use Rattle.std.proofs.Common.{◌≡◌, ◌≢◌, ◌⊎◌, ◌∙◌, ◌+◌, ◌*◌, ◌<◌, ◌==◌, ℕ, Bool, true, false, if◌then◌else◌, nat_lt, cond, List, [], ◌∷◌, ◌++◌, length, Option, Some, None, option_map, inl, inr, refl, sym, ap, subst, arith, eq-eqb}
+use Rattle.std.proofs.Common.{◌≡◌, ◌≢◌, ◌⊎◌, ◌∙◌, ◌+◌, ◌<◌, ◌==◌, ℕ, Bool, true, false, if◌then◌else◌, nat_lt, cond, List, [], ◌∷◌, length, Option, Some, None, option_map, inl, inr, refl, sym, ap, subst, arith, eq-eqb}
 use Rattle.std.specs.FinMap.{get, get-insert, insert}
 use Rattle.std.specs.List.{AllByRecursion, cons_option, filter_map}
 use Rattle.std.specs.Option.{option_and_then}
@@ -7,15 +7,14 @@ use Rattle.std.specs.Ordering.{eq_by_cmp}
 use Rattle.std.proofs.lemmas.Bool.{cases_eq}
 use Rattle.std.proofs.lemmas.Bool.Decides.{nat_tests}
 use Rattle.gfx_base.specs.declared.geometry.Cell.{Cell}
-use Rattle.gfx_base.specs.declared.geometry.TheConstants.{CELL_SIDE}
 use Rattle.gfx_base.specs.Cells.{cell, cells_met}
 use Rattle.gfx_base.specs.Geometry.{holds, sized}
 use Rattle.gfx_live.specs.Cells.{cell_key}
-use Rattle.gfx_live.specs.Live.{Live, Passes, after_sends, improved_sends, raised, with_live}
+use Rattle.gfx_live.specs.Live.{Live, after_sends, improved_sends, raised, with_live}
 use Rattle.gfx_live.specs.Showing.{after_showing}
 use Rattle.gfx_live_law.specs.Taken.{LiveIn}
 use Rattle.gfx_live_law.proofs.Apart.{CellsApart, DifferBy, Met, all-any, all-kept, all-more, all-with, at-cell, cells-apart}
-use Rattle.gfx_live_law.proofs.Improving.{IsRaised, any-cells, own-cell, raised-from, sent}
+use Rattle.gfx_live_law.proofs.Improving.{IsRaised, own-cell, raised-from}
 use Rattle.gfx_live_law.proofs.Kept.{live-elsewhere}
 use Rattle.gfx_live_law.proofs.Seen.{showing-outside}
 use Rattle.gfx_live_law.proofs.Sends.{begins-column, begins-row}
@@ -25,16 +24,15 @@ use Rattle.gfx_prog_decode.proofs.Keys.{itself, key_total, tied}
 use Rattle.gfx_prog_encode.specs.declared.send.TileSend.{TileSend}
 use Rattle.gfx_quant.specs.declared.setting.Setting.{Setting}
 use Rattle.gfx_script.specs.declared.step.Step.TheVariants.{Improve}
-use Rattle.gfx_script.specs.Kinds.{KindedStep, as_kind}
+use Rattle.gfx_script.specs.Kinds.{as_kind}
 use Rattle.gfx_surface.specs.Picture.{Picture, pixel_at}
-use Rattle.gfx_surface_map.specs.Surfaces.{Surfaces}
 use Rattle.gfx_planner.specs.Passes.{improved_passes, passes_as}
 use Rattle.gfx_planner.specs.Tiles.{HoldsTiles}
-use Rattle.gfx_planner.specs.Want.{Wanted, drawn_on, want, wanted_after, wanted_as, with_improved}
+use Rattle.gfx_planner.specs.Want.{Wanted, drawn_on, want, wanted_as, with_improved}
 use Rattle.gfx_planner.proofs.LiveShown.{tiles-wanted}
 use Rattle.gfx_planner.proofs.Streams.{along}
 use Rattle.gfx_planner.proofs.TilesAccepted.{surface_elsewhere, surface_here}
-use Rattle.gfx_laws.specs.Raised.{ImprovementsRaiseLiveTiles, IsOfNoRaised, Raises, at_next_level}
+use Rattle.gfx_laws.specs.Raised.{ImprovementsRaiseLiveTiles, Raises, at_next_level}
 
 -- ---- tiles of cells, each of its own
 

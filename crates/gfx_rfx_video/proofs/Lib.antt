@@ -4,3 +4,7 @@ pub mod Values
 pub mod Sums
 pub mod Small
 pub mod Codes
+pub mod Frames
+pub mod BlockLoops
+pub mod BlockNumbers
+pub mod BlockFacts

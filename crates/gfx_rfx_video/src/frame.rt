@@ -1,0 +1,37 @@
+//! What stands round every block and every tile: its type, and its length with these six bytes
+//! ([MS-RDPRFX] 2.2.2.1.1, TS_RFX_BLOCKT).
+
+ghost use Rattle.gfx_base.specs.Outcome.{Says};
+ghost use Rattle.gfx_layout.specs.Reading.{read};
+ghost use Rattle.gfx_rfx_video.specs.Layouts.{frame};
+
+use crate::piece::Piece;
+use gfx_base::Refusal;
+use gfx_layout::{Fields, Stop};
+
+/// How many bytes stand before a body.
+const FRAME: usize = 6;
+
+/// A block whose type isn't judged yet.
+#[derive(Debug, Drop)]
+pub(crate) struct Frame<'a> {
+    pub(crate) kind: u16,
+    pub(crate) body: Piece<'a>,
+}
+
+/// Reads the next block's frame.
+#[tactic(auto, unfolding(gfx_layout::specs::Reading::read, gfx_base::specs::Results::and_then))]
+pub(crate) fn read_frame<'a>(fields: &mut Fields<'a>) -> Result<Frame<'a>, Stop>
+    ensures { Says (λ found. (found, fields.new)) result (read frame fields.old) }
+{
+    let kind = fields.u16()?;
+    let size = fields.u32()? as usize;
+    if size < FRAME {
+        return Err(Stop::Rule(Refusal::BlockLength));
+    }
+    let body = fields.bytes(size - FRAME)?;
+    Ok(Frame {
+        kind,
+        body: Piece::new(body),
+    })
+}

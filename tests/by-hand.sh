@@ -14,6 +14,12 @@ if [ $# -lt 1 ] || [ $# -gt 3 ]; then
     sed -n '6s/^# *//p' "$0" >&2
     exit 2
 fi
+for named in "$1" ${2:+"$2"}; do
+    if [ ! -f "$named" ] || [ ! -x "$named" ]; then
+        echo "there is no program $named; rt run leaves the built one as crates/gfxpipe_main/out/gfxpipe_main" >&2
+        exit 2
+    fi
+done
 program=$(realpath "$1")
 reference=${2:+$(realpath "$2")}
 seeds=${3:-100}

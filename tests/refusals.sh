@@ -12,6 +12,10 @@ if [ $# -ne 1 ]; then
     sed -n '6s/^# *//p' "$0" >&2
     exit 2
 fi
+if [ ! -f "$1" ] || [ ! -x "$1" ]; then
+    echo "there is no program $1; rt run leaves the built one as crates/gfxpipe_main/out/gfxpipe_main" >&2
+    exit 2
+fi
 program=$(realpath "$1")
 table=$(realpath "$(dirname "$0")")/refusals/table.txt
 work=$(mktemp -d)

@@ -93,6 +93,10 @@ def main():
     if len(sys.argv) < 2:
         print(__doc__.splitlines()[2].strip(), file=sys.stderr)
         return 2
+    if not os.path.isfile(sys.argv[1]) or not os.access(sys.argv[1], os.X_OK):
+        print(f"there is no program {sys.argv[1]}; rt run leaves the built one as "
+              "crates/gfxpipe_main/out/gfxpipe_main", file=sys.stderr)
+        return 2
     with tempfile.TemporaryDirectory() as work:
         tried = Tried(os.path.realpath(sys.argv[1]), work)
         known = {

@@ -8,8 +8,12 @@
 # Each case is a line, `ok` or `FAILED`; the exit number is 1 where one failed. It is no part of `rt ci`, and takes
 # no server: tools/recorder/loopback tries `record` on a real session.
 set -u
-if [ $# -ne 1 ] || [ ! -x "$1" ]; then
-    echo "usage: tests/tools.sh PROGRAM, as rt run leaves it: crates/gfxpipe_main/out/gfxpipe_main" >&2
+if [ $# -ne 1 ]; then
+    sed -n '6s/^# *//p' "$0" >&2
+    exit 2
+fi
+if [ ! -f "$1" ] || [ ! -x "$1" ]; then
+    echo "there is no program $1; rt run leaves the built one as crates/gfxpipe_main/out/gfxpipe_main" >&2
     exit 2
 fi
 program=$(realpath "$1")
@@ -95,14 +99,15 @@ PYTHON
 }
 
 xz -dc "$examples/gnome.bin.xz" > "$work/gnome.bin"
+{ echo "step = ["; printf '{ do = "fill" },\n%.0s' $(seq 5000); echo "]"; } > "$work/faults.toml"
 
 # ---- Words, and ends
-for tool in stream frames picture compare record gfx load; do
+for tool in check-script stream frames play picture compare record gfx load; do
     report "$tool --help" "0 0" "$(ended_lines "$tools/$tool" --help)"
     report "$tool --help says its words" "usage: $tool" "$(head -n 1 "$work/out" | cut -d ' ' -f -2)"
     report "$tool, a wrong word" "2 1" "$(ended_lines "$tools/$tool" --nonsense)"
 done
-for tool in stream frames compare record gfx load; do
+for tool in stream frames play compare record gfx load; do
     report "$tool, no words" "2 1" "$(ended_lines "$tools/$tool")"
 done
 report "loopback --help" "0 0" "$(ended_lines "$tools/recorder/loopback" --help)"
@@ -110,18 +115,20 @@ report "loopback, no words" "2 1" "$(ended_lines "$tools/recorder/loopback")"
 for words in "stream list $work/none" "frames $work/none $work/to" "picture $work/png --from $work/none" \
     "compare $work/none $work/none" "record $work/new.bin $work/none" "gfx render $work/none" "stream list $work" \
     "frames $work $work/to" "picture --list --from $work" "gfx audit $work" "stream list $docs/gnome.png" \
+    "check-script $work/none" "check-script $work" "play $work/none" "play $docs/gnome.png" \
     "picture --list --from $docs/gnome.png" "compare $docs/gnome.png $docs/gnome.png"; do
     # shellcheck disable=SC2086
     report "${words//$work/..}" "1 1" "$(ended_lines "$tools/"$words)"
 done
 report "a failed record leaves nothing" "" "$(ls "$work/new.bin" 2> /dev/null)"
 head -c 1000 "$examples/gnome.bin.xz" > "$work/cut.xz"
-for words in "stream stats" "gfx render"; do
+for words in "stream stats" "gfx render" "check-script" "play"; do
     # shellcheck disable=SC2086
     report "$words of an .xz file that is cut" "1 1" "$(ended_lines "$tools/"$words "$work/cut.xz")"
 done
 for words in "stream list $work/gnome.bin" "stream json $work/gnome.bin" "load small" "gfx render $work/gnome.bin" \
-    "frames --video --every 5 --last 30 --jobs 2 $work/gnome.bin -" "picture --list --from $examples/desktop.txt"; do
+    "frames --video --every 5 --last 30 --jobs 2 $work/gnome.bin -" "picture --list --from $examples/desktop.txt" \
+    "check-script --all $work/faults.toml" "play --every 20 $work/gnome.bin"; do
     # shellcheck disable=SC2086
     { "$tools/"$words 2> "$work/err"; echo $? > "$work/number"; } | true
     report "${words//$work/..} that nobody reads" "0 " "$(cat "$work/number") $(grep -v ffmpeg "$work/err")"
@@ -158,6 +165,35 @@ if {int(number, 16): name for number, name in ids} != {n: name for n, (name, _) 
     print("messages")
 PYTHON
 report "the tables of refusals, faults and messages are those of docs/" "" "$(cat "$work/out")"
+python3 - "$here/.." > "$work/out" <<'PYTHON'
+import os, re, sys
+top = sys.argv[1]
+read = lambda *names: open(os.path.join(top, *names), encoding="utf-8").read()
+
+def anchors(text):
+    """Where a link into a page may lead: its headings, in small letters, words joined by dashes."""
+    text = re.sub(r"^```.*?^```", "", text, flags=re.M | re.S)
+    heads = re.findall(r"^#+ (.*)$", text, re.M)
+    heads = [re.sub(r"\[(.*?)\]\(.*?\)", r"\1", head) for head in heads]
+    return {re.sub(r"[^\w\- ]", "", head).lower().replace(" ", "-") for head in heads}
+
+pages = [name for name in os.listdir(top) if name.endswith(".md")]
+pages += [os.path.join(folder, name) for folder in ("docs", "tools", "examples")
+          for name in os.listdir(os.path.join(top, folder)) if name.endswith(".md")]
+for page in sorted(pages):
+    text = re.sub(r"^```.*?^```", "", read(page), flags=re.M | re.S)
+    for link in re.findall(r"\]\(([^)\s]+)\)", text):
+        name, _, anchor = link.partition("#")
+        place = os.path.normpath(os.path.join(top, os.path.dirname(page), name)) if name else os.path.join(top, page)
+        if "://" in link:
+            continue
+        if not os.path.exists(place) or anchor and anchor not in anchors(open(place, encoding="utf-8").read()):
+            print(f"{page}: {link}")
+version = read("VERSION").strip()
+if f"Version {version} (" not in read("README.md") or re.search(r"^## (.*)$", read("CHANGELOG.md"), re.M)[1] != version:
+    print("the version")
+PYTHON
+report "the pages' links lead somewhere, and their versions are that of VERSION" "" "$(cat "$work/out")"
 
 # ---- stream
 for example in fill desktop output outside passes pictures text; do
@@ -238,6 +274,80 @@ sys.stdout.buffer.write(data[:half] + data[half:].replace(b"\x01\x00\x40\x00\x28
 "$tools/stream" list "$work/twice.bin" --program "$program" 2> "$work/err" > /dev/null
 report "stream --program asks it" "$(cat "$work/wanted")" \
     "$(sed 's/^stream: \(message [0-9]*: [0-9]* [A-Za-z]*\).*/\1/' "$work/err")"
+
+# ---- check-script
+for example in "$examples"/*.toml; do
+    report "check-script of $(basename "$example")" "0 0" "$(ended_lines "$tools/check-script" "$example")"
+done
+report "check-script, what is good" "good: 1 picture, 7 steps, 3 frames, 0 turns" \
+    "$("$tools/check-script" "$examples/passes.toml")"
+rows=0
+while IFS= read -r row; do
+    case $row in '' | '#'*) continue ;; esac
+    said=${row%% | *} rest=${row#* | }
+    told=${rest%% | *} text=${rest#* | }
+    printf '%b\n' "$text" > "$work/fault.toml"
+    rows=$((rows + 1))
+    report "fault $rows, $said" "$said" "$("$program" encode < "$work/fault.toml" 2>&1 > /dev/null)"
+    report "fault $rows, check-script --line" "1 $said" \
+        "$("$tools/check-script" --line "$work/fault.toml" > "$work/out"; echo $?) $(cat "$work/out")"
+    "$tools/check-script" "$work/fault.toml" > "$work/out" 2> "$work/err"
+    report "fault $rows, check-script" "$work/fault.toml:$told" "$(head -n 1 "$work/out")"
+    report "fault $rows, check-script, its end" "check-script: 1 fault; the program says: $said" \
+        "$(sed 's/^\(check-script: \)[0-9]* faults/\11 fault/' "$work/err")"
+done < "$here/faults/table.txt"
+report "the table of faults has all kinds" "13" \
+    "$(sed -n 's/^script: \(step [0-9]*: \)\{0,1\}\([A-Za-z]*\) |.*/\2/p' "$here/faults/table.txt" | sort -u | wc -l)"
+report "check-script of several faults" "3: step 2 (fill): Key|4: step 3 (fill): Outside|5: step 4 (paint): Name" \
+    "$(printf '%s\n' 'step = [' '{ do = "surface", id = 1, width = 2, height = 1 },' '{ do = "fill", id = 1 },' \
+        '{ do = "fill", id = 1, colour = "0000ff00", rects = [[0, 0, 2, 2]] },' \
+        '{ do = "paint", id = 1, picture = "p", at = [0, 0] },' '{ do = "frame" },' ']' |
+        "$tools/check-script" 2> /dev/null | sed 's/^script:\([0-9]*: [^:]*: [A-Za-z]*\):.*/\1/' | uniq | paste -sd '|')"
+report "check-script, what hangs on a fault isn't told" "2: step 1: Key" \
+    "$(printf '%s\n' 'step = [' '{ do = "surfce", id = 1, width = 2, height = 1 },' '{ do = "improve", id = 1 },' \
+        '{ do = "delete", id = 1 }, { do = "frame" }]' |
+        "$tools/check-script" 2> /dev/null | sed 's/^script:\([0-9]*: [^:]*: [A-Za-z]*\):.*/\1/')"
+report "check-script, a missing surface is told once" "1: step 1 (improve): SurfaceAbsent" \
+    "$(echo 'step = [{ do = "improve", id = 4 }, { do = "delete", id = 4 }, { do = "frame" }]' |
+        "$tools/check-script" 2> /dev/null | sed 's/^script:\([0-9]*: [^:]*: [A-Za-z]*\):.*/\1/')"
+"$tools/check-script" "$work/faults.toml" > "$work/out" 2> "$work/err"
+report "check-script, of many faults twenty" \
+    "1 check-script: 15,001 faults, of which the first 20 are told (--all); the program says: script: step 1: Key 20" \
+    "$(ended $?) $(wc -l < "$work/out")"
+report "check-script --all" "15001" "$("$tools/check-script" --all "$work/faults.toml" 2> "$work/err" | wc -l)"
+report "check-script of an .xz file" "good: 1 picture, 7 steps, 3 frames, 0 turns" \
+    "$(xz -c "$examples/passes.toml" | "$tools/check-script")"
+report "check-script of a recording" "1 1" "$(ended_lines "$tools/check-script" "$examples/fill.bin")"
+report "check-script of a recording, what it looks like" "looks like a recording" \
+    "$(grep -o "looks like a recording" "$work/err")"
+"$tools/check-script" /dev/null > "$work/out" 2> "$work/err"
+report "check-script of nothing" "0 check-script: the script is empty" "$(ended $?)"
+head -c 67108865 /dev/zero | tr '\0' ' ' | "$tools/check-script" > "$work/out" 2> "$work/err"
+report "check-script beyond the limit" "1 1" "$? $(grep -c TooLong "$work/err")"
+python3 - "$tools" "$examples"/*.toml > "$work/out" <<'PYTHON'
+import sys, tomllib
+sys.path.insert(0, sys.argv[1])
+from gfxtools import toml
+for name in sys.argv[2:]:
+    text = open(name, encoding="utf-8").read()
+    if toml.read(text) != tomllib.loads(text):
+        print(name)
+PYTHON
+report "scripts are read as by Python's own reader" "" "$(cat "$work/out")"
+
+# ---- play
+"$tools/play" "$examples/passes.toml" --columns 40 > "$work/out" 2> "$work/err"
+report "play of passes" "0 " "$(ended $?)"
+report "play, its lines" "39 frame 1 of 3|frame 2 of 3|frame 3 of 3" \
+    "$(wc -l < "$work/out") $(grep -a ^frame "$work/out" | paste -sd '|')"
+"$tools/play" "$examples/fill.bin" > "$work/out"
+report "play, a picture of two pixels" "255;0;0 255;0;0" \
+    "$(head -n 1 "$work/out" | grep -ao '[0-9]*;[0-9]*;[0-9]*m' | sed 's/^2;//; s/m$//' | paste -sd ' ')"
+report "play --every of gnome" "frame 35 of 70|frame 70 of 70" \
+    "$("$tools/play" "$examples/gnome.bin.xz" --first 35 --every 35 --columns 20 | grep -a ^frame | paste -sd '|')"
+report "play of a refused recording" "1 1" "$(ended_lines "$tools/play" "$examples/outside.bin")"
+report "gfx play is play" "same" \
+    "$("$tools/gfx" play "$examples/fill.bin" | cmp -s - <("$tools/play" "$examples/fill.bin") && echo same)"
 
 # ---- picture
 "$tools/picture" --list < "$examples/desktop.txt" > "$work/out"

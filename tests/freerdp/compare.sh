@@ -14,6 +14,14 @@ if [ $# -lt 1 ]; then
     sed -n '4s/^# *//p' "$0" >&2
     exit 2
 fi
+if [ ! -f "$1" ] || [ ! -x "$1" ]; then
+    echo "there is no program $1; rt run leaves the built one as crates/gfxpipe_main/out/gfxpipe_main" >&2
+    exit 2
+fi
+if ! pkg-config --exists freerdp2 winpr2 2> /dev/null; then
+    echo "FreeRDP's library isn't there: apt-get install freerdp2-dev pkg-config gcc make" >&2
+    exit 2
+fi
 program=$(realpath "$1")
 shift
 [ $# -gt 0 ] || set -- $(seq 300)

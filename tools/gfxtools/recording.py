@@ -154,6 +154,12 @@ def likeness(front):
     return TEXT if front and front[0] < 127 and all(byte in b"\t\n\r" or byte >= 32 for byte in front) else ""
 
 
+def looks_otherwise(data):
+    """What bytes that should be a script are by their front, if that is something else, or nothing."""
+    like = "a recording" if is_length(data[:4]) else likeness(data[:4])
+    return "" if like == TEXT else like
+
+
 def is_script(data):
     """Whether bytes are a script and no recording. The fourth sign of a text is above that of all lengths of channel
     messages, so no recording begins as a text does."""

@@ -124,7 +124,7 @@ fn a_failed_write_leaves_a_front_of_the_output(rt: HostRuntime) -> Result<(), Fa
     for (write, count) in [(1, 0), (2, 11), (3, 27), (4, 28), (5, 44)] {
         let fails = [write];
         let mut out = VecSink::new(rt.alloc(), 100, &fails)?;
-        let result = dump_output(&surfaces, rt.alloc(), &mut out);
+        let result = dump_output(rt.alloc(), &surfaces, &mut out);
         assert_eq!(rt; result, Err(ReportFault::Failed));
         assert_eq!(rt; out.held().len(), count);
         assert!(rt; OUTPUT.as_bytes().starts_with(out.held()));

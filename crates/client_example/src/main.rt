@@ -2,13 +2,17 @@
 //! drawn as soon as it is whole.
 //!
 //! Here they come from the standard input, in pieces of 16 bytes, as from a slow line. What a client would
-//! send to its server is printed, and at the end what it shows.
+//! send to its server is printed, and at the end what it shows; and whether the stream ended where a message did.
 #![tactic(auto)]
 
-use anyhow::Context;
+ghost use Rattle.std.specs.Prelude.{OnOk};
+ghost use Rattle.gfx_client.specs.Client.{IsAtEnd};
+
+use anyhow::{Context, anyhow};
 use gfx_base::Pixel;
 use gfx_caps::VERSION_10;
 use gfx_client::{Client, Offer, Offers, Stepped};
+use gfx_surface::Surface;
 use std::alloc::Global;
 use std::io::Read;
 
@@ -28,14 +32,14 @@ fn draw_all(rt: &HostRuntime, client: &mut Client) -> anyhow::Result<()> {
     let mut input = rt.stdin();
     let mut piece = [0; PIECE];
     for _ in 0..u64::MAX {
+        draw(rt, client)?;
         let count = input.read(&mut piece)?;
         if count == 0 {
-            break;
+            return end_of_stream(rt, client);
         }
         client.take(&piece[..count])?;
-        draw(rt, client)?;
     }
-    show(rt, client)
+    Err(anyhow!("the stream doesn't end"))
 }
 
 /// A client that offers version 10.
@@ -49,8 +53,10 @@ fn connect(alloc: Global) -> anyhow::Result<Client> {
     Client::new(alloc, offers).ok().context("no memory is left")
 }
 
-/// Draws all messages that are whole, and answers each frame's end.
-fn draw(rt: &impl Print, client: &mut Client) -> anyhow::Result<()> {
+/// Draws all messages that are whole, and answers each frame's end. Then the client needs more bytes.
+fn draw(rt: &impl Print, client: &mut Client) -> anyhow::Result<()>
+    ensures { OnOk result (IsAtEnd client.new) }
+{
     for _ in 0..u64::MAX {
         match client.step()? {
             Stepped::Applied { .. } => {}
@@ -58,27 +64,57 @@ fn draw(rt: &impl Print, client: &mut Client) -> anyhow::Result<()> {
                 print!(rt; "frame {frame} is drawn; to the server:")?;
                 print_bytes(rt, reply.as_slice())?;
             }
-            Stepped::Need => break,
+            Stepped::Need => return Ok(()),
         }
+    }
+    Err(anyhow!("the messages don't end"))
+}
+
+/// Shows what is drawn. A stream that ends within a message is told, and is an error.
+fn end_of_stream(rt: &impl Print, client: &Client) -> anyhow::Result<()>
+    requires { IsAtEnd client.now }
+{
+    show(rt, client)?;
+    match client.finish() {
+        Ok(()) => Ok(()),
+        Err(fault) => {
+            println!(rt; "the stream is cut: {fault}")?;
+            Err(anyhow!("the stream is cut"))
+        }
+    }
+}
+
+/// Prints how many messages are drawn, and all surfaces by ascending id.
+fn show(rt: &impl Print, client: &Client) -> anyhow::Result<()> {
+    println!(rt; "{} messages are drawn", client.applied())?;
+    let surfaces = client.surfaces();
+    let mut from = 0;
+    for _ in 0..=u16::MAX {
+        let Some(id) = surfaces.next_id(from) else {
+            break;
+        };
+        if let Some(surface) = surfaces.get(id) {
+            show_surface(rt, id, surface)?;
+        }
+        // The id 65,535 has none behind it.
+        let Some(next) = id.checked_add(1) else {
+            break;
+        };
+        from = next;
     }
     Ok(())
 }
 
-/// Prints the size of each surface, and its first pixel as B, G, R, A.
-fn show(rt: &impl Print, client: &Client) -> anyhow::Result<()> {
-    println!(rt; "{} messages are drawn", client.applied())?;
-    for id in 0..u16::MAX {
-        let Some(surface) = client.surfaces().get(id) else {
-            continue;
-        };
-        let (width, height) = surface.size();
-        print!(rt; "surface {id} of {width} by {height}, which begins with")?;
-        if width != 0 && height != 0 {
-            let Pixel { b, g, r, a } = surface.pixel(0, 0);
-            print_bytes(rt, &[b, g, r, a])?;
-        }
+/// Prints the size of a surface, and its first pixel as B, G, R, A.
+fn show_surface(rt: &impl Print, id: u16, surface: &Surface) -> anyhow::Result<()> {
+    let (width, height) = surface.size();
+    print!(rt; "surface {id} of {width} by {height}, which begins with")?;
+    if width == 0 || height == 0 {
+        println!(rt; " nothing")?;
+        return Ok(());
     }
-    Ok(())
+    let Pixel { b, g, r, a } = surface.pixel(0, 0);
+    print_bytes(rt, &[b, g, r, a])
 }
 
 /// Prints bytes in hexadecimal, and ends the line.

@@ -11,15 +11,16 @@ use Rattle.gfx_client.specs.declared.fault.ClientFault.TheVariants as fault
 use Rattle.gfx_client.specs.declared.stepped.Stepped.{Stepped}
 use Rattle.gfx_client.specs.declared.stepped.Stepped.TheVariants as stepped
 use Rattle.gfx_client.specs.Client.{cursor_of, closed_by, Advances, Steps, StepsOpen, Takes, MovesBy, Ends, end_of}
-use Rattle.gfx_client.specs.Standing.{StandsFor, IsDrained, IsRefused, PlaysAll, Plays, answer_by, ends_by}
-use Rattle.gfx_state.specs.Cursor.{Cursor, Needs, what_next, given, before_all, settled, run_at, waiting}
-use Rattle.gfx_state.specs.Run.{Run, begun, refuse, eats, run_of, end}
+use Rattle.gfx_client.specs.Standing.{StandsFor, StandsFrom, IsDrained, IsRefusedFrom, PlaysFrom, Plays, answer_by, ends_from}
+use Rattle.gfx_state.specs.Cursor.{Cursor, Needs, what_next, given, before_all, settled, waiting}
+use Rattle.gfx_state.specs.Run.{Run, refuse, eats, run_from, end}
+use Rattle.gfx_state.specs.State.{State}
 use Rattle.gfx_state.proofs.Moves.{settled_before_all, needs_before_all, settled_reaches, settled_needs, settled_refuses, settled-given, Reaches-none}
 use Rattle.gfx_state.proofs.Runs.{eats-append}
 use Rattle.gfx_state.proofs.Weights.{weight, weight_reaches}
 
 -- what a client stands for is a matter of its run
-pub stands_on : (old new : Client) (bytes : List ℕ) → settled (cursor_of new) ≡ settled (cursor_of old) → StandsFor old bytes → StandsFor new bytes
+pub stands_on : {origin : State} (old new : Client) (bytes : List ℕ) → settled (cursor_of new) ≡ settled (cursor_of old) → StandsFrom origin old bytes → StandsFrom origin new bytes
 stands_on old new bytes same s = record { run = same ∙ s.run }
 
 -- a new client
@@ -30,9 +31,9 @@ pub drained_new : (client : Client) → cursor_of client ≡ before_all → clos
 drained_new client new none = record { needs = ap what_next new ∙ needs_before_all; not_closed = none }
 
 -- a piece is taken
-pub stands_taken : (old new : Client) (bytes piece : List ℕ) → cursor_of new ≡ given (cursor_of old) piece → StandsFor old bytes → StandsFor new (bytes ++ piece)
+pub stands_taken : {origin : State} (old new : Client) (bytes piece : List ℕ) → cursor_of new ≡ given (cursor_of old) piece → StandsFrom origin old bytes → StandsFrom origin new (bytes ++ piece)
 stands_taken old new bytes piece took s = record {
-  run = ap settled took ∙ settled-given (cursor_of old) piece ∙ ap (λ z. eats z piece) s.run ∙ sym (eats-append begun bytes piece);
+  run = ap settled took ∙ settled-given (cursor_of old) piece ∙ ap (λ z. eats z piece) s.run ∙ sym (eats-append _ bytes piece);
 }
 
 -- a step is made, whatever it answers
@@ -49,7 +50,7 @@ open_step old new result none s = subst (λ (z : Option ClientFault). Steps z re
 
 -- steps until more bytes are needed --------------------------------------------------------------------
 
-pub drained : (start old new : Client) (bytes : List ℕ) → settled (cursor_of old) ≡ settled (cursor_of start) → closed_by old ≡ None → Steps (closed_by old) (Ok stepped.Need) old new → StandsFor start bytes → PlaysAll (Ok tt) new bytes bytes
+pub drained : {origin : State} (start old new : Client) (bytes : List ℕ) → settled (cursor_of old) ≡ settled (cursor_of start) → closed_by old ≡ None → Steps (closed_by old) (Ok stepped.Need) old new → StandsFrom origin start bytes → PlaysFrom origin (Ok tt) new bytes bytes
 drained start old new bytes same none s stands =
     let w = open_step old new (Ok stepped.Need) none s in
     (stands_on start new bytes (settled_reaches (cursor_of old) (cursor_of new) [] w.moves.reaches ∙ same) stands, record { needs = w.needs; not_closed = w.moves.closed ∙ none })
@@ -72,9 +73,9 @@ goes_on start old new stepped.Need other same none s = let more = other refl in 
 goes_on start old new said other same none s = moved start old new said same none (open_step old new (Ok said) none s)
 
 -- a step was refused
-refused : (start old new : Client) (bytes : List ℕ) (number : ℕ) (r : Refusal) → settled (cursor_of old) ≡ settled (cursor_of start) → Ends old new r → number ≡ next_count (cursor_of old).applied → closed_by new ≡ Some (fault.ClosedRefused number r) → StandsFor start bytes → IsRefused new bytes number r
+refused : {origin : State} (start old new : Client) (bytes : List ℕ) (number : ℕ) (r : Refusal) → settled (cursor_of old) ≡ settled (cursor_of start) → Ends old new r → number ≡ next_count (cursor_of old).applied → closed_by new ≡ Some (fault.ClosedRefused number r) → StandsFrom origin start bytes → IsRefusedFrom origin new bytes number r
 refused start old new bytes number r same e counted closing stands =
-    let run : run_of bytes ≡ refuse (run_at e.at) r = sym stands.run ∙ sym same ∙ sym (settled_reaches (cursor_of old) e.at [] e.reaches) ∙ settled_refuses e.at r e.refuses in
+    let run = sym stands.run ∙ sym same ∙ sym (settled_reaches (cursor_of old) e.at [] e.reaches) ∙ settled_refuses e.at r e.refuses in
     let still = Reaches-none (cursor_of old) e.at [] e.reaches refl in
     record {
       refusal = ap (λ z. z.refusal) run;
@@ -84,7 +85,7 @@ refused start old new bytes number r same e counted closing stands =
     }
 
 -- a step was refused, or memory ran out
-pub stopped : (start old new : Client) (f : ClientFault) (bytes : List ℕ) → settled (cursor_of old) ≡ settled (cursor_of start) → closed_by old ≡ None → Steps (closed_by old) (Err f) old new → StandsFor start bytes → PlaysAll (Err f) new bytes bytes
+pub stopped : {origin : State} (start old new : Client) (f : ClientFault) (bytes : List ℕ) → settled (cursor_of old) ≡ settled (cursor_of start) → closed_by old ≡ None → Steps (closed_by old) (Err f) old new → StandsFrom origin start bytes → PlaysFrom origin (Err f) new bytes bytes
 stopped start old new (fault.Refused number r) bytes same none s stands =
     let e = open_step old new (Err (fault.Refused number r)) none s in
     (stands_on start new bytes (e.0.run ∙ same) stands, refused start old new bytes number r same e.0 e.1 e.2 stands)
@@ -101,23 +102,23 @@ pub open_taken : (closed : Option ClientFault) (old mid : Client) (piece : List 
 open_taken (Some f) old mid piece t = let same = t.0 in absurd cc
 open_taken None old mid piece t = (refl, t.1)
 
-more : (result : Result (Unit {0}) ClientFault) (new : Client) (first all : List ℕ) → PlaysAll result new all all → PlaysAll result new first all
-more (Ok done) new first all p = p
-more (Err (fault.Refused number r)) new first all p = p
-more (Err fault.Memory) new first all p = (elim p.0 [ inl s ↦ inr s | inr s ↦ inr s ], p.1)
-more (Err (fault.ClosedRefused number r)) new first all p = p
-more (Err fault.ClosedMemory) new first all p = p
+more : (origin : State) (result : Result (Unit {0}) ClientFault) (new : Client) (first all : List ℕ) → PlaysFrom origin result new all all → PlaysFrom origin result new first all
+more origin (Ok done) new first all p = p
+more origin (Err (fault.Refused number r)) new first all p = p
+more origin (Err fault.Memory) new first all p = (elim p.0 [ inl s ↦ inr s | inr s ↦ inr s ], p.1)
+more origin (Err (fault.ClosedRefused number r)) new first all p = p
+more origin (Err fault.ClosedMemory) new first all p = p
 
 pub played : (old mid new : Client) (piece : List ℕ) (result : Result (Unit {0}) ClientFault) → Takes (closed_by old) (Ok tt) old mid piece
-    → ((bytes : List ℕ) → StandsFor old bytes → StandsFor mid (bytes ++ piece)) → ((bytes : List ℕ) → StandsFor mid bytes → PlaysAll result new bytes bytes) → Plays (closed_by old) result old new piece
+    → ((origin : State) (bytes : List ℕ) → StandsFrom origin old bytes → StandsFrom origin mid (bytes ++ piece)) → ((origin : State) (bytes : List ℕ) → StandsFrom origin mid bytes → PlaysFrom origin result new bytes bytes) → Plays (closed_by old) result old new piece
 played old mid new piece result took taken plays =
     subst (λ (z : Option ClientFault). Plays z result old new piece) (sym (open_taken (closed_by old) old mid piece took).0)
-    (λ bytes s. more result new bytes (bytes ++ piece) (plays (bytes ++ piece) (taken bytes s)))
+    (λ origin bytes s. more origin result new bytes (bytes ++ piece) (plays origin (bytes ++ piece) (taken origin bytes s)))
 
 -- nothing was taken
-pub not_taken : (closed : Option ClientFault) (f : ClientFault) (old new : Client) (piece : List ℕ) → Takes closed (Err f) old new piece → ((bytes : List ℕ) → StandsFor old bytes → StandsFor new bytes) → Plays closed (Err f) old new piece
+pub not_taken : (closed : Option ClientFault) (f : ClientFault) (old new : Client) (piece : List ℕ) → Takes closed (Err f) old new piece → ((origin : State) (bytes : List ℕ) → StandsFrom origin old bytes → StandsFrom origin new bytes) → Plays closed (Err f) old new piece
 not_taken (Some g) f old new piece t kept = t
-not_taken None fault.Memory old new piece t kept = λ bytes s. (inl (kept bytes s), t.1)
+not_taken None fault.Memory old new piece t kept = λ origin bytes s. (inl (kept origin bytes s), t.1)
 not_taken None (fault.Refused number r) old new piece t kept = absurd t
 not_taken None (fault.ClosedRefused number r) old new piece t kept = absurd t
 not_taken None fault.ClosedMemory old new piece t kept = absurd t
@@ -130,12 +131,12 @@ unfolding end
 end_waiting at =
     elim (length at.splitter.rest == 0) as (λ b. ◌≡◌ {A = Result (Unit {0}) ClientFault} (if b then Ok (tt {0}) else Err (fault.Refused (next_count at.applied) ChannelTruncated)) (answer_by (if b then waiting at else refuse (waiting at) ChannelTruncated).refusal (if b then waiting at else refuse (waiting at) ChannelTruncated).applied)) [ true ↦ refl | false ↦ refl ]
 
-pub end_is : (closed : Option ClientFault) (client : Client) (bytes : List ℕ) → (closed ≡ None → what_next (cursor_of client) ≡ Needs) → StandsFor client bytes → end_of closed (cursor_of client) ≡ ends_by closed bytes
+pub end_is : {origin : State} (closed : Option ClientFault) (client : Client) (bytes : List ℕ) → (closed ≡ None → what_next (cursor_of client) ≡ Needs) → StandsFrom origin client bytes → end_of closed (cursor_of client) ≡ ends_from origin closed bytes
 end_is (Some f) client bytes needs s = refl
 end_is None client bytes needs s =
     end_waiting (cursor_of client)
     ∙ ap (λ (z : Run). answer_by (end z).refusal (end z).applied) (sym (settled_needs (cursor_of client) (needs refl)) ∙ s.run)
 
 -- a drained client stands at the run of its bytes
-pub run_drained : (client : Client) (bytes : List ℕ) → StandsFor client bytes → IsDrained client → run_of bytes ≡ waiting (cursor_of client)
+pub run_drained : {origin : State} (client : Client) (bytes : List ℕ) → StandsFrom origin client bytes → IsDrained client → run_from origin bytes ≡ waiting (cursor_of client)
 run_drained client bytes s d = sym s.run ∙ settled_needs (cursor_of client) d.needs

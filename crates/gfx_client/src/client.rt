@@ -1,7 +1,7 @@
 ghost use Rattle.std.specs.Prelude.{◌≡◌, ℕ, ◌≤◌, List, [], ◌++◌, length, ◌↔◌, IsTrue, OnOk, OnErr, IfOk, None};
-ghost use Rattle.std.specs.FinMap as finmap;
-ghost use Rattle.gfx_client.specs.Standing.{StandsFor, HasBrought, Brings, IsDrained, Plays, PlaysAll, ends_by};
+ghost use Rattle.gfx_client.specs.Standing.{StandsFor, StandsFrom, HasBrought, HasBroughtFrom, Brings, IsDrained, Plays, PlaysFrom, ends_from};
 ghost use Rattle.gfx_state.specs.History.{Effect};
+ghost use Rattle.gfx_state.specs.State.{State};
 ghost use Rattle.gfx_client.specs.Replies.{hello, reply_to, stepped_of};
 
 use crate::fault::ClientFault;
@@ -13,6 +13,7 @@ use gfx_bitmap_cache::Cache;
 use gfx_caps::{MOST_OFFERS, Offers};
 use gfx_clear::ClearState;
 use gfx_pdu::{Pdu, read_pdu};
+use gfx_prog_decode::Records;
 use gfx_screen::State;
 use gfx_segment::Splitter;
 use gfx_surface_map::SurfaceMap;
@@ -73,10 +74,10 @@ impl Client {
         ensures takes { Takes (closed_by self.old) result self.old self.new piece.now }
 
         // What it stood for, it stands for with the piece behind it.
-        ensures stands { OnOk result ((bytes : List ℕ) → StandsFor self.old bytes → StandsFor self.new (bytes ++ piece.now)) }
-        ensures brought { OnOk result ((bytes : List ℕ) (all : List Effect) → StandsFor self.old bytes → HasBrought self.old bytes all
-            → HasBrought self.new (bytes ++ piece.now) all) }
-        ensures kept { OnErr result ((bytes : List ℕ) → StandsFor self.old bytes → StandsFor self.new bytes) }
+        ensures stands { OnOk result ((start : State) (bytes : List ℕ) → StandsFrom start self.old bytes → StandsFrom start self.new (bytes ++ piece.now)) }
+        ensures brought { OnOk result ((start : State) (bytes : List ℕ) (all : List Effect) → StandsFrom start self.old bytes → HasBroughtFrom start self.old bytes all
+            → HasBroughtFrom start self.new (bytes ++ piece.now) all) }
+        ensures kept { OnErr result ((start : State) (bytes : List ℕ) → StandsFrom start self.old bytes → StandsFrom start self.new bytes) }
         ensures offers { offers_of self.new ≡ offers_of self.old }
     {
         if let Some(fault) = self.closed {
@@ -96,9 +97,9 @@ impl Client {
         ensures steps { Steps (closed_by self.old) result self.old self.new }
 
         // Whatever it answers, it stands for the same bytes.
-        ensures stands { (bytes : List ℕ) → StandsFor self.old bytes → StandsFor self.new bytes }
-        ensures brings { (bytes : List ℕ) (all : List Effect) → HasBrought self.old bytes all
-            → Brings (closed_by self.old) result self.new bytes all }
+        ensures stands { (start : State) (bytes : List ℕ) → StandsFrom start self.old bytes → StandsFrom start self.new bytes }
+        ensures brings { (start : State) (bytes : List ℕ) (all : List Effect) → HasBroughtFrom start self.old bytes all
+            → Brings start (closed_by self.old) result self.new bytes all }
         ensures offers { offers_of self.new ≡ offers_of self.old }
     {
         if let Some(fault) = self.closed {
@@ -134,7 +135,7 @@ impl Client {
         ensures exact { result ≡ end_of (closed_by self.now) (cursor_of self.now) }
 
         // The answer is the end of the run of its bytes.
-        ensures ends { (bytes : List ℕ) → StandsFor self.now bytes → result ≡ ends_by (closed_by self.now) bytes }
+        ensures ends { (start : State) (bytes : List ℕ) → StandsFrom start self.now bytes → result ≡ ends_from start (closed_by self.now) bytes }
     {
         if let Some(fault) = self.closed {
             return Err(fault);
@@ -169,11 +170,11 @@ impl Client {
         self.state.clear()
     }
 
-    /// How many tile records the messages so far have left.
-    pub fn records(&self) -> usize
-        ensures { result ≡ finmap.len (cursor_of self.now).state.records }
+    /// The records of tiles that the messages so far have left.
+    pub fn records(&self) -> &Records
+        ensures { result.now ≡ (cursor_of self.now).state.records }
     {
-        self.state.records().count()
+        self.state.records()
     }
 
     /// How many messages were applied, up to the last value of a count.
@@ -186,7 +187,7 @@ impl Client {
     /// Applies all messages that the bytes taken hold whole.
     fn play_all(&mut self) -> Result<(), ClientFault>
         requires { closed_by self.old ≡ None }
-        ensures plays { (bytes : List ℕ) → StandsFor self.old bytes → PlaysAll result self.new bytes bytes }
+        ensures plays { (start : State) (bytes : List ℕ) → StandsFrom start self.old bytes → PlaysFrom start result self.new bytes bytes }
         ensures offers { offers_of self.new ≡ offers_of self.old }
     {
         'steps: loop {

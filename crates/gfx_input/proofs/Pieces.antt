@@ -1,19 +1,19 @@
 -- What reading piece by piece comes to.
-use Rattle.std.proofs.Common.{◌≡◌, ℕ, ◌+◌, ◌-◌, ◌≤◌, ◌<◌, min, List, [], ◌++◌, length, take, drop, Option, Some, None, Ok, Err, refl, sym, ap, ◌∙◌, subst, append_assoc, arith, length-append}
-use Rattle.std.proofs.lemmas.List.{append-nil, take-append-le, take-append-drop, take-take, length-take-le}
+use Rattle.std.proofs.Common.{◌≡◌, ℕ, ◌+◌, ◌-◌, ◌≤◌, ◌<◌, List, [], ◌++◌, length, take, Option, Some, None, Ok, Err, refl, sym, ap, ◌∙◌, subst, append_assoc, arith, length-append}
+use Rattle.std.proofs.lemmas.List.{append-nil, take-append-le}
 use Rattle.std.proofs.Math.Seq.{take-append_seam}
-use Rattle.gfx_base.specs.Stream.{Change, change, Tells, Gave, Keeps, Rose}
+use Rattle.gfx_base.specs.Stream.{Change, change, Tells, Gave}
 use Rattle.gfx_base.proofs.Streams.{Tells-Gave, Tells-Keeps}
 use Rattle.gfx_input.specs.declared.fault.InputFault.TheVariants as fault
 use Rattle.gfx_input.specs.declared.fault.InputFault.{InputFault}
+use Rattle.gfx_input.specs.declared.fault.TakeFault.TheVariants as broke
+use Rattle.gfx_input.specs.declared.fault.TakeFault.{TakeFault}
 use Rattle.gfx_input.specs.declared.reading.TheConstants.{PIECE}
-use Rattle.gfx_input.specs.declared.reading.Portion.{Portion}
-use Rattle.gfx_input.specs.declared.reading.Portion.TheVariants.{Within, Past}
 use Rattle.gfx_input.specs.declared.reading.Read.{Read}
 use Rattle.gfx_input.specs.declared.reading.Read.TheVariants as read
 use Rattle.gfx_input.specs.declared.taker.Taken.{Taken}
 use Rattle.gfx_input.specs.declared.taker.Taken.TheVariants as taken
-use Rattle.gfx_input.specs.Reading.{TakesPiece, rest_of, Reads, input_of, EndsBy, ReadsInput, Got, within_of, Gives, turn_of, GoesOn, EndsHere, Turns}
+use Rattle.gfx_input.specs.Reading.{fault_of, TakesPiece, rest_of, Reads, input_of, EndsBy, Wrote, BreaksOff, ReadsInput, Got, GoesOn, EndsWith, EndsHere, ReadsNone, BreaksHere, turn_by, Turns}
 
 -- one turn ------------------------------------------------------------------------------------------
 
@@ -24,142 +24,40 @@ gave_nothing None (Some new) g = g refl
 gave_nothing (Some old) None g = absurd g
 gave_nothing (Some old) (Some new) g = g.1 refl
 
+-- a read gave the front of its buffer
+pub got_piece : (i : Change) (buffer : List ℕ) (count : ℕ) → i.now ≡ i.before → Gave i.old (take count buffer) i.new → length (take count buffer) ≡ count → count ≤ PIECE → Got i (take count buffer)
+got_piece i buffer count same gave size few = record { count = same; few = omega arith; gave = gave }
+
 -- the input is at its end
-pub ends_whole : {S : Type 0} (stands stops : S → List ℕ → Type 0) (limit : ℕ) (i : Change) (bytes : List ℕ) (taker : S) → i.now ≡ i.before → Gave i.old [] i.new → length bytes ≤ limit
-    → stands taker bytes → EndsHere stands stops limit i bytes read.Whole taker
-ends_whole stands stops limit i bytes taker count gave within there =
-    let left = gave_nothing i.old i.new gave in
-    let all : bytes ≡ bytes ++ ([] ++ rest_of i.new) = sym (ap (λ z. bytes ++ ([] ++ z)) left ∙ append-nil bytes) in
-    record {
-      piece = [];
-      got = record { count = count; few = omega arith; gave = gave };
-      most = omega arith;
-      ends = (subst (λ z. length z ≤ limit) all within, left, subst (stands taker) all there);
-    }
-
--- what a front of a piece leaves of it
-pub record Cut (bytes buffer rest : List ℕ) (count within : ℕ) : Type 0 where
-  pub more : List ℕ
-  pub whole : bytes ++ (take count buffer ++ rest) ≡ (bytes ++ take within buffer) ++ more
-  pub size : length (take count buffer) ≡ count
-  pub front_size : length (bytes ++ take within buffer) ≡ length bytes + within
-
-cut : (bytes buffer rest : List ℕ) (count within : ℕ) → within ≤ count → count ≤ length buffer → Cut bytes buffer rest count within
-cut bytes buffer rest count within few fits =
-    let front : take within (take count buffer) ≡ take within buffer = take-take within count buffer few in
-    let parts : take count buffer ≡ take within buffer ++ drop within (take count buffer) = sym (take-append-drop within (take count buffer)) ∙ ap (λ z. z ++ drop within (take count buffer)) front in
-    record {
-      more = drop within (take count buffer) ++ rest;
-      whole = ap (λ z. bytes ++ (z ++ rest)) parts ∙ ap (λ z. bytes ++ z) (append_assoc (take within buffer) (drop within (take count buffer)) rest)
-          ∙ sym (append_assoc bytes (take within buffer) (drop within (take count buffer) ++ rest));
-      size = length-take-le count buffer fits;
-      front_size = length-append bytes (take within buffer) ∙ ap (λ n. length bytes + n) (length-take-le within buffer (omega arith));
-    }
-
--- a piece behind these bytes was read, of which so much lies within the limit
-pub record InPiece (limit : ℕ) (i : Change) (bytes buffer : List ℕ) (count within : ℕ) : Type 0 where
-  pub counted : i.now ≡ i.before
-  pub gave : Gave i.old (take count buffer) i.new
-  pub fits : count ≤ length buffer
-  pub piece : length buffer ≤ PIECE
-  pub most : length bytes + length buffer ≤ limit + 1
-  pub before : length bytes ≤ limit
-  pub is_within : within ≡ min count (limit - length bytes)
-
-in_piece_got : (limit : ℕ) (i : Change) (bytes buffer : List ℕ) (count within : ℕ) → InPiece limit i bytes buffer count within → Got i (take count buffer)
-in_piece_got limit i bytes buffer count within p = record {
-  count = p.counted;
-  few = let fits = p.fits in let piece = p.piece in let size = length-take-le count buffer fits in omega arith;
-  gave = p.gave;
+pub ends_whole : {S : Type 0} (stands stops : S → List ℕ → Type 0) (limit : ℕ) (i : Change) (bytes : List ℕ) (new : S) → i.now ≡ i.before → Gave i.old [] i.new → stands new bytes
+    → EndsHere stands stops limit i bytes read.Whole new
+ends_whole stands stops limit i bytes new count gave there = record {
+  piece = [];
+  got = record { count = count; few = omega arith; gave = gave };
+  ends = (refl, gave_nothing i.old i.new gave, there);
 }
 
--- the input goes on past the limit
-ends_past : {S : Type 0} (stands stops : S → List ℕ → Type 0) (limit : ℕ) (i : Change) (bytes buffer : List ℕ) (count within : ℕ) (taker : S) → InPiece limit i bytes buffer count within → within < count
-    → TakesPiece stands stops (Ok taken.More) taker (bytes ++ take within buffer) → EndsHere stands stops limit i bytes read.TooLong taker
-ends_past stands stops limit i bytes buffer count within taker p past there =
-    let whole = bytes ++ (take count buffer ++ rest_of i.new) in
-    let front = bytes ++ take within buffer in
-    let is_within = p.is_within in let fits = p.fits in let most = p.most in let before = p.before in
-    let c = cut bytes buffer (rest_of i.new) count within (omega arith) fits in
-    let size = c.size in let front_size = c.front_size in
-    let full : length front ≡ limit = omega arith in
-    let cut_there : take limit whole ≡ front = ap (take limit) c.whole ∙ ap (λ z. take z (front ++ c.more)) (sym full) ∙ take-append_seam front c.more in
-    record {
-      piece = take count buffer;
-      got = in_piece_got limit i bytes buffer count within p;
-      most = omega arith;
-      ends = (omega (arith, length-append bytes (take count buffer ++ rest_of i.new), length-append (take count buffer) (rest_of i.new)), subst (stands taker) (sym cut_there) there);
-    }
+-- it goes on past the limit
+pub ends_past : {S : Type 0} (stands stops : S → List ℕ → Type 0) (limit : ℕ) (i : Change) (bytes piece : List ℕ) (new : S) → Got i piece → length piece ≡ 1 → length bytes ≡ limit → stands new bytes
+    → EndsHere stands stops limit i bytes read.TooLong new
+ends_past stands stops limit i bytes piece new got one full there = record { piece = piece; got = got; ends = (one, full, there) }
 
--- it was refused
-ends_stopped : {S : Type 0} (stands stops : S → List ℕ → Type 0) (limit : ℕ) (i : Change) (bytes buffer : List ℕ) (count within : ℕ) (taker : S) → InPiece limit i bytes buffer count within
-    → TakesPiece stands stops (Ok taken.Stopped) taker (bytes ++ take within buffer) → EndsHere stands stops limit i bytes read.Stopped taker
-ends_stopped stands stops limit i bytes buffer count within taker p there =
-    let is_within = p.is_within in let fits = p.fits in let most = p.most in let before = p.before in
-    let c = cut bytes buffer (rest_of i.new) count within (omega arith) fits in
-    let size = c.size in let front_size = c.front_size in
-    record {
-      piece = take count buffer;
-      got = in_piece_got limit i bytes buffer count within p;
-      most = omega arith;
-      ends = record { front = bytes ++ take within buffer; behind = c.more; cut = c.whole; within = omega arith; stopped = there };
-    }
+-- a piece was given away
+pub turns_given : {S : Type 0} (stands stops : S → List ℕ → Type 0) (written : List ℕ → List ℕ) (answer : Taken) (limit count : ℕ) (i o : Change) (bytes piece : List ℕ) (new : S) → Got i piece
+    → length piece ≡ count → 0 < count → length bytes + count ≤ limit → TakesPiece stands stops (written (bytes ++ piece)) (Ok answer) new (bytes ++ piece) o
+    → Turns stands stops written (Ok (turn_by answer count)) limit i o bytes new
+turns_given stands stops written taken.More limit count i o bytes piece new got as_many some within there =
+    record { piece = piece; got = got; as_many = as_many; some = some; within = within; stands_on = there }
+turns_given stands stops written taken.Stopped limit count i o bytes piece new got as_many some within there =
+    record { piece = piece; got = got; ends = (omega arith, there) }
 
--- a portion ----------------------------------------------------------------------------------------
-
--- how many bytes were read of it
-abbrev read_of : Portion → ℕ
-read_of (Within count) = count
-read_of (Past count) = count + 1
-
-portion_piece : (portion : Portion) (limit taken : ℕ) (i : Change) (bytes buffer : List ℕ) → length bytes ≡ taken → Gives portion limit taken i buffer → length buffer ≤ PIECE → taken + length buffer ≤ limit + 1 → taken ≤ limit
-    → InPiece limit i bytes buffer (read_of portion) (within_of portion)
-portion_piece (Within count) limit taken i bytes buffer sized (got, some, fits, in_limit) piece most before =
-    record { counted = got.count; gave = got.gave; fits = fits; piece = piece; most = omega arith; before = omega arith; is_within = omega arith }
-portion_piece (Past count) limit taken i bytes buffer sized (got, fits, in_limit) piece most before =
-    record { counted = got.count; gave = got.gave; fits = fits; piece = piece; most = omega arith; before = omega arith; is_within = omega arith }
-
--- the piece that was read, and what of the input lies behind the part of it that is given away
-pub record CutFrom (limit : ℕ) (i : Change) (bytes given : List ℕ) : Type 0 where
-  pub piece : List ℕ
-  pub got : Got i piece
-  pub most : length bytes + length piece ≤ limit + 1
-  pub behind : List ℕ
-  pub whole : bytes ++ (piece ++ rest_of i.new) ≡ (bytes ++ given) ++ behind
-  pub in_limit : length (bytes ++ given) ≤ limit
-
-pub cut_from : (portion : Portion) (limit taken : ℕ) (i : Change) (bytes buffer : List ℕ) → length bytes ≡ taken → Gives portion limit taken i buffer → length buffer ≤ PIECE → taken + length buffer ≤ limit + 1 → taken ≤ limit
-    → CutFrom limit i bytes (take (within_of portion) buffer)
-cut_from portion limit taken i bytes buffer sized gives piece most before =
-    let p = portion_piece portion limit taken i bytes buffer sized gives piece most before in
-    let is_within = p.is_within in let fits = p.fits in
-    let c = cut bytes buffer (rest_of i.new) (read_of portion) (within_of portion) (omega arith) fits in
-    let size = c.size in let front_size = c.front_size in
-    record {
-      piece = take (read_of portion) buffer;
-      got = in_piece_got limit i bytes buffer (read_of portion) (within_of portion) p;
-      most = omega arith;
-      behind = c.more;
-      whole = c.whole;
-      in_limit = omega arith;
-    }
-
--- it was given away
-pub turns_given : {S : Type 0} (stands stops : S → List ℕ → Type 0) (portion : Portion) (answer : Taken) (limit taken : ℕ) (i : Change) (bytes buffer : List ℕ) (taker : S) → length bytes ≡ taken
-    → Gives portion limit taken i buffer → length buffer ≤ PIECE → taken + length buffer ≤ limit + 1 → taken ≤ limit
-    → TakesPiece stands stops (Ok answer) taker (bytes ++ take (within_of portion) buffer) → Turns stands stops (Ok (turn_of portion answer)) limit i bytes taker
-turns_given stands stops portion taken.Stopped limit taken i bytes buffer taker sized gives piece most before there =
-    ends_stopped stands stops limit i bytes buffer (read_of portion) (within_of portion) taker (portion_piece portion limit taken i bytes buffer sized gives piece most before) there
-turns_given stands stops (Past count) taken.More limit taken i bytes buffer taker sized gives piece most before there =
-    ends_past stands stops limit i bytes buffer (count + 1) count taker (portion_piece (Past count) limit taken i bytes buffer sized gives piece most before) (omega arith) there
-turns_given stands stops (Within count) taken.More limit taken i bytes buffer taker sized (got, some, fits, in_limit) piece most before there = record {
-  piece = take count buffer;
-  got = got;
-  as_many = length-take-le count buffer fits;
-  some = some;
-  within = omega arith;
-  stands_on = there;
-}
+-- what it was given to broke off
+pub turns_broken : {S : Type 0} (stands stops : S → List ℕ → Type 0) (written : List ℕ → List ℕ) (f : TakeFault) (limit : ℕ) (i o : Change) (bytes piece : List ℕ) (new : S) → Got i piece
+    → length bytes + length piece ≤ limit → TakesPiece stands stops (written (bytes ++ piece)) (Err f) new (bytes ++ piece) o → Turns stands stops written (Err (fault_of f)) limit i o bytes new
+turns_broken stands stops written broke.Write limit i o bytes piece new got within there =
+    record { piece = piece; got = got; within = within; broke = there }
+turns_broken stands stops written broke.Memory limit i o bytes piece new got within there =
+    record { piece = piece; got = got; within = within; broke = there }
 
 -- many turns ----------------------------------------------------------------------------------------
 
@@ -178,33 +76,39 @@ took_more a b c bytes piece took gave = λ rest t.
     subst (λ z. Tells a z) (sym (append_assoc bytes piece rest)) (took (piece ++ rest) (Tells-Gave b c piece rest gave t))
 
 -- the input as far as it was read and taken
-pub record Reading {S : Type 0} (stands : S → List ℕ → Type 0) (limit : ℕ) (i : Change) (count : ℕ) (taker : S) : Type 0 where
+pub record Reading {S : Type 0} (stands : S → List ℕ → Type 0) (allowed : List ℕ → ℕ) (i : Change) (count : ℕ) (taker : S) : Type 0 where
   pub bytes : List ℕ
   pub sized : length bytes ≡ count
-  pub within : count ≤ limit
+  pub within : count ≤ allowed bytes
   pub there : stands taker bytes
   pub counted : i.now ≡ i.before
   pub told : Took i.old bytes i.new
 
 -- nothing was read yet
-pub reading_none : {S : Type 0} (stands : S → List ℕ → Type 0) (limit n : ℕ) (left : Option (List ℕ)) (taker : S) → stands taker [] → Reading stands limit (change n n left left) 0 taker
-reading_none stands limit n left taker there =
+pub reading_none : {S : Type 0} (stands : S → List ℕ → Type 0) (allowed : List ℕ → ℕ) (n : ℕ) (left : Option (List ℕ)) (taker : S) → stands taker [] → Reading stands allowed (change n n left left) 0 taker
+reading_none stands allowed n left taker there =
     record { bytes = []; sized = refl; within = omega arith; there = there; counted = refl; told = λ rest t. t }
 
-pub reading_more : {S : Type 0} (stands : S → List ℕ → Type 0) (limit x y z count taken : ℕ) (a b c : Option (List ℕ)) (old new : S) (r : Reading stands limit (change x y a b) taken old)
-    → GoesOn stands limit (change y z b c) r.bytes count new → Reading stands limit (change x z a c) (taken + count) new
-reading_more stands limit x y z count taken a b c old new r g = record {
+-- what a taker knows of the fronts of what it has taken, and of how much it may take
+abbrev pub Fronts : {S : Type 0} → (S → List ℕ → Type 0) → (List ℕ → Type 0) → Type 0
+Fronts {S} stands is_fine = (taker : S) (bytes : List ℕ) (n : ℕ) → stands taker bytes → is_fine (take n bytes)
+
+abbrev pub Grows : (List ℕ → ℕ) → Type 0
+Grows allowed = (bytes more : List ℕ) → allowed bytes ≤ allowed (bytes ++ more)
+
+abbrev pub Settles : (List ℕ → ℕ) → Type 0
+Settles allowed = (bytes more : List ℕ) → length bytes ≡ allowed bytes → allowed (bytes ++ more) ≡ length bytes
+
+pub reading_more : {S : Type 0} (said stands : S → List ℕ → Type 0) (allowed : List ℕ → ℕ) (limit x y z count sum : ℕ) (a b c : Option (List ℕ)) (old new : S) → Grows allowed
+    → (r : Reading said allowed (change x y a b) sum old) → limit ≡ allowed r.bytes → GoesOn stands limit (change y z b c) r.bytes count new → Reading stands allowed (change x z a c) (sum + count) new
+reading_more said stands allowed limit x y z count sum a b c old new grows r is g = record {
   bytes = r.bytes ++ g.piece;
   sized = let size = r.sized in let few = g.as_many in omega (arith, length-append r.bytes g.piece);
-  within = let size = r.sized in let within = g.within in omega arith;
+  within = let size = r.sized in let within = g.within in let more = grows r.bytes g.piece in omega arith;
   there = g.stands_on;
   counted = g.got.count ∙ r.counted;
   told = took_more a b c r.bytes g.piece r.told g.got.gave;
 }
-
--- what a taker knows of the fronts of what it has taken
-abbrev pub Fronts : {S : Type 0} → (S → List ℕ → Type 0) → (List ℕ → Type 0) → Type 0
-Fronts {S} stands is_fine = (taker : S) (bytes : List ℕ) (n : ℕ) → stands taker bytes → is_fine (take n bytes)
 
 -- without its last piece all that was read is fine
 early_piece : {S : Type 0} (stands : S → List ℕ → Type 0) (is_fine : List ℕ → Type 0) (taker : S) (bytes piece : List ℕ) → Fronts stands is_fine → stands taker bytes → length piece ≤ PIECE
@@ -215,58 +119,105 @@ early_piece stands is_fine taker bytes piece fronts there few =
     subst is_fine (sym (take-append-le k bytes piece below)) (fronts taker bytes k there)
 
 -- what was read when a piece ends it
-reads_piece : {S : Type 0} (stands : S → List ℕ → Type 0) (is_fine : List ℕ → Type 0) (limit x y z taken : ℕ) (a b c : Option (List ℕ)) (old : S) → Fronts stands is_fine
-    → (r : Reading stands limit (change x y a b) taken old) (piece : List ℕ) → Got (change y z b c) piece → length r.bytes + length piece ≤ limit + 1 → Reads is_fine limit (change x z a c)
-reads_piece stands is_fine limit x y z taken a b c old fronts r piece got most = record {
+reads_piece : {S : Type 0} (stands : S → List ℕ → Type 0) (is_fine : List ℕ → Type 0) (allowed : List ℕ → ℕ) (x y z sum : ℕ) (a b c : Option (List ℕ)) (old : S) → Fronts stands is_fine
+    → (r : Reading stands allowed (change x y a b) sum old) (piece : List ℕ) → Got (change y z b c) piece → length (r.bytes ++ piece) ≤ allowed ((r.bytes ++ piece) ++ rest_of c) + 1 → Reads is_fine allowed (change x z a c)
+reads_piece stands is_fine allowed x y z sum a b c old fronts r piece got few = record {
   taken = r.bytes ++ piece;
-  few = omega (arith, length-append r.bytes piece);
+  few = few;
   told = took_more a b c r.bytes piece r.told got.gave (rest_of c) (Tells_rest c);
   early = early_piece stands is_fine old r.bytes piece fronts r.there got.few;
 }
 
--- all of the input, where a piece ends it
-pub reads_all : {S : Type 0} (stands : S → List ℕ → Type 0) (is_fine : List ℕ → Type 0) (limit x y z taken : ℕ) (a b c : Option (List ℕ)) (old : S) → Fronts stands is_fine
-    → (r : Reading stands limit (change x y a b) taken old) (piece : List ℕ) → Got (change y z b c) piece → length r.bytes + length piece ≤ limit + 1
-    → (reads : Reads is_fine limit (change x z a c)) × (input_of reads ≡ r.bytes ++ (piece ++ rest_of c))
-unfolding reads_piece
-reads_all stands is_fine limit x y z taken a b c old fronts r piece got most =
-    (reads_piece stands is_fine limit x y z taken a b c old fronts r piece got most, append_assoc r.bytes piece (rest_of c))
+-- where a piece lies within the limit, all that was read does, and whatever follows
+in_limit : (allowed : List ℕ → ℕ) (limit : ℕ) (bytes piece rest : List ℕ) → Grows allowed → limit ≡ allowed bytes → length bytes + length piece ≤ limit → length (bytes ++ piece) ≤ allowed ((bytes ++ piece) ++ rest)
+in_limit allowed limit bytes piece rest grows is within =
+    let first = grows bytes piece in let then = grows (bytes ++ piece) rest in omega (arith, length-append bytes piece)
 
--- all of the input, where a read fails
-pub reads_left : {S : Type 0} (stands : S → List ℕ → Type 0) (is_fine : List ℕ → Type 0) (limit x y z taken : ℕ) (a b c : Option (List ℕ)) (old : S) → Fronts stands is_fine
-    → (r : Reading stands limit (change x y a b) taken old) → Keeps b c → (reads : Reads is_fine limit (change x z a c)) × (input_of reads ≡ r.bytes ++ rest_of c)
-reads_left stands is_fine limit x y z taken a b c old fronts r kept = (
-  record {
-    taken = r.bytes;
-    few = let size = r.sized in let within = r.within in omega arith;
-    told = r.told (rest_of c) (Tells-Keeps b c (rest_of c) kept (Tells_rest c));
-    early = fronts old r.bytes (length r.bytes - PIECE) r.there;
-  },
-  refl,
-)
+-- the reading ends: what its last turn says of this piece is what is to be said of all
+record Last {S : Type 0} (stands stops : S → List ℕ → Type 0) (allowed : List ℕ → ℕ) (last : Read) (bytes piece rest : List ℕ) (new : S) : Type 0 where
+  few : length (bytes ++ piece) ≤ allowed ((bytes ++ piece) ++ rest) + 1
+  ends : EndsBy stands stops last (allowed ((bytes ++ piece) ++ rest)) ((bytes ++ piece) ++ rest) rest new
 
--- the reading ends
-pub reads_end : {S : Type 0} (stands stops : S → List ℕ → Type 0) (is_fine : List ℕ → Type 0) (limit x y z taken : ℕ) (a b c : Option (List ℕ)) (old new : S) (last : Read) → Fronts stands is_fine
-    → (r : Reading stands limit (change x y a b) taken old) → EndsHere stands stops limit (change y z b c) r.bytes last new → ReadsInput stands stops is_fine (Ok last) limit (change x z a c) new
+last_whole : {S : Type 0} (stands stops : S → List ℕ → Type 0) (allowed : List ℕ → ℕ) (bytes piece rest : List ℕ) (new : S) → length bytes ≤ allowed bytes → piece ≡ [] → rest ≡ [] → stands new bytes
+    → Last stands stops allowed read.Whole bytes piece rest new
+last_whole stands stops allowed bytes piece rest new within none left there =
+    let all : bytes ≡ (bytes ++ piece) ++ rest = sym (append-nil bytes) ∙ ap (λ z. bytes ++ z) (sym none) ∙ sym (append-nil (bytes ++ piece)) ∙ ap (λ z. (bytes ++ piece) ++ z) (sym left) in
+    let some : bytes ≡ bytes ++ piece = sym (append-nil bytes) ∙ ap (λ z. bytes ++ z) (sym none) in
+    let fits : length ((bytes ++ piece) ++ rest) ≤ allowed ((bytes ++ piece) ++ rest) = subst (λ z. length z ≤ allowed z) all within in
+    record { few = omega (arith, length-append (bytes ++ piece) rest); ends = (fits, left, subst (stands new) all there) }
+
+last_past : {S : Type 0} (stands stops : S → List ℕ → Type 0) (allowed : List ℕ → ℕ) (bytes piece rest : List ℕ) (new : S) → Settles allowed → length piece ≡ 1 → length bytes ≡ allowed bytes → stands new bytes
+    → Last stands stops allowed read.TooLong bytes piece rest new
+last_past stands stops allowed bytes piece rest new settles one full there =
+    let whole = (bytes ++ piece) ++ rest in
+    let limit : allowed whole ≡ length bytes = ap allowed (append_assoc bytes piece rest) ∙ settles bytes (piece ++ rest) full in
+    let front : take (allowed whole) whole ≡ bytes = ap (λ n. take n whole) limit ∙ ap (take (length bytes)) (append_assoc bytes piece rest) ∙ take-append_seam bytes (piece ++ rest) in
+    record {
+      few = omega (arith, length-append bytes piece);
+      ends = (omega (arith, length-append bytes piece, length-append (bytes ++ piece) rest), subst (stands new) (sym front) there);
+    }
+
+last_stopped : {S : Type 0} (stands stops : S → List ℕ → Type 0) (allowed : List ℕ → ℕ) (limit : ℕ) (bytes piece rest : List ℕ) (new : S) → Grows allowed → limit ≡ allowed bytes → length bytes + length piece ≤ limit
+    → stops new (bytes ++ piece) → Last stands stops allowed read.Stopped bytes piece rest new
+last_stopped stands stops allowed limit bytes piece rest new grows is within there =
+    let fits = in_limit allowed limit bytes piece rest grows is within in
+    record { few = omega arith; ends = record { front = bytes ++ piece; behind = rest; cut = refl; within = fits; stopped = there } }
+
+last_by : {S : Type 0} (stands stops : S → List ℕ → Type 0) (allowed : List ℕ → ℕ) (limit : ℕ) (i : Change) (last : Read) (bytes piece : List ℕ) (new : S) → Grows allowed → Settles allowed → limit ≡ allowed bytes
+    → length bytes ≤ allowed bytes → EndsWith stands stops last limit i bytes piece new → Last stands stops allowed last bytes piece (rest_of i.new) new
+last_by stands stops allowed limit i read.Whole bytes piece new grows settles is within (none, left, there) = last_whole stands stops allowed bytes piece (rest_of i.new) new within none left there
+last_by stands stops allowed limit i read.TooLong bytes piece new grows settles is within (one, full, there) = last_past stands stops allowed bytes piece (rest_of i.new) new settles one (full ∙ is) there
+last_by stands stops allowed limit i read.Stopped bytes piece new grows settles is within (few, there) = last_stopped stands stops allowed limit bytes piece (rest_of i.new) new grows is few there
+
+pub reads_end : {S : Type 0} (stands stops : S → List ℕ → Type 0) (is_fine : List ℕ → Type 0) (written : List ℕ → List ℕ) (allowed : List ℕ → ℕ) (limit x y z sum : ℕ) (a b c : Option (List ℕ)) (p o : Change) (old new : S) (last : Read)
+    → Fronts stands is_fine → Grows allowed → Settles allowed → (r : Reading (Wrote stands written p) allowed (change x y a b) sum old) → limit ≡ allowed r.bytes
+    → EndsHere (Wrote stands written o) (Wrote stops written o) limit (change y z b c) r.bytes last new → ReadsInput stands stops is_fine written (Ok last) allowed (change x z a c) o new
 unfolding reads_piece
-reads_end stands stops is_fine limit x y z taken a b c old new last fronts r e = (
-  reads_piece stands is_fine limit x y z taken a b c old fronts r e.piece e.got e.most,
-  e.got.count ∙ r.counted,
-  subst (λ w. EndsBy stands stops last limit w (rest_of c) new) (sym (append_assoc r.bytes e.piece (rest_of c))) e.ends,
-)
+reads_end stands stops is_fine written allowed limit x y z sum a b c p o old new last fronts grows settles r is e =
+    let sized = r.sized in let within = r.within in
+    let l = last_by (Wrote stands written o) (Wrote stops written o) allowed limit (change y z b c) last r.bytes e.piece new grows settles is (omega arith) e.ends in (
+      reads_piece (Wrote stands written p) is_fine allowed x y z sum a b c old (λ taker bytes n h. fronts taker bytes n h.0) r e.piece e.got l.few,
+      e.got.count ∙ r.counted,
+      l.ends,
+    )
 
 -- a read failed
-reads_failed : {S : Type 0} (stands stops : S → List ℕ → Type 0) (is_fine : List ℕ → Type 0) (limit x y z taken : ℕ) (a b c : Option (List ℕ)) (old new : S) → Fronts stands is_fine
-    → (r : Reading stands limit (change x y a b) taken old) → (y ≤ z) × Rose y z × Keeps b c → ReadsInput stands stops is_fine (Err fault.Failed) limit (change x z a c) new
-reads_failed stands stops is_fine limit x y z taken a b c old new fronts r (falls, rose, kept) = (
-  (reads_left stands is_fine limit x y z taken a b c old fronts r kept).0,
-  (let same : y ≡ x = r.counted in omega arith),
-  λ below. let same : y ≡ x = r.counted in let up : y < z = rose below in omega arith,
-)
+reads_failed : {S : Type 0} (stands stops : S → List ℕ → Type 0) (is_fine : List ℕ → Type 0) (written : List ℕ → List ℕ) (allowed : List ℕ → ℕ) (x y z sum : ℕ) (a b c : Option (List ℕ)) (p o : Change) (old new : S)
+    → Fronts stands is_fine → Grows allowed → (r : Reading (Wrote stands written p) allowed (change x y a b) sum old) → ReadsNone (change y z b c) o (written r.bytes)
+    → ReadsInput stands stops is_fine written (Err fault.Read) allowed (change x z a c) o new
+reads_failed stands stops is_fine written allowed x y z sum a b c p o old new fronts grows r none =
+    let sized = r.sized in let within = r.within in let more = grows r.bytes (rest_of c) in
+    let same : y ≡ x = r.counted in let falls = none.falls in
+    let fits : length r.bytes ≤ allowed (r.bytes ++ rest_of c) = omega arith in (
+      record {
+        taken = r.bytes;
+        few = omega arith;
+        told = r.told (rest_of c) (Tells-Keeps b c (rest_of c) none.kept (Tells_rest c));
+        early = fronts old r.bytes (length r.bytes - PIECE) r.there.0;
+      },
+      ((omega arith), λ below. let up : y < z = none.rose below in omega arith),
+      record { front = r.bytes; behind = rest_of c; cut = refl; within = fits; broke = none.wrote },
+    )
+
+-- what was given a piece broke off
+reads_broken : {S : Type 0} (stands stops : S → List ℕ → Type 0) (is_fine : List ℕ → Type 0) (written : List ℕ → List ℕ) (f : InputFault) (allowed : List ℕ → ℕ) (limit x y z sum : ℕ) (a b c : Option (List ℕ)) (p o : Change) (old : S)
+    → Fronts stands is_fine → Grows allowed → (r : Reading (Wrote stands written p) allowed (change x y a b) sum old) → limit ≡ allowed r.bytes → BreaksHere written f limit (change y z b c) r.bytes o
+    → (reads : Reads is_fine allowed (change x z a c)) × (z ≡ x) × BreaksOff written f (allowed (input_of reads)) (input_of reads) o
+unfolding reads_piece
+reads_broken stands stops is_fine written f allowed limit x y z sum a b c p o old fronts grows r is broken =
+    let fits = in_limit allowed limit r.bytes broken.piece (rest_of c) grows is broken.within in (
+      reads_piece (Wrote stands written p) is_fine allowed x y z sum a b c old (λ taker bytes n h. fronts taker bytes n h.0) r broken.piece broken.got (omega arith),
+      broken.got.count ∙ r.counted,
+      record { front = r.bytes ++ broken.piece; behind = rest_of c; cut = refl; within = fits; broke = broken.broke },
+    )
 
 -- a turn that failed
-pub reads_fault : {S : Type 0} (stands stops : S → List ℕ → Type 0) (is_fine : List ℕ → Type 0) (limit x y z taken : ℕ) (a b c : Option (List ℕ)) (old new : S) (f : InputFault) → Fronts stands is_fine
-    → (r : Reading stands limit (change x y a b) taken old) → Turns stands stops (Err f) limit (change y z b c) r.bytes new → ReadsInput stands stops is_fine (Err f) limit (change x z a c) new
-reads_fault stands stops is_fine limit x y z taken a b c old new fault.Failed fronts r turn = reads_failed stands stops is_fine limit x y z taken a b c old new fronts r turn
-reads_fault stands stops is_fine limit x y z taken a b c old new fault.Memory fronts r (piece, got, most) =
-    (reads_piece stands is_fine limit x y z taken a b c old fronts r piece got most, got.count ∙ r.counted)
+pub reads_fault : {S : Type 0} (stands stops : S → List ℕ → Type 0) (is_fine : List ℕ → Type 0) (written : List ℕ → List ℕ) (allowed : List ℕ → ℕ) (limit x y z sum : ℕ) (a b c : Option (List ℕ)) (p o : Change) (old new : S) (f : InputFault)
+    → Fronts stands is_fine → Grows allowed → (r : Reading (Wrote stands written p) allowed (change x y a b) sum old) → limit ≡ allowed r.bytes
+    → Turns stands stops written (Err f) limit (change y z b c) o r.bytes new → ReadsInput stands stops is_fine written (Err f) allowed (change x z a c) o new
+reads_fault stands stops is_fine written allowed limit x y z sum a b c p o old new fault.Read fronts grows r is turn =
+    reads_failed stands stops is_fine written allowed x y z sum a b c p o old new fronts grows r turn
+reads_fault stands stops is_fine written allowed limit x y z sum a b c p o old new fault.Write fronts grows r is turn =
+    reads_broken stands stops is_fine written fault.Write allowed limit x y z sum a b c p o old fronts grows r is turn
+reads_fault stands stops is_fine written allowed limit x y z sum a b c p o old new fault.Memory fronts grows r is turn =
+    reads_broken stands stops is_fine written fault.Memory allowed limit x y z sum a b c p o old fronts grows r is turn

@@ -4,4 +4,3 @@ pub mod Raising
 pub mod Staying
 pub mod Delivering
 pub mod Bringing
-pub mod Keeping

@@ -23,7 +23,7 @@ use Rattle.gfx_tile_make.specs.Levels.{shown_at}
 use Rattle.gfx_tile_make.specs.Quantised.{quantised_plane}
 use Rattle.gfx_tile_make.specs.Source.{Source as Tile, difference_of, planes_of, source_of}
 use Rattle.gfx_tile_state.specs.Passes.{blank}
-use Rattle.gfx_planner.specs.Want.{Wanted, drawn_on, wanted_as, with_tiles}
+use Rattle.gfx_planner.specs.Want.{Wanted, drawn_on, wanted_as, with_painting, with_tiles}
 use Rattle.gfx_planner.proofs.LiveShown.{tile-kept}
 use Rattle.gfx_planner.proofs.TilesAccepted.{surface_here}
 use Rattle.gfx_laws.specs.PassesShown.{GoesOnAny, IsOfTile, IsTileOf, PaintsInPassesShowTheirSource}
@@ -104,7 +104,7 @@ surfaces-after script wanted o id at source surface drawn there =
     ∙ ap (λ z. (drawn_on wanted.shown id z (after_showing id (painted_sends script wanted.passes.live id source (place_of source at)))).surfaces) there
 
 pub paints-show : PaintsInPassesShowTheirSource
-unfolding wanted_as
+unfolding wanted_as with_painting
 paints-show script wanted named id number at glyph source surface drawn there = record {
   picture = after;
   there = ap (λ m. get m id) (surfaces-after script wanted _ id at source surface drawn there) ∙ surface_here wanted.shown.surfaces id after id refl;

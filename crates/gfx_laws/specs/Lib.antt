@@ -3,4 +3,3 @@ pub mod Raised
 pub mod Stays
 pub mod Delivered
 pub mod Choosing
-pub mod Kept

@@ -2,7 +2,7 @@
 //! in one of those would agree with itself, and is refused here.
 //!
 //! They say which pixel a paint in passes shows at each place, which tiles an improvement raises and where it writes,
-//! that all else stays as it was, and what both ends keep of tiles; what a whole channel message of any stream comes to; and that the choosers of a
+//! and that all else stays as it was; what a whole channel message of any stream comes to; and that the choosers of a
 //! session may be changed between its turns. It holds laws alone, and nothing stands on it.
 #![tactic(auto)]
 
@@ -11,8 +11,7 @@ mod sessions;
 mod streams;
 
 pub use seen::{
-    improvements_raise_live_tiles, live_tiles_are_kept, paints_in_passes_show_their_source,
-    pixels_stay_until_written,
+    improvements_raise_live_tiles, paints_in_passes_show_their_source, pixels_stay_until_written,
 };
 pub use sessions::{any_choosers_may_be_brought, later_kinds_are_not_seen};
 pub use streams::whole_messages_are_delivered;

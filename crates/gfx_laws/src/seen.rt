@@ -1,5 +1,4 @@
 //! What is seen on the surfaces of a script.
-ghost use Rattle.gfx_laws.specs.Kept.{LiveTilesAreKept};
 ghost use Rattle.gfx_laws.specs.PassesShown.{PaintsInPassesShowTheirSource};
 ghost use Rattle.gfx_laws.specs.Raised.{ImprovementsRaiseLiveTiles};
 ghost use Rattle.gfx_laws.specs.Stays.{PixelsStayUntilWritten};
@@ -20,10 +19,4 @@ pub fn improvements_raise_live_tiles()
 /// among them: what a paint by ClearCodec drew, and what a tile shows, stays until a step writes there.
 pub fn pixels_stay_until_written()
     ensures { PixelsStayUntilWritten }
-{}
-
-/// After each front of an accepted script a client that took its stream has, for each tile that may be raised, the
-/// record of its cell at its level, as the server's end has.
-pub fn live_tiles_are_kept()
-    ensures { LiveTilesAreKept }
 {}

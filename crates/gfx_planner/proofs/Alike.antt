@@ -1,5 +1,5 @@
 -- Pictures and surfaces of which nothing changes outside of where something is drawn.
-use Rattle.std.proofs.Common.{◌≡◌, ◌≢◌, ◌⊎◌, ◌∙◌, ℕ, ◌<◌, Bool, true, false, cond, List, Option, Some, None, inl, inr, refl, sym, ap, subst, arith, if◌then◌else◌}
+use Rattle.std.proofs.Common.{◌≡◌, ◌≢◌, ◌⊎◌, ◌∙◌, ℕ, ◌<◌, Bool, true, false, cond, List, Option, Some, None, inl, inr, refl, sym, ap, subst, arith}
 use Rattle.std.specs.Cmp.{nat_cmp_total}
 use Rattle.std.specs.FinMap.{get, insert, remove, get-insert, get-remove}
 use Rattle.std.specs.List.{AllByRecursion}
@@ -14,7 +14,7 @@ use Rattle.gfx_surface.specs.Picture.{Picture, redrawn, pixel_at, no_pixel}
 use Rattle.gfx_surface.proofs.PictureLemmas.{pixel_at-drawn}
 use Rattle.gfx_surface_map.specs.Shown.{Shown}
 use Rattle.gfx_surface_map.specs.Surfaces.{Surfaces}
-use Rattle.gfx_planner.specs.Want.{Wanted, drawn_on}
+use Rattle.gfx_planner.specs.Want.{drawn_on}
 use Rattle.gfx_planner.specs.Within.{IsOutside, ChangesWithin}
 
 -- pictures ------------------------------------------------------------------------------------------
@@ -105,9 +105,3 @@ within_drawn shown id rects draw alike = by (get shown.surfaces id) refl
 -- what can't be
 pub never : {X : Type 0} (b : Bool) → b ≡ true → b ≡ false → X
 never b is other = absurd cc
-
--- so it is with either of two
-pub within_either : (b : Bool) (written : Option Area) (old : Surfaces) (one other : Wanted) → ChangesWithin written old one.shown.surfaces → ChangesWithin written old other.shown.surfaces
-    → ChangesWithin written old (if b then one else other).shown.surfaces
-within_either true written old one other first second = first
-within_either false written old one other first second = second

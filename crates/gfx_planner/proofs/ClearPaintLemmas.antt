@@ -1,5 +1,5 @@
 -- Paints by ClearCodec that are allowed can be sent, and what sending one comes to.
-use Rattle.std.proofs.Common.{◌≡◌, ℕ, ◌+◌, ◌-◌, ◌<◌, ◌^◌, false, List, [], ◌∷◌, Option, Some, None, Result, Ok, Err, option_map, refl, sym, ap, ◌∙◌, subst, arith}
+use Rattle.std.proofs.Common.{◌≡◌, ℕ, ◌+◌, ◌-◌, ◌<◌, ◌^◌, List, [], ◌∷◌, Option, Some, None, Result, Ok, Err, option_map, refl, sym, ap, ◌∙◌, subst, arith}
 use Rattle.std.specs.Prelude.{IfSome, IsSomeAnd, IsTrue}
 use Rattle.std.specs.FinMap.{get}
 use Rattle.std.specs.List.{slice_get}
@@ -9,18 +9,19 @@ use Rattle.gfx_base.specs.declared.answer.NoMemory.{NoMemory}
 use Rattle.gfx_base.specs.declared.geometry.Point.{Point}
 use Rattle.gfx_base.specs.declared.geometry.Rect.{Rect}
 use Rattle.gfx_base.specs.declared.pixel.Rgb.{Rgb}
-use Rattle.gfx_clear.specs.declared.layer.Layer.{Layer}
 use Rattle.gfx_clear.specs.Sending.{MaySend as MaySendStream, sent as stream_sent}
 use Rattle.gfx_pdu.specs.declared.pdu.Pdu.{Pdu}
 use Rattle.gfx_pdu.specs.declared.pdu.Pdu.TheVariants.{WireToSurface1}
 use Rattle.gfx_script.specs.declared.picture.Picture.{Picture as Source}
 use Rattle.gfx_script.specs.declared.step.Kind.{Kind}
-use Rattle.gfx_script.specs.declared.step.Kind.TheVariants.{Raw, Residual, Bands, Palette, Plain, Progressive}
+use Rattle.gfx_script.specs.declared.way.Way.{Way}
+use Rattle.gfx_script.specs.declared.way.Way.TheVariants.{Uncompressed, ByLayer, InPasses}
 use Rattle.gfx_script.specs.declared.step.Step.{Step}
 use Rattle.gfx_script.specs.declared.step.Step.TheVariants.{Surface, Delete, Reset, Map, Fill, Copy, Keep, Show, Forget, Paint, Improve, Frame}
 use Rattle.gfx_script.specs.Checks.{Held, held_after}
 use Rattle.gfx_script.specs.Kinds.{as_kind}
 use Rattle.gfx_script.specs.Scripted.{Script}
+use Rattle.gfx_script.specs.Ways.{goes_by}
 use Rattle.gfx_script.specs.Writes.{place_of}
 use Rattle.gfx_live.specs.Live.{Passes}
 use Rattle.gfx_slot_plan.specs.Plan.{Plan}
@@ -30,26 +31,25 @@ use Rattle.gfx_state.specs.State.{State}
 use Rattle.gfx_state.specs.Step.{step}
 use Rattle.gfx_surface.specs.Picture.{Picture}
 use Rattle.gfx_planner.specs.Agree.{Holds, IsAllowed}
-use Rattle.gfx_planner.specs.ClearPaints.{MayPaintClear, clear_message, clear_paint_of}
-use Rattle.gfx_planner.specs.Layers.{layer_of}
+use Rattle.gfx_planner.specs.ClearPaints.{MayPaintClear, clear_message, clear_paint_by, clear_paint_of}
 use Rattle.gfx_planner.specs.Planned.{PutsFront, SendsMade, SendsMessages}
-use Rattle.gfx_planner.specs.Passes.{goes_in_passes}
 use Rattle.gfx_planner.specs.Want.{colours_in}
-use Rattle.gfx_planner.specs.Wire.{CanBeSent, Made, Server, alone, made, made_as, paint_message}
+use Rattle.gfx_planner.specs.Wire.{CanBeSent, Made, Server, alone, made, made_as, paint_made, paint_message}
 use Rattle.gfx_planner.specs.declared.clear_paint.ClearPaint.{ClearPaint}
 use Rattle.gfx_planner.proofs.Effects.{sent_nothing}
 use Rattle.gfx_planner.proofs.PaintSteps.{MayPaint, may_paint, may_send_stream, paint_carried, painting_there}
 use Rattle.gfx_planner.proofs.Payloads.{sides}
 use Rattle.gfx_planner.proofs.Seen.{seen}
-use Rattle.gfx_planner.proofs.StepMessages.{painted_apart}
 
 -- an allowed one can be sent ---------------------------------------------------------------------------
 
-allowed_paint : (script : Script) (server : Server) (held after : Held) (id number : ℕ) (at : Point) (named : Option Kind) (glyph : Option ℕ) (layer : Option Layer) → Holds script held server
+allowed_paint : (script : Script) (server : Server) (held after : Held) (id number : ℕ) (at : Point) (named : Option Kind) (glyph : Option ℕ) (way : Option Way) → Holds script held server
     → (id < 2 ^ 16) → MayPaint script server id number at glyph
-    → IfSome (option_map (λ layer. record { id = id; picture = number; at = at; layer = layer; glyph = glyph }) layer) (MayPaintClear script server.state)
+    → IfSome (clear_paint_by way id number at glyph) (MayPaintClear script server.state)
 allowed_paint script server held after id number at named glyph None holds fits m = tt
-allowed_paint script server held after id number at named glyph (Some layer) holds fits m = record {
+allowed_paint script server held after id number at named glyph (Some Uncompressed) holds fits m = tt
+allowed_paint script server held after id number at named glyph (Some InPasses) holds fits m = tt
+allowed_paint script server held after id number at named glyph (Some (ByLayer layer)) holds fits m = record {
   surface = m.surface;
   there = m.there;
   picture = m.picture;
@@ -62,10 +62,9 @@ allowed_paint script server held after id number at named glyph (Some layer) hol
 
 pub may_paint_clear : (script : Script) (server : Server) (kind : Option Kind) (step : Step) → IsAllowed script server (as_kind kind step) → IfSome (clear_paint_of step kind) (MayPaintClear script server.state)
 unfolding held_after
-may_paint_clear script server None (Paint id number at named glyph) allowed = tt
-may_paint_clear script server (Some kind) (Paint id number at named glyph) allowed =
+may_paint_clear script server kind (Paint id number at named glyph) allowed =
     let may = may_paint script server allowed.held allowed.after id number at named glyph (seen script allowed.held server allowed.holds) allowed.numbers.1 allowed.numbers.2 allowed.checked in
-    allowed_paint script server allowed.held allowed.after id number at named glyph (layer_of kind) allowed.holds allowed.numbers.0 may.0
+    allowed_paint script server allowed.held allowed.after id number at named glyph (goes_by kind) allowed.holds allowed.numbers.0 may.0
 may_paint_clear script server kind (Surface id width height format) allowed = tt
 may_paint_clear script server kind (Delete id) allowed = tt
 may_paint_clear script server kind (Reset width height) allowed = tt
@@ -177,35 +176,29 @@ sends_nothing e script old new paint out = by (get old.shown.surfaces paint.id)
     by None = tt
     by (Some surface) = behind surface (slice_get script.pictures paint.picture)
 
--- what goes by a layer doesn't go in passes
-goes_whole : (kind : Kind) (layer : Layer) → layer_of kind ≡ Some layer → goes_in_passes (Some kind) ≡ false
-goes_whole Raw layer is = refl
-goes_whole Residual layer is = refl
-goes_whole Bands layer is = refl
-goes_whole Palette layer is = refl
-goes_whole Plain layer is = refl
-goes_whole Progressive layer is = absurd cc
+-- a picture that goes by a layer is made into its message
+by_layer : (script : Script) (state : State) (passes : Passes) (plan : Plan) (way : Option Way) (id number : ℕ) (at : Point) (glyph : Option ℕ) (paint : ClearPaint) (may : MayPaintClear script state paint)
+    → clear_paint_by way id number at glyph ≡ Some paint
+    → paint_made script state passes plan way (slice_get script.pictures number) glyph id at
+    ≡ made (paint_message (Some paint.layer) state.clear paint.glyph may.surface may.picture paint.id paint.at ∷ []) plan
+unfolding paint_made
+by_layer script state passes plan None id number at glyph paint may is = absurd cc
+by_layer script state passes plan (Some Uncompressed) id number at glyph paint may is = absurd cc
+by_layer script state passes plan (Some InPasses) id number at glyph paint may is = absurd cc
+by_layer script state passes plan (Some (ByLayer layer)) id number at glyph paint may is =
+    let made_paint : ClearPaint = record { id = id; picture = number; at = at; layer = layer; glyph = glyph } in
+    let same : made_paint ≡ paint = cc in
+    let there : get state.shown.surfaces id ≡ Some may.surface = ap (λ (z : ClearPaint). get state.shown.surfaces z.id) same ∙ may.there in
+    let drawn : slice_get script.pictures number ≡ Some may.picture = ap (λ (z : ClearPaint). slice_get script.pictures z.picture) same ∙ may.drawn in
+    ap (λ o. alone o plan) (painting_there (Some layer) state.clear (get state.shown.surfaces id) (slice_get script.pictures number) glyph may.surface may.picture id at there drawn)
+    ∙ ap (λ (z : ClearPaint). made (paint_message (Some z.layer) state.clear z.glyph may.surface may.picture z.id z.at ∷ []) plan) same
 
 -- a step that is one is made into its message
 pub clear_made : (script : Script) (state : State) (passes : Passes) (plan : Plan) (kind : Option Kind) (step : Step) (paint : ClearPaint) (may : MayPaintClear script state paint) → clear_paint_of step kind ≡ Some paint
     → made_as script state passes plan kind step ≡ made (paint_message (Some paint.layer) state.clear paint.glyph may.surface may.picture paint.id paint.at ∷ []) plan
 unfolding made_as
-clear_made script state passes plan None (Paint id number at named glyph) paint may is = absurd cc
-clear_made script state passes plan (Some kind) (Paint id number at named glyph) paint may is = by (layer_of kind) refl is
-  where
-    by : (layer : Option Layer) → layer_of kind ≡ layer → option_map (λ layer. record { id = id; picture = number; at = at; layer = layer; glyph = glyph }) layer ≡ Some paint
-        → made_as script state passes plan (Some kind) (Paint id number at named glyph)
-        ≡ made (paint_message (Some paint.layer) state.clear paint.glyph may.surface may.picture paint.id paint.at ∷ []) plan
-    by None of_kind found = absurd cc
-    by (Some layer) of_kind found =
-        let made_paint : ClearPaint = record { id = id; picture = number; at = at; layer = layer; glyph = glyph } in
-        let same : made_paint ≡ paint = cc in
-        let there : get state.shown.surfaces id ≡ Some may.surface = ap (λ (z : ClearPaint). get state.shown.surfaces z.id) same ∙ may.there in
-        let drawn : slice_get script.pictures number ≡ Some may.picture = ap (λ (z : ClearPaint). slice_get script.pictures z.picture) same ∙ may.drawn in
-        painted_apart script state passes plan (Some kind) named glyph id number at (goes_whole kind layer of_kind)
-        ∙ ap (λ o. alone o plan) (painting_there state.clear (get state.shown.surfaces id) (slice_get script.pictures number) kind glyph may.surface may.picture id at there drawn)
-        ∙ (λ i. made (paint_message (of_kind i) state.clear glyph may.surface may.picture id at ∷ []) plan)
-        ∙ ap (λ (z : ClearPaint). made (paint_message (Some z.layer) state.clear z.glyph may.surface may.picture z.id z.at ∷ []) plan) same
+clear_made script state passes plan kind (Paint id number at named glyph) paint may is =
+    by_layer script state passes plan (goes_by kind) id number at glyph paint may is
 clear_made script state passes plan kind (Surface id width height format) paint may is = absurd cc
 clear_made script state passes plan kind (Delete id) paint may is = absurd cc
 clear_made script state passes plan kind (Reset width height) paint may is = absurd cc

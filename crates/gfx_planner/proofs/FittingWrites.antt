@@ -24,7 +24,7 @@ use Rattle.gfx_surface.specs.declared.TheConstants.{MOST_SIDE}
 use Rattle.gfx_surface.specs.Picture.{Picture}
 use Rattle.gfx_surface_map.specs.Surfaces.{Surfaces}
 use Rattle.gfx_planner.specs.Agree.{HoldsSurfaces, IsAllowed, sides_of}
-use Rattle.gfx_planner.specs.Passes.{FitsAt, is_in_passes}
+use Rattle.gfx_planner.specs.Passes.{FitsAt, sends_tiles}
 use Rattle.gfx_planner.specs.Slots.{sides_in}
 use Rattle.gfx_planner.specs.Want.{bitmap_in, sides_kept}
 use Rattle.gfx_planner.specs.Wire.{Server}
@@ -85,7 +85,7 @@ painted_fits : (script : Script) (id number : ℕ) (at : Point) (o : Option Sour
     → IfSome (option_map (λ source. area id (place_of source at ∷ [])) o) (λ written. AllByRecursion IsRect written.rects)
 painted_fits script id number at o picture is place = rw is (place, tt)
 
-pub fitting : (script : Script) (server : Server) (kind : Option Kind) (step : Step) → IsAllowed script server (as_kind kind step) → is_in_passes kind step ≡ false
+pub fitting : (script : Script) (server : Server) (kind : Option Kind) (step : Step) → IsAllowed script server (as_kind kind step) → sends_tiles kind step ≡ false
     → FitsAt script (sides_kept server.plan server.state.cache.slots) step
 unfolding FitsAt writes_by held_after
 fitting script server kind (Surface id width height format) allowed apart = (

@@ -1,5 +1,5 @@
 -- A frame on the wire that several steps share.
-use Rattle.std.proofs.Common.{◌≡◌, ◌+◌, ◌<◌, ◌^◌, ◌%◌, ℕ, Bool, true, false, if◌then◌else◌, List, [], ◌∷◌, ◌++◌, fold, map, Option, Some, None, Result, Ok, Err, refl, sym, ap, ◌∙◌, subst, arith}
+use Rattle.std.proofs.Common.{◌≡◌, ◌+◌, ◌<◌, ◌^◌, ◌%◌, ℕ, false, List, [], ◌∷◌, ◌++◌, fold, map, Option, Some, None, Result, Ok, Err, refl, sym, ap, ◌∙◌, subst, arith}
 use Rattle.std.specs.FinMap.{get}
 use Rattle.std.specs.List.{AllByRecursion, slice_get}
 use Rattle.gfx_base.specs.declared.format.Format.{Format}
@@ -7,6 +7,7 @@ use Rattle.gfx_base.specs.declared.geometry.Point.{Point}
 use Rattle.gfx_base.specs.declared.geometry.Rect.{Rect}
 use Rattle.gfx_base.specs.declared.refusal.Refusal.{Refusal}
 use Rattle.gfx_clear.specs.State.{State as ClearState}
+use Rattle.gfx_clear.specs.declared.layer.Layer.{Layer}
 use Rattle.gfx_pdu.specs.declared.pdu.Pdu.{Pdu}
 use Rattle.gfx_pdu.specs.declared.pdu.Pdu.TheVariants.{EvictCacheEntry}
 use Rattle.gfx_script.specs.Checks.{Held, held_after, held_through}
@@ -26,9 +27,11 @@ use Rattle.gfx_state.specs.Sending.{all_steps, IsCarried}
 use Rattle.gfx_surface.specs.Picture.{Picture}
 use Rattle.gfx_planner.specs.Agree.{Agree, Holds, IsInFrame}
 use Rattle.gfx_planner.specs.Joined.{all_messages, after_all, frame_of, after_frame, JoinedFramesAreShown}
-use Rattle.gfx_planner.specs.Passes.{goes_in_passes}
+use Rattle.gfx_script.specs.Ways.{goes_by}
+use Rattle.gfx_script.specs.declared.way.Way.{Way}
+use Rattle.gfx_script.specs.declared.way.Way.TheVariants.{Uncompressed, ByLayer, InPasses}
 use Rattle.gfx_planner.specs.Want.{Wanted, wanted_after}
-use Rattle.gfx_planner.specs.Wire.{Server, Made, alone, painting, painting_in_passes, passes_message, improving, showing_slot, emptying, keeping, made_as, pdus_of, messages, frame_start, frame_end, after_put, after_open, after_close}
+use Rattle.gfx_planner.specs.Wire.{Server, alone, painting, painting_in_passes, passes_message, improving, showing_slot, emptying, keeping, made_as, paint_made, pdus_of, messages, frame_start, frame_end, after_put, after_open, after_close}
 use Rattle.gfx_planner.proofs.Lists.{all_both}
 use Rattle.gfx_planner.proofs.Effects.{all_steps-none, all_steps-one}
 use Rattle.gfx_planner.proofs.Steps.{step_fine, messages-is, after_put-is}
@@ -46,13 +49,12 @@ evictions_stay : (slots : List ℕ) → AllByRecursion StaysInside (map EvictCac
 evictions_stay [] = tt
 evictions_stay (slot ∷ slots) = (refl, evictions_stay slots)
 
-painting_stays : (clear : ClearState) (surface : Option Picture) (picture : Option Source) (kind : Option Kind) (glyph : Option ℕ) (id : ℕ) (at : Point) (plan : Plan)
-    → AllByRecursion StaysInside (pdus_of (alone (painting clear surface picture kind glyph id at) plan))
+painting_stays : (layer : Option Layer) (clear : ClearState) (surface : Option Picture) (picture : Option Source) (glyph : Option ℕ) (id : ℕ) (at : Point) (plan : Plan)
+    → AllByRecursion StaysInside (pdus_of (alone (painting layer clear surface picture glyph id at) plan))
 unfolding painting
-painting_stays clear (Some surface) (Some picture) (Some kind) glyph id at plan = (refl, tt)
-painting_stays clear None picture kind glyph id at plan = tt
-painting_stays clear (Some surface) None kind glyph id at plan = tt
-painting_stays clear (Some surface) (Some picture) None glyph id at plan = tt
+painting_stays layer clear (Some surface) (Some picture) glyph id at plan = (refl, tt)
+painting_stays layer clear None picture glyph id at plan = tt
+painting_stays layer clear (Some surface) None glyph id at plan = tt
 
 showing_stays : (slot : Option ℕ) (to : ℕ) (points : List Point) (plan : Plan) → AllByRecursion StaysInside (pdus_of (alone (showing_slot slot to points) plan))
 unfolding showing_slot
@@ -86,9 +88,13 @@ unfolding improving
 improving_stays script passes None id plan = tt
 improving_stays script passes (Some surface) id plan = passes_stay id surface.format _
 
-either_stays : (b : Bool) (one other : Option Made) → AllByRecursion StaysInside (pdus_of one) → AllByRecursion StaysInside (pdus_of other) → AllByRecursion StaysInside (pdus_of (if b then one else other))
-either_stays true one other stays stays' = stays
-either_stays false one other stays stays' = stays'
+paint_stays : (script : Script) (state : State) (passes : Passes) (plan : Plan) (way : Option Way) (source : Option Source) (glyph : Option ℕ) (id : ℕ) (at : Point)
+    → AllByRecursion StaysInside (pdus_of (paint_made script state passes plan way source glyph id at))
+unfolding paint_made
+paint_stays script state passes plan None source glyph id at = tt
+paint_stays script state passes plan (Some Uncompressed) source glyph id at = painting_stays None state.clear (get state.shown.surfaces id) source glyph id at plan
+paint_stays script state passes plan (Some (ByLayer layer)) source glyph id at = painting_stays (Some layer) state.clear (get state.shown.surfaces id) source glyph id at plan
+paint_stays script state passes plan (Some InPasses) source glyph id at = tiles_stay script passes (get state.shown.surfaces id) source id at plan
 
 made_stays : (script : Script) (state : State) (passes : Passes) (plan : Plan) (kind : Option Kind) (step : Step) → AllByRecursion StaysInside (pdus_of (made_as script state passes plan kind step))
 unfolding made_as
@@ -102,8 +108,7 @@ made_stays script state passes plan kind (Keep id key rect) = keeping_stays _ id
 made_stays script state passes plan kind (Show key to points) = showing_stays _ to points _
 made_stays script state passes plan kind (Forget key) = emptying_stays _ _
 made_stays script state passes plan kind (Paint id picture at named glyph) =
-    either_stays (goes_in_passes kind) _ _ (tiles_stay script passes (get state.shown.surfaces id) (slice_get script.pictures picture) id at plan)
-    (painting_stays state.clear (get state.shown.surfaces id) (slice_get script.pictures picture) kind glyph id at plan)
+    paint_stays script state passes plan (goes_by kind) (slice_get script.pictures picture) glyph id at
 made_stays script state passes plan kind (Improve id) = improving_stays script passes (get state.shown.surfaces id) id plan
 made_stays script state passes plan kind Frame = tt
 

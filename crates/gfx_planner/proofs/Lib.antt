@@ -2,6 +2,7 @@ pub mod Lists
 pub mod Carried
 pub mod Held
 pub mod Effects
+pub mod Ways
 pub mod Paints
 pub mod Payloads
 pub mod MessageSending

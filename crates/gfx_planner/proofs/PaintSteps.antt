@@ -1,5 +1,5 @@
 -- The messages of paints are accepted by the server's own state, and show what is wanted.
-use Rattle.std.proofs.Common.{ℕ, ◌≡◌, zero, suc, ◌+◌, ◌*◌, ◌≤◌, ◌<◌, ◌^◌, ◌&&◌, nat_le, Bool, true, false, List, [], ◌∷◌, length, Option, Some, None, option_map, Ok, refl, sym, ap, ◌∙◌, subst, arith, if◌then◌else◌}
+use Rattle.std.proofs.Common.{ℕ, ◌≡◌, zero, suc, ◌+◌, ◌*◌, ◌≤◌, ◌<◌, ◌^◌, ◌&&◌, nat_le, Bool, true, false, List, [], ◌∷◌, length, Option, Some, None, option_map, Ok, refl, sym, ap, ◌∙◌, subst, arith}
 use Rattle.std.specs.List.{AllByRecursion, slice_get}
 use Rattle.std.specs.Prelude.{IfSome}
 use Rattle.std.proofs.lemmas.Option.{slice_get-map}
@@ -29,7 +29,7 @@ use Rattle.gfx_script.specs.declared.picture.Picture.{Picture as Source}
 use Rattle.gfx_script.specs.declared.step.Kind.{Kind}
 use Rattle.gfx_script.specs.Pictures.{IsDrawn}
 use Rattle.gfx_script.specs.Checks.{Held, is_glyph, picture_painted, sides_of_all, held_after}
-use Rattle.gfx_script.specs.Kinds.{as_kind, is_clear, is_progressive, GoesAs}
+use Rattle.gfx_script.specs.Kinds.{as_kind, GoesAs}
 use Rattle.gfx_script.specs.Script.{IsStep}
 use Rattle.gfx_script.specs.Scripted.{Script}
 use Rattle.gfx_script.specs.Writes.{place_of}
@@ -40,16 +40,18 @@ use Rattle.gfx_state.specs.Step as message
 use Rattle.gfx_state.specs.Codecs.{id_of}
 use Rattle.gfx_state.specs.Sending.{IsCarried}
 use Rattle.gfx_planner.specs.Agree.{sides_of, HoldsSurfaces}
-use Rattle.gfx_planner.specs.Layers.{layer_of, codec_by}
+use Rattle.gfx_script.specs.declared.way.Way.{Way}
+use Rattle.gfx_script.specs.Ways.{goes_by, is_in_passes, is_stream, way_of}
 use Rattle.gfx_planner.specs.Passes.{goes_in_passes}
-use Rattle.gfx_planner.specs.Want.{Wanted, drawing, pixels_in, colours_in, shown_by, with_painting, with_tiles, wanted_as}
-use Rattle.gfx_planner.specs.Wire.{Server, alone, data_by, paint_message, painting, painting_in_passes, made_as}
+use Rattle.gfx_planner.specs.Want.{Wanted, drawing, pixels_in, colours_in, with_pixels, wanted_as}
+use Rattle.gfx_planner.specs.Wire.{Server, alone, codec_by, data_by, paint_message, painting, made_as}
 use Rattle.gfx_planner.proofs.Carried.{carried-wire}
 use Rattle.gfx_planner.proofs.Effects.{all_steps-one}
 use Rattle.gfx_planner.proofs.Held.{holds-drawn, sides-stay}
 use Rattle.gfx_planner.proofs.Paints.{length-raw_bytes, length-pixels_in, length-colours_in, clear_by, painted_raw, painted_clear}
 use Rattle.gfx_planner.proofs.SurfaceSteps.{Fine, going, shows, found_there, ok_or_some, drawing_agrees}
 use Rattle.gfx_planner.proofs.Seen.{AgreeSeen as Agree, HoldsSeen as Holds}
+use Rattle.gfx_planner.proofs.Ways.{layer_in, shown_by, made_whole, painted_whole}
 
 -- a picture whose sides are held
 source_there : (pictures : List Source) (at : ℕ) (sides : Sides) → slice_get (sides_of_all pictures) at ≡ Some sides
@@ -102,7 +104,7 @@ le_of a b e = grind (arith, nat_tests)
 may_store : (named : Option Kind) (drawn : Sides) (glyph : Option ℕ) → IfSome glyph (λ index. index ≤ MOST_GLYPH) → is_glyph named drawn glyph ≡ true → MayStore (drawn.width * drawn.height) glyph
 may_store named drawn None fits small = tt
 may_store None drawn (Some index) fits small = absurd cc
-may_store (Some kind) drawn (Some index) fits small = (omega (arith, fits), omega (arith, le_of _ _ (second_holds (is_clear kind) _ small)))
+may_store (Some kind) drawn (Some index) fits small = (omega (arith, fits), omega (arith, le_of _ _ (second_holds (is_stream (way_of false kind)) _ small)))
 
 pub may_paint : (script : Script) (server : Server) (held after : Held) (id number : ℕ) (at : Point) (named : Option Kind) (glyph : Option ℕ) → Holds script held server → IsPoint at
     → IfSome glyph (λ index. index ≤ MOST_GLYPH) → picture_painted held id number at named glyph ≡ Ok after → MayPaint script server id number at glyph × (held ≡ after)
@@ -144,16 +146,16 @@ sides_overlaid picture rect pixels =
     let h = overlaid-height picture rect pixels in
     λ i. record { width = w i; height = h i }
 
-with_painting_there : (wanted : Wanted) (o : Option Source) (picture : Source) (kind : Kind) (id : ℕ) (at : Point) → o ≡ Some picture
-    → with_painting wanted o (Some kind) id at ≡ drawing wanted id (λ surface. overlaid surface (place_of picture at) (shown_by (layer_of kind) picture))
-unfolding with_painting
-with_painting_there wanted o picture kind id at there = rw there refl
+with_pixels_there : (wanted : Wanted) (o : Option Source) (picture : Source) (pixels : Source → List Pixel) (id : ℕ) (at : Point) → o ≡ Some picture
+    → with_pixels wanted o pixels id at ≡ drawing wanted id (λ surface. overlaid surface (place_of picture at) (pixels picture))
+unfolding with_pixels
+with_pixels_there wanted o picture pixels id at there = rw there refl
 
 -- the message of a picture
-pub painting_there : (clear : ClearState) (surface : Option Picture) (source : Option Source) (kind : Kind) (glyph : Option ℕ) (a : Picture) (b : Source) (id : ℕ) (at : Point) → surface ≡ Some a → source ≡ Some b
-    → painting clear surface source (Some kind) glyph id at ≡ Some (paint_message (layer_of kind) clear glyph a b id at)
+pub painting_there : (layer : Option Layer) (clear : ClearState) (surface : Option Picture) (source : Option Source) (glyph : Option ℕ) (a : Picture) (b : Source) (id : ℕ) (at : Point) → surface ≡ Some a → source ≡ Some b
+    → painting layer clear surface source glyph id at ≡ Some (paint_message layer clear glyph a b id at)
 unfolding painting
-painting_there clear surface source kind glyph a b id at there is = rw (there, is) refl
+painting_there layer clear surface source glyph a b id at there is = rw (there, is) refl
 
 -- by any layer, or uncompressed ------------------------------------------------------------------------
 
@@ -191,21 +193,21 @@ rings_by (Some layer) clear glyph picture are = rings_sent clear layer glyph pic
 
 -- paints -----------------------------------------------------------------------------------------------
 
-kind_fine : (script : Script) (server : Server) (kind : Kind) (held after : Held) (id number : ℕ) (at : Point) (named : Option Kind) (glyph : Option ℕ) → is_progressive kind ≡ false → Holds script held server → IsStep (Paint id number at named glyph)
+kind_fine : (script : Script) (server : Server) (kind : Kind) (held after : Held) (id number : ℕ) (at : Point) (named : Option Kind) (glyph : Option ℕ) → is_in_passes (way_of false kind) ≡ false → Holds script held server → IsStep (Paint id number at named glyph)
     → held_after held (Paint id number at named glyph) ≡ Ok after → Fine script server (as_kind (Some kind) (Paint id number at named glyph)) after
 unfolding made_as wanted_as held_after
 kind_fine script server kind held after id number at named glyph whole holds numbers checked =
     let may = may_paint script server held after id number at named glyph holds numbers.1 numbers.2 checked in
     let m = may.0 in
-    let layer = layer_of kind in
+    let way : Way = way_of false kind in
+    let layer = layer_in way in
     let rect = place_of m.picture at in
     let shown = with_picture server.state.shown id (overlaid m.surface rect (shown_by layer m.picture)) in
     let next = painted layer server.state id m.surface m.picture at glyph in
     record {
       into = record { pdus = paint_message layer server.state.clear glyph m.surface m.picture id at ∷ []; plan = server.plan };
-      is = ap (λ b. if b then painting_in_passes script server.passes (get server.state.shown.surfaces id) (slice_get script.pictures number) id at server.plan
-          else alone (painting server.state.clear (get server.state.shown.surfaces id) (slice_get script.pictures number) (Some kind) glyph id at) server.plan) whole
-          ∙ ap (λ o. alone o server.plan) (painting_there server.state.clear (get server.state.shown.surfaces id) (slice_get script.pictures number) kind glyph m.surface m.picture id at m.there m.drawn);
+      is = made_whole script server.state server.passes server.plan way (slice_get script.pictures number) glyph id at whole
+          ∙ ap (λ o. alone o server.plan) (painting_there layer server.state.clear (get server.state.shown.surfaces id) (slice_get script.pictures number) glyph m.surface m.picture id at m.there m.drawn);
       next = next;
       accepted = all_steps-one server.state _ _ (accepts layer script server id number at glyph m holds.rings);
       carried = (paint_carried layer script server id number at glyph m numbers.0, tt);
@@ -218,14 +220,14 @@ kind_fine script server kind held after id number at named glyph whole holds num
       };
       frame = refl;
       agrees = λ wanted agree.
-          let drawn = subst (Agree (shows server shown)) (sym (with_painting_there wanted (slice_get script.pictures number) m.picture kind id at m.drawn))
+          let drawn = subst (Agree (shows server shown)) (sym (with_pixels_there wanted (slice_get script.pictures number) m.picture (shown_by layer) id at m.drawn))
           (drawing_agrees server wanted id m.surface (λ z. overlaid z rect (shown_by layer m.picture)) m.there agree) in
-          subst (Agree (going server next server.plan)) (ap (λ b. if b then with_tiles script wanted (slice_get script.pictures number) id at else with_painting wanted (slice_get script.pictures number) (Some kind) id at) (sym whole))
+          subst (Agree (going server next server.plan)) (sym (painted_whole script wanted way (slice_get script.pictures number) id at whole))
           record { shown = drawn.shown; slots = drawn.slots; plan = drawn.plan };
       keeps = (sides-stay server.state.shown.surfaces id m.surface _ m.there (sides_overlaid m.surface rect (shown_by layer m.picture)), refl);
     }
 
-pub paint_fine : (script : Script) (server : Server) (kind : Option Kind) (held after : Held) (id number : ℕ) (at : Point) (named : Option Kind) (glyph : Option ℕ) → goes_in_passes kind ≡ false → Holds script held server → IsStep (Paint id number at named glyph)
+pub paint_fine : (script : Script) (server : Server) (kind : Option Kind) (held after : Held) (id number : ℕ) (at : Point) (named : Option Kind) (glyph : Option ℕ) → goes_in_passes (goes_by kind) ≡ false → Holds script held server → IsStep (Paint id number at named glyph)
     → GoesAs kind (Paint id number at named glyph) → held_after held (Paint id number at named glyph) ≡ Ok after → Fine script server (as_kind kind (Paint id number at named glyph)) after
 paint_fine script server None held after id number at named glyph whole holds numbers goes checked = absurd (let none : false ≡ true = goes.0 in cc)
 paint_fine script server (Some kind) held after id number at named glyph whole holds numbers goes checked = kind_fine script server kind held after id number at named glyph whole holds numbers checked

@@ -33,7 +33,8 @@ use Rattle.gfx_state.specs.Step as message
 use Rattle.gfx_state.specs.Codecs.{UNCOMPRESSED, CLEARCODEC, codec_of}
 use Rattle.gfx_state.specs.declared.codec.Codec.TheVariants.{Uncompressed, ClearCodec}
 use Rattle.gfx_state.specs.Step.{data_painted, bytes_painted, stream_painted}
-use Rattle.gfx_planner.specs.Want.{pixels_in, colours_in, shown_by}
+use Rattle.gfx_planner.specs.Want.{pixels_in, colours_in}
+use Rattle.gfx_planner.proofs.Ways.{shown_by}
 use Rattle.gfx_planner.specs.Wire.{raw_bytes, paint_message}
 
 -- data that are read back as a format keeps them

@@ -20,21 +20,23 @@ use Rattle.gfx_slot_plan.specs.Plan.{Plan}
 use Rattle.gfx_state.specs.State.{State}
 use Rattle.gfx_surface.specs.Picture.{Picture}
 use Rattle.gfx_surface_map.specs.Surfaces.{Surfaces}
+use Rattle.gfx_script.specs.Ways.{goes_by}
 use Rattle.gfx_planner.specs.Passes.{goes_in_passes, improved_passes, painted_passes, passes_as}
 use Rattle.gfx_planner.specs.Wire.{CanBeSent, Made, improving, made, made_as, painting_in_passes, passes_message}
 use Rattle.gfx_planner.proofs.Payloads.{sides}
+use Rattle.gfx_planner.proofs.Ways.{live_in_passes, made_in_passes}
 
 -- what is painted in passes is made as such --------------------------------------------------------------
 
-pub made_in_passes : (script : Script) (state : State) (passes : Passes) (plan : Plan) (kind named : Option Kind) (glyph : Option ℕ) (id number : ℕ) (at : Point) → goes_in_passes kind ≡ true
+pub step_in_passes : (script : Script) (state : State) (passes : Passes) (plan : Plan) (kind named : Option Kind) (glyph : Option ℕ) (id number : ℕ) (at : Point) → goes_in_passes (goes_by kind) ≡ true
     → made_as script state passes plan kind (Paint id number at named glyph) ≡ painting_in_passes script passes (get state.shown.surfaces id) (slice_get script.pictures number) id at plan
 unfolding made_as
-made_in_passes script state passes plan kind named glyph id number at goes = rw goes refl
+step_in_passes script state passes plan kind named glyph id number at goes = made_in_passes script state passes plan (goes_by kind) (slice_get script.pictures number) glyph id at goes
 
-pub live_in_passes : (script : Script) (sides_of : ℕ → Option Sides) (surfaces : Surfaces) (passes : Passes) (kind named : Option Kind) (glyph : Option ℕ) (id number : ℕ) (at : Point) → goes_in_passes kind ≡ true
+pub step_lives : (script : Script) (sides_of : ℕ → Option Sides) (surfaces : Surfaces) (passes : Passes) (kind named : Option Kind) (glyph : Option ℕ) (id number : ℕ) (at : Point) → goes_in_passes (goes_by kind) ≡ true
     → passes_as script sides_of surfaces passes kind (Paint id number at named glyph) ≡ painted_passes script passes id (slice_get script.pictures number) at
 unfolding passes_as
-live_in_passes script sides_of surfaces passes kind named glyph id number at goes = rw goes refl
+step_lives script sides_of surfaces passes kind named glyph id number at goes = live_in_passes script passes (goes_by kind) id (slice_get script.pictures number) at _ goes
 
 -- what has to be there is there -----------------------------------------------------------------------
 

@@ -26,16 +26,28 @@ use Rattle.gfx_state.specs.State.{State}
 use Rattle.gfx_surface.specs.Picture.{Picture}
 use Rattle.gfx_surface_map.specs.Surfaces.{Surfaces}
 use Rattle.gfx_planner.specs.Agree.{IsAllowed}
-use Rattle.gfx_planner.specs.Passes.{IsPlaced, MayGoInPasses, is_in_passes}
+use Rattle.gfx_script.specs.Ways.{goes_by}
+use Rattle.gfx_script.specs.declared.way.Way.{Way}
+use Rattle.gfx_script.specs.declared.way.Way.TheVariants.{Uncompressed, ByLayer, InPasses}
+use Rattle.gfx_planner.specs.Passes.{IsPlaced, MayGoInPasses, goes_in_passes, sends_tiles}
 use Rattle.gfx_planner.specs.Tiles.{HoldsTiles}
-use Rattle.gfx_planner.specs.Wire.{Server, made_as}
+use Rattle.gfx_planner.specs.Wire.{Server, made_as, paint_made}
 use Rattle.gfx_planner.proofs.PaintSteps.{may_paint}
 use Rattle.gfx_planner.proofs.Seen.{seen}
 
--- the messages of a step that isn't painted in passes don't depend on what is live
-pub made_apart : (script : Script) (state : State) (a b : Passes) (plan : Plan) (kind : Option Kind) (step : Step) → is_in_passes kind step ≡ false → made_as script state a plan kind step ≡ made_as script state b plan kind step
+-- what a picture is made into that doesn't go in passes doesn't depend on what is live
+paint_apart : (script : Script) (state : State) (a b : Passes) (plan : Plan) (way : Option Way) (source : Option Source) (glyph : Option ℕ) (id : ℕ) (at : Point) → goes_in_passes way ≡ false
+    → paint_made script state a plan way source glyph id at ≡ paint_made script state b plan way source glyph id at
+unfolding paint_made
+paint_apart script state a b plan None source glyph id at apart = refl
+paint_apart script state a b plan (Some Uncompressed) source glyph id at apart = refl
+paint_apart script state a b plan (Some (ByLayer layer)) source glyph id at apart = refl
+paint_apart script state a b plan (Some InPasses) source glyph id at apart = absurd cc
+
+-- nor the messages of a step that sends no tiles
+pub made_apart : (script : Script) (state : State) (a b : Passes) (plan : Plan) (kind : Option Kind) (step : Step) → sends_tiles kind step ≡ false → made_as script state a plan kind step ≡ made_as script state b plan kind step
 unfolding made_as
-made_apart script state a b plan kind (Paint id number at named glyph) apart = rw apart refl
+made_apart script state a b plan kind (Paint id number at named glyph) apart = paint_apart script state a b plan (goes_by kind) (slice_get script.pictures number) glyph id at apart
 made_apart script state a b plan kind (Improve id) apart = absurd cc
 made_apart script state a b plan kind step apart = refl
 

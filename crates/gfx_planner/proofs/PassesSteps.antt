@@ -1,5 +1,5 @@
 -- The messages of steps that are painted in passes are accepted by the server's own state, and show what is wanted.
-use Rattle.std.proofs.Common.{◌≡◌, ◌≤◌, ◌<◌, ◌^◌, ℕ, true, List, map, Option, Some, None, option_map, Ok, is_some, refl, sym, ap, ◌∙◌, subst, arith, if◌then◌else◌}
+use Rattle.std.proofs.Common.{◌≡◌, ◌≤◌, ◌<◌, ◌^◌, ℕ, true, List, map, Option, Some, None, option_map, Ok, is_some, refl, sym, ap, ◌∙◌, subst, arith}
 use Rattle.std.specs.FinMap.{contains_key, get}
 use Rattle.std.specs.List.{AllByRecursion, slice_get}
 use Rattle.std.specs.Prelude.{IfSome}
@@ -34,9 +34,11 @@ use Rattle.gfx_script.specs.declared.step.Step.{Step}
 use Rattle.gfx_script.specs.declared.step.Step.TheVariants.{Paint, Improve}
 use Rattle.gfx_state.specs.State.{State}
 use Rattle.gfx_planner.specs.Agree.{Agree, Holds, HoldsSurfaces, sides_of}
-use Rattle.gfx_planner.specs.Passes.{ended_by, goes_in_passes, improved_passes, is_in_passes, painted_passes, passes_as}
-use Rattle.gfx_planner.specs.Want.{Wanted, drawing, sides_kept, with_improved, with_painting, with_tiles, wanted_as}
-use Rattle.gfx_planner.specs.Wire.{Server, alone, improving, made, made_as, made_by, painting, painting_in_passes, passes_by, passes_message}
+use Rattle.gfx_script.specs.Ways.{goes_by}
+use Rattle.gfx_planner.specs.Passes.{goes_in_passes, improved_passes, sends_tiles, painted_passes, passes_as}
+use Rattle.gfx_planner.specs.Want.{Wanted, drawing, sides_kept, with_improved, with_tiles, wanted_as}
+use Rattle.gfx_planner.specs.Wire.{Server, improving, made, made_as, made_by, painting_in_passes, passes_by, passes_message}
+use Rattle.gfx_planner.proofs.Ways.{live_in_passes, made_in_passes, painted_in_passes}
 use Rattle.gfx_planner.proofs.Cells.{has_room}
 use Rattle.gfx_planner.proofs.Held.{holds-drawn}
 use Rattle.gfx_planner.proofs.PaintSteps.{MayPaint, may_paint}
@@ -134,7 +136,7 @@ passes_there : (script : Script) (passes : Passes) (source : Option Source) (b :
 unfolding painted_passes
 passes_there script passes source b id at drawn = rw drawn refl
 
-paint_sends : (script : Script) (server : Server) (kind : Option Kind) (held : Held) (id number : ℕ) (at : Point) (named : Option Kind) (glyph : Option ℕ) → goes_in_passes kind ≡ true → Holds script held server
+paint_sends : (script : Script) (server : Server) (kind : Option Kind) (held : Held) (id number : ℕ) (at : Point) (named : Option Kind) (glyph : Option ℕ) → goes_in_passes (goes_by kind) ≡ true → Holds script held server
     → id < 2 ^ 16 → MayPaint script server id number at glyph → Sends script server (as_kind kind (Paint id number at named glyph)) id
 unfolding made_as wanted_as passes_as
 paint_sends script server kind held id number at named glyph goes holds fits may =
@@ -152,14 +154,12 @@ paint_sends script server kind held id number at named glyph goes holds fits may
       taken = taken;
       short = paints_short script.setting may.surface.width may.surface.height holds.setting narrow.0 narrow.1 sends server.passes.next
           (recursion_from_All (WasSent script.setting may.surface.width may.surface.height) sends taken.sent);
-      is = ap (λ b. if b then painting_in_passes script server.passes (get server.state.shown.surfaces id) (slice_get script.pictures number) id at server.plan
-          else alone (painting server.state.clear (get server.state.shown.surfaces id) (slice_get script.pictures number) kind glyph id at) server.plan) goes
+      is = made_in_passes script server.state server.passes server.plan (goes_by kind) (slice_get script.pictures number) glyph id at goes
           ∙ painting_there script server.passes server (get server.state.shown.surfaces id) (slice_get script.pictures number) may.surface may.picture id at may.there may.drawn;
-      passes = ap (λ b. if b then painted_passes script server.passes id (slice_get script.pictures number) at
-          else ended_by server.passes (writes_by script (sides_kept server.plan server.state.cache.slots) (Paint id number at named glyph))) goes
+      passes = live_in_passes script server.passes (goes_by kind) id (slice_get script.pictures number) at (writes_by script (sides_kept server.plan server.state.cache.slots) (Paint id number at named glyph)) goes
           ∙ passes_there script server.passes (slice_get script.pictures number) may.picture id at may.drawn;
       draws = λ wanted agree.
-          ap (λ b. if b then with_tiles script wanted (slice_get script.pictures number) id at else with_painting wanted (slice_get script.pictures number) kind id at) goes
+          painted_in_passes script wanted (goes_by kind) (slice_get script.pictures number) id at goes
           ∙ with_tiles_there script wanted (slice_get script.pictures number) may.picture id at may.drawn
           ∙ ap (λ (p : Passes). drawing wanted id (after_showing id (painted_sends script p.live id may.picture (place_of may.picture at)))) (sym agree.passes);
     }
@@ -210,7 +210,7 @@ some_surface (Some surface) e = (surface, refl)
 
 -- ---- both
 
-in_passes : (script : Script) (server : Server) (kind : Option Kind) (held after : Held) (step : Step) → is_in_passes kind step ≡ true → Holds script held server → IsStep step
+in_passes : (script : Script) (server : Server) (kind : Option Kind) (held after : Held) (step : Step) → sends_tiles kind step ≡ true → Holds script held server → IsStep step
     → held_after held step ≡ Ok after → FineStep script server (as_kind kind step) after
 unfolding held_after surface_mapped
 in_passes script server kind held after (Paint id number at named glyph) passes holds numbers checked =
@@ -226,6 +226,6 @@ in_passes script server kind held after (Improve id) passes holds numbers checke
     (sends_fine script server (as_kind kind (Improve id)) held id holds (improve_sends script server kind held id found.0 holds numbers found.1))
 in_passes script server kind held after step passes holds numbers checked = absurd cc
 
-pub passes_fine : (script : Script) (server : Server) (kind : Option Kind) (held after : Held) (step : Step) → is_in_passes kind step ≡ true → Holds script held server → IsStep step → GoesAs kind step
+pub passes_fine : (script : Script) (server : Server) (kind : Option Kind) (held after : Held) (step : Step) → sends_tiles kind step ≡ true → Holds script held server → IsStep step → GoesAs kind step
     → held_after held step ≡ Ok after → FineStep script server (as_kind kind step) after
 passes_fine script server kind held after step passes holds numbers goes checked = in_passes script server kind held after step passes holds numbers checked

@@ -1,5 +1,5 @@
 -- A paint by ClearCodec shows its source.
-use Rattle.std.proofs.Common.{ℕ, ◌≡◌, ◌+◌, ◌-◌, ◌*◌, ◌<◌, ◌≤◌, true, cond, map, length, get_or, Option, Some, refl, sym, ap, ◌∙◌, subst, arith, mul-le-mul_left}
+use Rattle.std.proofs.Common.{ℕ, ◌≡◌, ◌+◌, ◌-◌, ◌*◌, ◌<◌, ◌≤◌, true, false, cond, map, length, get_or, Option, Some, refl, sym, ap, ◌∙◌, subst, arith, mul-le-mul_left}
 use Rattle.std.specs.Prelude.{if◌then◌else◌}
 use Rattle.std.specs.Cmp.{nat_cmp_total}
 use Rattle.std.specs.FinMap.{get, get-insert}
@@ -12,18 +12,18 @@ use Rattle.gfx_base.specs.declared.format.Format.{Format}
 use Rattle.gfx_base.specs.declared.format.Format.TheVariants.{Xrgb, Argb}
 use Rattle.gfx_base.specs.declared.geometry.Point.{Point}
 use Rattle.gfx_base.specs.declared.pixel.Rgb.{Rgb}
-use Rattle.gfx_clear.specs.declared.layer.Layer.{Layer}
 use Rattle.gfx_base.specs.Colour.{colour_of, opaque}
 use Rattle.gfx_surface.specs.Picture.{Picture, shade, pixel_at, overlaid, in_rect, no_pixel}
 use Rattle.gfx_surface.proofs.PictureLemmas.{pixel_at-drawn}
 use Rattle.gfx_script.specs.declared.picture.Picture.{Picture as Source}
-use Rattle.gfx_script.specs.declared.step.Kind.{Kind}
-use Rattle.gfx_script.specs.declared.step.Kind.TheVariants.{Raw, Residual, Bands, Palette, Plain, Progressive}
+use Rattle.gfx_script.specs.declared.way.Way.{Way}
+use Rattle.gfx_script.specs.declared.way.Way.TheVariants.{Uncompressed, ByLayer, InPasses}
+use Rattle.gfx_script.specs.Scripted.{Script}
+use Rattle.gfx_script.specs.Ways.{is_stream, way_of}
 use Rattle.gfx_script.specs.Patterns.{pixel_of}
 use Rattle.gfx_script.specs.Writes.{place_of}
-use Rattle.gfx_planner.specs.Layers.{layer_of}
 use Rattle.gfx_planner.specs.Sources.{ShowsSource, ClearPaintsShowTheirSource}
-use Rattle.gfx_planner.specs.Want.{Wanted, drawn_on, pixels_in, colours_in, shown_by, with_painting, wanted_as}
+use Rattle.gfx_planner.specs.Want.{Wanted, drawn_on, pixels_in, colours_in, opaque_in, with_painting, with_pixels, wanted_as}
 use Rattle.gfx_planner.proofs.Paints.{length-pixels_in, length-colours_in}
 
 -- the pixel of a picture at its place in the list
@@ -81,25 +81,29 @@ drawn_there wanted id o surface draw there =
     ∙ get-insert nat_cmp_total wanted.shown.surfaces id (draw surface) id
     ∙ ap (λ b. cond b (Some (draw surface)) (get wanted.shown.surfaces id)) (let same : eq_by_cmp nat_cmp id id ≡ true = grind (arith, nat_tests) in same)
 
-painted_there : (wanted : Wanted) (kind : Kind) (layer : Layer) (id : ℕ) (at : Point) (o : Option Source) (source : Source) (surface : Picture) → layer_of kind ≡ Some layer → o ≡ Some source
+pixels_there : (wanted : Wanted) (id : ℕ) (at : Point) (o : Option Source) (source : Source) (surface : Picture) → o ≡ Some source
     → get wanted.shown.surfaces id ≡ Some surface → lies_in surface.width surface.height (place_of source at) ≡ true
-    → ShowsSource (with_painting wanted o (Some kind) id at).shown.surfaces id source at
-unfolding with_painting
-painted_there wanted kind layer id at o source surface by_layer drawn there inside =
-    let draw : Picture → Picture = λ surface. overlaid surface (place_of source at) (shown_by (layer_of kind) source) in
-    subst (λ o. ShowsSource (with_painting wanted o (Some kind) id at).shown.surfaces id source at) (sym drawn) record {
+    → ShowsSource (with_pixels wanted o opaque_in id at).shown.surfaces id source at
+unfolding with_pixels
+pixels_there wanted id at o source surface drawn there inside =
+    let draw : Picture → Picture = λ surface. overlaid surface (place_of source at) (opaque_in source) in
+    subst (λ o. ShowsSource (with_pixels wanted o opaque_in id at).shown.surfaces id source at) (sym drawn) record {
       picture = draw surface;
       there = drawn_there wanted id (get wanted.shown.surfaces id) surface draw there;
-      each = λ x y column row. subst (λ l. pixel_at (overlaid surface (place_of source at) (shown_by l source)) (at.x + x) (at.y + y) ≡ opaque (colour_of (pixel_of source x y))) (sym by_layer)
-          (overlaid_there surface source at x y inside column row);
+      each = λ x y column row. overlaid_there surface source at x y inside column row;
     }
+
+-- by any layer
+stream_there : (script : Script) (wanted : Wanted) (way : Way) (id : ℕ) (at : Point) (o : Option Source) (source : Source) (surface : Picture) → is_stream way ≡ true → o ≡ Some source
+    → get wanted.shown.surfaces id ≡ Some surface → lies_in surface.width surface.height (place_of source at) ≡ true
+    → ShowsSource (with_painting script wanted (Some way) o id at).shown.surfaces id source at
+unfolding with_painting
+stream_there script wanted Uncompressed id at o source surface stream drawn there inside = absurd cc
+stream_there script wanted (ByLayer layer) id at o source surface stream drawn there inside = pixels_there wanted id at o source surface drawn there inside
+stream_there script wanted InPasses id at o source surface stream drawn there inside = absurd cc
 
 -- the promise
 pub shows_sources : ClearPaintsShowTheirSource
 unfolding wanted_as
-shows_sources script wanted Raw named id number at glyph source surface clear drawn there inside = absurd cc
-shows_sources script wanted Progressive named id number at glyph source surface clear drawn there inside = absurd cc
-shows_sources script wanted Residual named id number at glyph source surface clear drawn there inside = painted_there wanted Residual _ id at (slice_get script.pictures number) source surface refl drawn there inside
-shows_sources script wanted Bands named id number at glyph source surface clear drawn there inside = painted_there wanted Bands _ id at (slice_get script.pictures number) source surface refl drawn there inside
-shows_sources script wanted Palette named id number at glyph source surface clear drawn there inside = painted_there wanted Palette _ id at (slice_get script.pictures number) source surface refl drawn there inside
-shows_sources script wanted Plain named id number at glyph source surface clear drawn there inside = painted_there wanted Plain _ id at (slice_get script.pictures number) source surface refl drawn there inside
+shows_sources script wanted kind named id number at glyph source surface clear drawn there inside =
+    stream_there script wanted (way_of false kind) id at (slice_get script.pictures number) source surface clear drawn there inside

@@ -12,7 +12,8 @@ use Rattle.gfx_pdu.specs.declared.pdu.Pdu.{Pdu}
 use Rattle.gfx_pdu.specs.declared.pdu.Pdu.TheVariants.{WireToSurface1}
 use Rattle.gfx_script.specs.declared.picture.Picture.{Picture as Source}
 use Rattle.gfx_script.specs.declared.step.Kind.{Kind}
-use Rattle.gfx_script.specs.declared.step.Kind.TheVariants.{Raw, Residual, Bands, Palette, Plain, Progressive}
+use Rattle.gfx_script.specs.declared.way.Way.{Way}
+use Rattle.gfx_script.specs.declared.way.Way.TheVariants.{Uncompressed, ByLayer, InPasses}
 use Rattle.gfx_script.specs.declared.step.Step.TheVariants.{Paint}
 use Rattle.gfx_live.specs.Live.{Passes}
 use Rattle.gfx_script.specs.Scripted.{Script}
@@ -23,10 +24,11 @@ use Rattle.gfx_slot_plan.specs.Plan.{Plan}
 use Rattle.gfx_state.specs.Sending.{IsCarried}
 use Rattle.gfx_state.specs.Codecs.{UNCOMPRESSED}
 use Rattle.gfx_surface.specs.Picture.{Picture}
-use Rattle.gfx_planner.specs.ClearPaints.{clear_paint_of}
-use Rattle.gfx_planner.specs.Passes.{goes_in_passes, is_in_passes}
+use Rattle.gfx_planner.specs.ClearPaints.{clear_paint_by, clear_paint_of}
+use Rattle.gfx_script.specs.Ways.{goes_by}
+use Rattle.gfx_planner.specs.Passes.{goes_in_passes, sends_tiles}
 use Rattle.gfx_planner.specs.Want.{pixels_in}
-use Rattle.gfx_planner.specs.Wire.{CanBeSent, alone, made, made_as, painting, keeping, showing_slot, emptying, raw_bytes}
+use Rattle.gfx_planner.specs.Wire.{CanBeSent, alone, made, made_as, paint_made, painting, keeping, showing_slot, emptying, raw_bytes}
 use Rattle.gfx_planner.proofs.Payloads.{sides}
 use Rattle.gfx_planner.proofs.PaintSteps.{painting_there}
 
@@ -53,101 +55,81 @@ none_there : {X : Type 0} (o : Option X) → o ≡ None → IsSome o → ⊥
 none_there None none some = absurd cc
 none_there (Some x) none some = absurd cc
 
-pub no_surface : (clear : ClearState) (surface : Option Picture) (source : Option Source) (kind : Option Kind) (glyph : Option ℕ) (id : ℕ) (at : Point) → surface ≡ None
-    → IsSome (painting clear surface source kind glyph id at) → ⊥
+pub no_surface : (clear : ClearState) (surface : Option Picture) (source : Option Source) (glyph : Option ℕ) (id : ℕ) (at : Point) → surface ≡ None
+    → IsSome (painting None clear surface source glyph id at) → ⊥
 unfolding painting
-no_surface clear surface source kind glyph id at none some = none_there (painting clear surface source kind glyph id at) (ap (λ s. painting clear s source kind glyph id at) none) some
+no_surface clear surface source glyph id at none some = none_there (painting None clear surface source glyph id at) (ap (λ s. painting None clear s source glyph id at) none) some
 
-painting_no_picture : (clear : ClearState) (surface : Option Picture) (kind : Option Kind) (glyph : Option ℕ) (id : ℕ) (at : Point) → painting clear surface None kind glyph id at ≡ None
+painting_no_picture : (clear : ClearState) (surface : Option Picture) (glyph : Option ℕ) (id : ℕ) (at : Point) → painting None clear surface None glyph id at ≡ None
 unfolding painting
-painting_no_picture clear None kind glyph id at = refl
-painting_no_picture clear (Some surface) kind glyph id at = refl
+painting_no_picture clear None glyph id at = refl
+painting_no_picture clear (Some surface) glyph id at = refl
 
-pub no_picture : (clear : ClearState) (surface : Option Picture) (source : Option Source) (kind : Option Kind) (glyph : Option ℕ) (id : ℕ) (at : Point) → source ≡ None
-    → IsSome (painting clear surface source kind glyph id at) → ⊥
-no_picture clear surface source kind glyph id at none some =
-    none_there (painting clear surface source kind glyph id at) (ap (λ s. painting clear surface s kind glyph id at) none ∙ painting_no_picture clear surface kind glyph id at) some
-
-painting_no_kind : (clear : ClearState) (surface : Option Picture) (source : Option Source) (glyph : Option ℕ) (id : ℕ) (at : Point) → painting clear surface source None glyph id at ≡ None
-unfolding painting
-painting_no_kind clear None source glyph id at = refl
-painting_no_kind clear (Some surface) None glyph id at = refl
-painting_no_kind clear (Some surface) (Some source) glyph id at = refl
+pub no_picture : (clear : ClearState) (surface : Option Picture) (source : Option Source) (glyph : Option ℕ) (id : ℕ) (at : Point) → source ≡ None
+    → IsSome (painting None clear surface source glyph id at) → ⊥
+no_picture clear surface source glyph id at none some =
+    none_there (painting None clear surface source glyph id at) (ap (λ s. painting None clear surface s glyph id at) none ∙ painting_no_picture clear surface glyph id at) some
 
 pub is_painted : (o : Option Pdu) (next : Plan) → CanBeSent (alone o next) → IsSome o × IfSome o IsCarried
 is_painted None next possible = absurd possible
 is_painted (Some pdu) next possible = (refl, possible.0)
 
--- what is painted and goes neither by ClearCodec nor in passes goes as raw
-pub goes_raw : (clear : ClearState) (surface : Option Picture) (source : Option Source) (kind named : Option Kind) (glyph : Option ℕ) (id number : ℕ) (at : Point) → IsSome (painting clear surface source kind glyph id at)
-    → clear_paint_of (Paint id number at named glyph) kind ≡ None → goes_in_passes kind ≡ false → kind ≡ Some Raw
-goes_raw clear surface source None named glyph id number at some none apart = absurd (none_there _ (painting_no_kind clear surface source glyph id at) some)
-goes_raw clear surface source (Some Raw) named glyph id number at some none apart = refl
-goes_raw clear surface source (Some Residual) named glyph id number at some none apart = absurd cc
-goes_raw clear surface source (Some Bands) named glyph id number at some none apart = absurd cc
-goes_raw clear surface source (Some Palette) named glyph id number at some none apart = absurd cc
-goes_raw clear surface source (Some Plain) named glyph id number at some none apart = absurd cc
-goes_raw clear surface source (Some Progressive) named glyph id number at some none apart = absurd cc
-
--- no glyph stands in the message of what goes as raw
+-- no glyph stands in the message of what goes uncompressed
 pub raw_alike : (clear : ClearState) (surface : Option Picture) (source : Option Source) (glyph : Option ℕ) (id : ℕ) (at : Point)
-    → painting clear surface source (Some Raw) glyph id at ≡ painting clear surface source (Some Raw) None id at
+    → painting None clear surface source glyph id at ≡ painting None clear surface source None id at
 unfolding painting
 raw_alike clear None source glyph id at = refl
 raw_alike clear (Some surface) None glyph id at = refl
 raw_alike clear (Some surface) (Some source) glyph id at = refl
 
--- what goes by no layer of ClearCodec, nor in passes, and can be sent, goes as raw, and its message is that of no glyph
-pub record GoesRaw (clear : ClearState) (surface : Option Picture) (source : Option Source) (kind : Option Kind) (glyph : Option ℕ) (id : ℕ) (at : Point) : Type 0 where
-  pub raw : kind ≡ Some Raw
-  pub same : painting clear surface source kind glyph id at ≡ painting clear surface source (Some Raw) None id at
-  pub there : IsSome (painting clear surface source (Some Raw) None id at)
-  pub fits : IfSome (painting clear surface source (Some Raw) None id at) IsCarried
+-- what goes by no layer of ClearCodec, nor in passes, and can be sent, goes uncompressed, and its message is that of no glyph
+pub record GoesRaw (script : Script) (state : State) (passes : Passes) (plan : Plan) (kind : Option Kind) (source : Option Source) (glyph : Option ℕ) (id : ℕ) (at : Point) : Type 0 where
+  pub made : paint_made script state passes plan (goes_by kind) source glyph id at ≡ alone (painting None state.clear (get state.shown.surfaces id) source None id at) plan
+  pub there : IsSome (painting None state.clear (get state.shown.surfaces id) source None id at)
+  pub fits : IfSome (painting None state.clear (get state.shown.surfaces id) source None id at) IsCarried
 
-pub raw_painted : (clear : ClearState) (surface : Option Picture) (source : Option Source) (kind named : Option Kind) (glyph : Option ℕ) (id number : ℕ) (at : Point) (plan : Plan)
-    → CanBeSent (alone (painting clear surface source kind glyph id at) plan) → clear_paint_of (Paint id number at named glyph) kind ≡ None → goes_in_passes kind ≡ false
-    → GoesRaw clear surface source kind glyph id at
-raw_painted clear surface source kind named glyph id number at plan possible none apart =
-    let is = is_painted (painting clear surface source kind glyph id at) plan possible in
-    let raw = goes_raw clear surface source kind named glyph id number at is.0 none apart in
-    let same = ap (λ k. painting clear surface source k glyph id at) raw ∙ raw_alike clear surface source glyph id at in
-    record { raw = raw; same = same; there = subst IsSome same is.0; fits = subst (λ o. IfSome o IsCarried) same is.1 }
-
--- a paint that doesn't go in passes is made into one message
-pub painted_apart : (script : Script) (state : State) (passes : Passes) (plan : Plan) (kind named : Option Kind) (glyph : Option ℕ) (id number : ℕ) (at : Point) → goes_in_passes kind ≡ false
-    → made_as script state passes plan kind (Paint id number at named glyph) ≡ alone (painting state.clear (get state.shown.surfaces id) (slice_get script.pictures number) kind glyph id at) plan
-unfolding made_as
-painted_apart script state passes plan kind named glyph id number at apart = rw apart refl
+-- in which way it goes, then
+raw_way : (script : Script) (state : State) (passes : Passes) (plan : Plan) (way : Option Way) (source : Option Source) (glyph : Option ℕ) (id number : ℕ) (at : Point)
+    → CanBeSent (paint_made script state passes plan way source glyph id at) → clear_paint_by way id number at glyph ≡ None → goes_in_passes way ≡ false
+    → paint_made script state passes plan way source glyph id at ≡ alone (painting None state.clear (get state.shown.surfaces id) source None id at) plan
+unfolding paint_made
+raw_way script state passes plan None source glyph id number at possible none apart = absurd possible
+raw_way script state passes plan (Some Uncompressed) source glyph id number at possible none apart =
+    ap (λ o. alone o plan) (raw_alike state.clear (get state.shown.surfaces id) source glyph id at)
+raw_way script state passes plan (Some (ByLayer layer)) source glyph id number at possible none apart = absurd cc
+raw_way script state passes plan (Some InPasses) source glyph id number at possible none apart = absurd cc
 
 -- so is a step that is one
 pub raw_made : (script : Script) (state : State) (passes : Passes) (plan : Plan) (kind named : Option Kind) (glyph : Option ℕ) (id number : ℕ) (at : Point) (step : Step) → step ≡ Paint id number at named glyph
-    → CanBeSent (made_as script state passes plan kind step) → clear_paint_of step kind ≡ None → is_in_passes kind step ≡ false
-    → GoesRaw state.clear (get state.shown.surfaces id) (slice_get script.pictures number) kind glyph id at
+    → CanBeSent (made_as script state passes plan kind step) → clear_paint_of step kind ≡ None → sends_tiles kind step ≡ false
+    → GoesRaw script state passes plan kind (slice_get script.pictures number) glyph id at
+unfolding made_as
 raw_made script state passes plan kind named glyph id number at step is possible none apart =
-    let whole : goes_in_passes kind ≡ false = rw is at apart in
-    raw_painted state.clear (get state.shown.surfaces id) (slice_get script.pictures number) kind named glyph id number at plan
-    (subst CanBeSent (ap (made_as script state passes plan kind) is ∙ painted_apart script state passes plan kind named glyph id number at whole) possible) (rw is at none) whole
+    let possible_there : CanBeSent (paint_made script state passes plan (goes_by kind) (slice_get script.pictures number) glyph id at) = rw is at possible in
+    let made = raw_way script state passes plan (goes_by kind) (slice_get script.pictures number) glyph id number at possible_there (rw is at none) (rw is at apart) in
+    let some = is_painted _ plan (subst CanBeSent made possible_there) in
+    record { made = made; there = some.0; fits = some.1 }
 
 pub raw_made_is : {V E : Type 0} (result : Result V E) (items : V → List Pdu) (script : Script) (state : State) (passes : Passes) (plan : Plan) (kind named : Option Kind) (glyph : Option ℕ) (id number : ℕ) (at : Point) (step : Step) (pdu : Pdu)
-    → step ≡ Paint id number at named glyph → CanBeSent (made_as script state passes plan kind step) → clear_paint_of step kind ≡ None → is_in_passes kind step ≡ false
-    → painting state.clear (get state.shown.surfaces id) (slice_get script.pictures number) (Some Raw) None id at ≡ Some pdu → IfOk result (λ v. items v ≡ pdu ∷ [])
+    → step ≡ Paint id number at named glyph → CanBeSent (made_as script state passes plan kind step) → clear_paint_of step kind ≡ None → sends_tiles kind step ≡ false
+    → painting None state.clear (get state.shown.surfaces id) (slice_get script.pictures number) None id at ≡ Some pdu → IfOk result (λ v. items v ≡ pdu ∷ [])
     → IfOk result (λ v. made_as script state passes plan kind step ≡ made (items v) plan)
+unfolding made_as
 raw_made_is (Err e) items script state passes plan kind named glyph id number at step pdu is possible none apart paints alone_so = tt
 raw_made_is (Ok v) items script state passes plan kind named glyph id number at step pdu is possible none apart paints alone_so =
     let goes = raw_made script state passes plan kind named glyph id number at step is possible none apart in
-    ap (made_as script state passes plan kind) is ∙ painted_apart script state passes plan kind named glyph id number at (rw is at apart)
-    ∙ ap (λ o. alone o plan) (goes.same ∙ paints) ∙ ap (λ z. made z plan) (sym alone_so)
+    ap (made_as script state passes plan kind) is ∙ goes.made ∙ ap (λ o. alone o plan) paints ∙ ap (λ z. made z plan) (sym alone_so)
 
 -- the message, from its parts
 pub painting_is : (clear : ClearState) (surface : Option Picture) (source : Option Source) (a : Picture) (width height codec byte id : ℕ) (at : Point) (payload : List ℕ)
     → surface ≡ Some a → option_map sides source ≡ Some (width, height) → codec ≡ UNCOMPRESSED → byte ≡ byte_of a.format → IfSome source (λ one. payload ≡ raw_bytes (pixels_in one))
-    → painting clear surface source (Some Raw) None id at ≡ Some (WireToSurface1 id codec byte (record { left = at.x; top = at.y; right = at.x + width; bottom = at.y + height }) payload)
+    → painting None clear surface source None id at ≡ Some (WireToSurface1 id codec byte (record { left = at.x; top = at.y; right = at.x + width; bottom = at.y + height }) payload)
 painting_is clear surface None a width height codec byte id at payload there sized raw format spelled = absurd (let no : None ≡ Some (width, height) = sized in cc)
 painting_is clear surface (Some b) a width height codec byte id at payload there sized raw format spelled =
     let both : sides b ≡ (width, height) = cc in
     let wide : b.width - 0 ≡ width = omega (arith, ap (λ p. p.0) both) in
     let high : b.height - 0 ≡ height = omega (arith, ap (λ p. p.1) both) in
-    painting_there clear surface (Some b) Raw None a b id at there refl
+    painting_there None clear surface (Some b) None a b id at there refl
     ∙ (λ i. Some (WireToSurface1 id (sym raw i) (sym format i) (record { left = at.x; top = at.y; right = at.x + wide i; bottom = at.y + high i }) (sym spelled i)))
 
 carried_there : (o : Option Pdu) (pdu : Pdu) → o ≡ Some pdu → IfSome o IsCarried → IsCarried pdu
@@ -155,13 +137,13 @@ carried_there o pdu is fits = subst (λ o. IfSome o IsCarried) is fits
 
 -- its rectangle fits its fields
 pub painting_fits : (clear : ClearState) (surface : Option Picture) (source : Option Source) (a : Picture) (width height id : ℕ) (at : Point)
-    → surface ≡ Some a → option_map sides source ≡ Some (width, height) → IfSome (painting clear surface source (Some Raw) None id at) IsCarried → (at.x + width < 2 ^ 16) × (at.y + height < 2 ^ 16)
+    → surface ≡ Some a → option_map sides source ≡ Some (width, height) → IfSome (painting None clear surface source None id at) IsCarried → (at.x + width < 2 ^ 16) × (at.y + height < 2 ^ 16)
 painting_fits clear surface None a width height id at there sized fits = absurd (let no : None ≡ Some (width, height) = sized in cc)
 painting_fits clear surface (Some b) a width height id at there sized fits =
     let both : sides b ≡ (width, height) = cc in
     let wide : b.width ≡ width = ap (λ p. p.0) both in
     let high : b.height ≡ height = ap (λ p. p.1) both in
-    let carried = carried_there _ _ (painting_there clear surface (Some b) Raw None a b id at there refl) fits in
+    let carried = carried_there _ _ (painting_there None clear surface (Some b) None a b id at there refl) fits in
     let right : at.x + (b.width - 0) < 2 ^ 16 = carried.fits.numbers.2.right in
     let bottom : at.y + (b.height - 0) < 2 ^ 16 = carried.fits.numbers.2.bottom in
     (omega (arith, right, wide), omega (arith, bottom, high))

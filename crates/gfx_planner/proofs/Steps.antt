@@ -14,7 +14,7 @@ use Rattle.gfx_planner.specs.Agree.{Holds, IsAllowed}
 use Rattle.gfx_planner.specs.Planned.{MaySend}
 use Rattle.gfx_planner.specs.Wire.{Server, Made, made_by, CanBeSent, pdus_of, messages, after_made, after_put, passes_by}
 use Rattle.gfx_planner.proofs.Effects.{accepted_ok, after_messages-is}
-use Rattle.gfx_planner.specs.Passes.{is_in_passes}
+use Rattle.gfx_planner.specs.Passes.{sends_tiles}
 use Rattle.gfx_planner.proofs.PassesSteps.{passes_fine}
 use Rattle.gfx_planner.proofs.Seen.{HoldsSeen, seen}
 use Rattle.gfx_planner.proofs.Whole.{FineStep, gone, whole}
@@ -23,7 +23,7 @@ use Rattle.gfx_planner.proofs.PaintSteps.{paint_fine}
 use Rattle.gfx_planner.proofs.BitmapSteps.{forget_fine, keep_fine, show_fine}
 
 -- a step that isn't painted in passes
-apart_fine : (script : Script) (server : Server) (kind : Option Kind) (held after : Held) (step : Step) → is_in_passes kind step ≡ false → HoldsSeen script held server → IsStep step → GoesAs kind step → held_after held step ≡ Ok after
+apart_fine : (script : Script) (server : Server) (kind : Option Kind) (held after : Held) (step : Step) → sends_tiles kind step ≡ false → HoldsSeen script held server → IsStep step → GoesAs kind step → held_after held step ≡ Ok after
     → Fine script server (as_kind kind step) after
 apart_fine script server kind held after (Surface id width height format) apart holds numbers goes checked = surface_fine script server kind held after id width height format holds numbers checked
 apart_fine script server kind held after (Delete id) apart holds numbers goes checked = delete_fine script server kind held after id holds numbers checked
@@ -40,9 +40,9 @@ apart_fine script server kind held after Frame apart holds numbers goes checked 
 
 pub step_fine : (script : Script) (server : Server) (kind : Option Kind) (held after : Held) (step : Step) → Holds script held server → IsStep step → GoesAs kind step → held_after held step ≡ Ok after
     → FineStep script server (as_kind kind step) after
-step_fine script server kind held after step holds numbers goes checked = by (is_in_passes kind step) refl
+step_fine script server kind held after step holds numbers goes checked = by (sends_tiles kind step) refl
   where
-    by : (b : Bool) → is_in_passes kind step ≡ b → FineStep script server (as_kind kind step) after
+    by : (b : Bool) → sends_tiles kind step ≡ b → FineStep script server (as_kind kind step) after
     by true passes = passes_fine script server kind held after step passes holds numbers goes checked
     by false apart = whole script server kind held after step apart holds (apart_fine script server kind held after step apart (seen script held server holds) numbers goes checked)
 

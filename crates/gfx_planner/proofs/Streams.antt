@@ -1,12 +1,15 @@
 -- The stream of an accepted script: step by step it is accepted, and shows what is wanted.
 use Rattle.std.proofs.Common.{◌≡◌, ◌+◌, ◌%◌, ◌≤◌, ◌<◌, ◌^◌, cond, List, [], ◌∷◌, ◌++◌, length, fold, map, Some, None, is_some, Ok, inl, inr, refl, sym, ap, ◌∙◌, subst, arith, append_assoc, length-append}
 use Rattle.std.proofs.lemmas.List.{map-append, length-map}
+use Rattle.std.specs.FinMap.{get}
 use Rattle.std.specs.List.{AllByRecursion}
 use Rattle.gfx_base.specs.Results.{and_then}
 use Rattle.gfx_base.proofs.ResultLemmas.{and_then_at, and_then_ok}
 use Rattle.gfx_clear_store.specs.Rings.{AreRings}
 use Rattle.gfx_clear.proofs.Keeping.{rings_fresh}
 use Rattle.gfx_pdu.specs.declared.pdu.Pdu.{Pdu}
+use Rattle.gfx_live.specs.Live.{Passes}
+use Rattle.gfx_prog_decode.specs.Records.{Records}
 use Rattle.gfx_script.specs.Checks.{Held, held_first, sides_of_all, held_after, held_through}
 use Rattle.gfx_script.specs.Kinds.{KindedStep, HasKind, Fits}
 use Rattle.gfx_script.specs.Script.{IsStep, IsAccepted}
@@ -19,8 +22,8 @@ use Rattle.gfx_state.proofs.Sent.{all_steps-append, sent-append}
 use Rattle.gfx_state.proofs.Wider.{sent_wider, started_fresh, Wider_same}
 use Rattle.gfx_planner.specs.Agree.{Agree, HoldsSurfaces, HoldsBitmaps, Holds, IsInFrame, KeepsFrame, IsAllowed}
 use Rattle.gfx_planner.specs.Stream.{opening, opened, closing, closed, sends, served, stream, serves, end_after}
-use Rattle.gfx_planner.specs.Tiles.{HoldsTiles}
-use Rattle.gfx_planner.proofs.TilesFollow.{tiles-at-start}
+use Rattle.gfx_planner.specs.Tiles.{HoldsLive, HoldsTiles}
+use Rattle.gfx_planner.proofs.TilesFollow.{has-records, tiles-at-start}
 use Rattle.gfx_planner.specs.Want.{Wanted, nothing_wanted, wanted_after, want}
 use Rattle.gfx_planner.specs.Shows.{ScriptsAreShown}
 use Rattle.gfx_planner.specs.Wire.{Server, at_start, messages, frame_start, frame_end, after_put, after_open, after_close}
@@ -330,7 +333,9 @@ shown script front rest good fits =
     let a = along script front rest good fits in
     let s = a.streams in
     let start = at_start script.small in
-    let ran = sent_wider start.state (end_after script front).state fresh 0 (stream script start front) s.carried s.accepted (started_fresh script.small) in (
+    let ran = sent_wider start.state (end_after script front).state fresh 0 (stream script start front) s.carried s.accepted (started_fresh script.small) in
+    let tiles : HoldsLive (want script front).passes.live (end_after script front).state.records =
+    subst (λ (p : Passes). HoldsLive p.live (end_after script front).state.records) s.stands.agrees.passes (has-records script.setting _ _ _ s.stands.holds.tiles) in (
       record {
         applied = count_after 0 (stream script start front);
         client = ran.0;
@@ -338,6 +343,8 @@ shown script front rest good fits =
         same = Wider_same _ ran.0 ran.2;
         shown = sym ran.2.shown ∙ s.stands.agrees.shown;
         agrees = s.stands.agrees;
+        tiles = tiles;
+        client_tiles = λ key send found. ap (λ (records : Records). get records key) (sym ran.2.records) ∙ tiles key send found;
       },
       ap sent (stream-append script start front rest) ∙ sent-append (stream script start front) (stream script (end_after script front) rest),
     )

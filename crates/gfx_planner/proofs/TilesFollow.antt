@@ -1,5 +1,5 @@
 -- Live tiles and records go on agreeing where a step that isn't painted in passes ends the tiles that it touches.
-use Rattle.std.proofs.Common.{◌≡◌, ◌≢◌, ◌⊎◌, inl, inr, ℕ, ◌==◌, ◌&&◌, Bool, true, false, not, cond, if◌then◌else◌, Option, Some, None, option_map, is_some, refl, sym, ap, ◌∙◌, subst, arith, eq-eqb, ne_eqb}
+use Rattle.std.proofs.Common.{◌≡◌, ◌≢◌, ◌⊎◌, inl, inr, ℕ, ◌==◌, ◌&&◌, Bool, true, false, not, cond, Option, Some, None, option_map, is_some, refl, sym, ap, ◌∙◌, subst, arith, eq-eqb, ne_eqb}
 use Rattle.std.specs.Cmp.{nat_cmp_total}
 use Rattle.std.specs.FinMap.{FinMap, contains_key, empty, get, get-empty, get-insert, get-remove, get-retain_keys, insert, remove, retain_keys}
 use Rattle.std.specs.List.{list_any, slice_get}
@@ -26,11 +26,14 @@ use Rattle.gfx_state.specs.State.{State}
 use Rattle.gfx_surface.specs.Picture.{Picture, blank}
 use Rattle.gfx_surface_map.specs.Surfaces.{Surfaces}
 use Rattle.gfx_tile_state.specs.declared.state.TileState.{TileState}
+use Rattle.gfx_tile_make.specs.Levels.{tile_at}
 use Rattle.gfx_planner.specs.Agree.{sides_of}
-use Rattle.gfx_planner.specs.Passes.{ended_by, is_in_passes, painted_passes, passes_as}
-use Rattle.gfx_planner.specs.Tiles.{HoldsTiles, IsCellOf}
+use Rattle.gfx_planner.specs.Passes.{ended_by, sends_tiles, passes_as}
+use Rattle.gfx_planner.specs.Tiles.{HoldsLive, HoldsTiles, IsCellOf}
 use Rattle.gfx_planner.specs.Want.{sides_kept}
 use Rattle.gfx_planner.specs.Wire.{Server, passes_by}
+use Rattle.gfx_script.specs.Ways.{goes_by}
+use Rattle.gfx_planner.proofs.Ways.{live_whole}
 use Rattle.gfx_planner.proofs.Seen.{KeepsTiles}
 use Rattle.gfx_planner.proofs.SurfaceSteps.{none_of, some_of}
 
@@ -53,14 +56,14 @@ number-ended passes None = refl
 number-ended passes (Some written) = refl
 
 -- the number of the next message stays
-pub number-stays : (script : Script) (server : Server) (kind : Option Kind) (step : Step) → is_in_passes kind step ≡ false
+pub number-stays : (script : Script) (server : Server) (kind : Option Kind) (step : Step) → sends_tiles kind step ≡ false
     → (passes_by script server (as_kind kind step)).next ≡ server.passes.next
 unfolding passes_as
 number-stays script server kind (Delete id) apart = refl
 number-stays script server kind (Improve id) apart = absurd cc
 number-stays script server kind (Paint id picture at named glyph) apart =
     let written = writes_by script (sides_kept server.plan server.state.cache.slots) (Paint id picture at named glyph) in
-    ap (λ b. (if b then painted_passes script server.passes id (slice_get script.pictures picture) at else ended_by server.passes written).next) apart
+    ap (λ (p : Passes). p.next) (live_whole script server.passes (goes_by kind) id (slice_get script.pictures picture) at written apart)
     ∙ number-ended server.passes written
 number-stays script server kind step apart = number-ended server.passes (writes_by script (sides_kept server.plan server.state.cache.slots) step)
 
@@ -192,7 +195,7 @@ gone-follow setting live records surfaces id tiles = record {
 
 -- ---- steps
 
-pub tiles-follow : (script : Script) (server : Server) (kind : Option Kind) (step : Step) (next : State) → is_in_passes kind step ≡ false
+pub tiles-follow : (script : Script) (server : Server) (kind : Option Kind) (step : Step) (next : State) → sends_tiles kind step ≡ false
     → HoldsTiles script.setting server.passes.live server.state.records server.state.shown.surfaces → KeepsTiles step server.state next
     → HoldsTiles script.setting (passes_by script server (as_kind kind step)).live next.records next.shown.surfaces
 unfolding passes_as
@@ -208,7 +211,7 @@ tiles-follow script server kind (Surface id width height format) next apart tile
     (ends-by server.passes written) keeps.0 keeps.2 tiles)
 tiles-follow script server kind (Paint id picture at named glyph) next apart tiles keeps =
     let written = writes_by script (sides_kept server.plan server.state.cache.slots) (Paint id picture at named glyph) in
-    subst (λ b. HoldsTiles script.setting (if b then painted_passes script server.passes id (slice_get script.pictures picture) at else ended_by server.passes written).live next.records next.shown.surfaces) (sym apart)
+    subst (λ (p : Passes). HoldsTiles script.setting p.live next.records next.shown.surfaces) (sym (live_whole script server.passes (goes_by kind) id (slice_get script.pictures picture) at written apart))
     (sides-follow script.setting server.passes.live (ended_by server.passes written).live server.state.records next.records server.state.shown.surfaces next.shown.surfaces
     (ends-by server.passes written) keeps.0 keeps.1 tiles)
 tiles-follow script server kind step next apart tiles keeps =
@@ -223,3 +226,11 @@ tiles-at-start setting = record {
   others = λ key none. get-empty key_cmp key;
   cells = λ key has. let none : contains_key (empty {X = TileState} {R = key_cmp}) key ≡ false = ap is_some (get-empty key_cmp key) in absurd cc;
 }
+
+-- live tiles that agree with records have them
+pub has-records : (setting : Setting) (live : Live) (records : Records) (surfaces : Surfaces) → HoldsTiles setting live records surfaces → HoldsLive live records
+has-records setting live records surfaces tiles key send found = by (get surfaces key.surface) refl
+  where
+    by : (o : Option Picture) → get surfaces key.surface ≡ o → get records key ≡ Some (tile_at send.tile send.level)
+    by None none = let gone : get live key ≡ None = tiles.others key none in absurd cc
+    by (Some picture) there = ((tiles.each key.surface picture there).each key send refl found).1.1

@@ -10,7 +10,7 @@ use Rattle.gfx_slot_plan.specs.Plan.{Plan}
 use Rattle.gfx_state.specs.State.{State}
 use Rattle.gfx_state.specs.Sending.{all_steps, IsCarried}
 use Rattle.gfx_planner.specs.Agree.{Agree, Holds}
-use Rattle.gfx_planner.specs.Passes.{is_in_passes, passes_as}
+use Rattle.gfx_planner.specs.Passes.{sends_tiles, passes_as}
 use Rattle.gfx_planner.specs.Want.{Wanted, passes_wanted, sides_kept, wanted_after}
 use Rattle.gfx_planner.specs.Wire.{Server, Made, made_by, passes_by}
 use Rattle.gfx_planner.proofs.Seen.{agree-seen}
@@ -41,7 +41,7 @@ passes-agree script server wanted one agree =
     ∙ ap (λ p. passes_as script (sides_kept wanted.plan wanted.slots) wanted.shown.surfaces p one.kind one.step) agree.passes
 
 -- a step that isn't painted in passes
-pub whole : (script : Script) (server : Server) (kind : Option Kind) (held after : Held) (step : Step) → is_in_passes kind step ≡ false → Holds script held server
+pub whole : (script : Script) (server : Server) (kind : Option Kind) (held after : Held) (step : Step) → sends_tiles kind step ≡ false → Holds script held server
     → Fine script server (as_kind kind step) after → FineStep script server (as_kind kind step) after
 whole script server kind held after step apart holds fine =
     let one : KindedStep = as_kind kind step in

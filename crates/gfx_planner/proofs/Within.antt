@@ -14,7 +14,7 @@ use Rattle.gfx_base.specs.Results.{and_then}
 use Rattle.gfx_base.proofs.ResultLemmas.{and_then_at}
 use Rattle.gfx_bitmap_cache.specs.Slots.{Entry}
 use Rattle.gfx_script.specs.Checks.{Held}
-use Rattle.gfx_script.specs.Kinds.{is_progressive}
+use Rattle.gfx_script.specs.Kinds.{is_plain_write}
 use Rattle.gfx_script.specs.Scripted.{Script}
 use Rattle.gfx_script.specs.Stock.{Stock, bitmap_sides}
 use Rattle.gfx_script.specs.Writes.{Area, area, at_each, paints_plainly, place_of, writes, writes_by, writes_plainly}
@@ -31,12 +31,13 @@ use Rattle.gfx_surface_map.specs.Shown.{copied_to, stamped}
 use Rattle.gfx_surface_map.specs.Surfaces.{painted}
 use Rattle.gfx_planner.specs.Agree.{Agree, Holds}
 use Rattle.gfx_planner.specs.Slots.{sides_in}
-use Rattle.gfx_planner.specs.Layers.{layer_of}
-use Rattle.gfx_planner.specs.Passes.{goes_in_passes}
-use Rattle.gfx_planner.specs.Want.{Wanted, drawing, with_bitmap, with_copy, with_painting, with_stamps, with_tiles, bitmap_in, shown_by, sides_kept, wanted_as}
+use Rattle.gfx_script.specs.Ways.{goes_by}
+use Rattle.gfx_script.specs.declared.way.Way.{Way}
+use Rattle.gfx_script.specs.declared.way.Way.TheVariants.{Uncompressed, ByLayer, InPasses}
+use Rattle.gfx_planner.specs.Want.{Wanted, drawing, with_bitmap, with_copy, opaque_in, pixels_in, with_painting, with_pixels, with_stamps, bitmap_in, sides_kept, wanted_as}
 use Rattle.gfx_planner.specs.Wire.{Server}
 use Rattle.gfx_planner.specs.Within.{ChangesWithin, StepsWriteWithin}
-use Rattle.gfx_planner.proofs.Alike.{AlikeAt, AreBeside, alike_both, alike_same, never, outside_drawn, within_drawn, within_either, within_insert, within_remove, within_same}
+use Rattle.gfx_planner.proofs.Alike.{AlikeAt, AreBeside, alike_both, alike_same, never, outside_drawn, within_drawn, within_insert, within_remove, within_same}
 use Rattle.gfx_planner.proofs.TilesWithin.{within_improved, within_tiles}
 use Rattle.gfx_planner.proofs.Slots.{fits_cache-shows, sides_fit-shows}
 
@@ -95,14 +96,21 @@ within_copy wanted None to rect points = within_same _ _ _ refl
 within_copy wanted (Some source) to rect points =
     within_drawn wanted.shown to (at_each points rect) (copied_to source rect points) (λ x y picture beside. copied_to_alike x y source rect points picture beside)
 
-within_paint : (wanted : Wanted) (o : Option Source) (kind : Option Kind) (id : ℕ) (at : Point)
-    → ChangesWithin (option_map (λ source. area id (place_of source at ∷ [])) o) wanted.shown.surfaces (with_painting wanted o kind id at).shown.surfaces
+within_pixels : (wanted : Wanted) (o : Option Source) (pixels : Source → List Pixel) (id : ℕ) (at : Point)
+    → ChangesWithin (option_map (λ source. area id (place_of source at ∷ [])) o) wanted.shown.surfaces (with_pixels wanted o pixels id at).shown.surfaces
+unfolding with_pixels
+within_pixels wanted None pixels id at = within_same _ _ _ refl
+within_pixels wanted (Some source) pixels id at =
+    within_drawn wanted.shown id (place_of source at ∷ []) (λ surface. overlaid surface (place_of source at) (pixels source))
+    (λ x y picture beside. overlaid_alike x y picture (place_of source at) (pixels source) beside.0)
+
+within_paint : (script : Script) (wanted : Wanted) (way : Option Way) (o : Option Source) (id : ℕ) (at : Point)
+    → ChangesWithin (option_map (λ source. area id (place_of source at ∷ [])) o) wanted.shown.surfaces (with_painting script wanted way o id at).shown.surfaces
 unfolding with_painting
-within_paint wanted None kind id at = within_same _ _ _ refl
-within_paint wanted (Some source) None id at = within_same _ _ _ refl
-within_paint wanted (Some source) (Some one) id at =
-    within_drawn wanted.shown id (place_of source at ∷ []) (λ surface. overlaid surface (place_of source at) (shown_by (layer_of one) source))
-    (λ x y picture beside. overlaid_alike x y picture (place_of source at) (shown_by (layer_of one) source) beside.0)
+within_paint script wanted None o id at = within_same _ _ _ refl
+within_paint script wanted (Some Uncompressed) o id at = within_pixels wanted o pixels_in id at
+within_paint script wanted (Some (ByLayer layer)) o id at = within_pixels wanted o opaque_in id at
+within_paint script wanted (Some InPasses) o id at = within_tiles script wanted o id at
 
 within_keep : (wanted : Wanted) (o : Option Picture) (found : Result (Plan × Kept) Refusal) (key : ℕ) (rect : Rect)
     → ChangesWithin None wanted.shown.surfaces (with_bitmap wanted o found key rect).shown.surfaces
@@ -182,23 +190,21 @@ step_within script held server wanted kind (Show key to points) tied agree =
     within_stamps wanted _ (bitmap_in wanted.slots (slot_of key wanted.plan.places)) to points (shown_area held script server wanted key to points tied agree)
 step_within script held server wanted kind (Forget key) tied agree = within_same None _ _ refl
 step_within script held server wanted kind (Paint id picture at named glyph) tied agree =
-    within_either (goes_in_passes kind) (option_map (λ source. area id (place_of source at ∷ [])) (slice_get script.pictures picture)) wanted.shown.surfaces
-    (with_tiles script wanted (slice_get script.pictures picture) id at) (with_painting wanted (slice_get script.pictures picture) kind id at)
-    (within_tiles script wanted (slice_get script.pictures picture) id at) (within_paint wanted (slice_get script.pictures picture) kind id at)
+    within_paint script wanted (goes_by kind) (slice_get script.pictures picture) id at
 step_within script held server wanted kind (Improve id) tied agree = within_improved script held server wanted (get wanted.shown.surfaces id) id tied agree
 step_within script held server wanted kind Frame tied agree = within_same None _ _ refl
 
--- a paint that isn't one in passes
-plain_paint : (b : Bool) (source : Option Source) (id : ℕ) (at : Point) (plain : Area) → ◌≡◌ {A = Option Area} (if b then None else option_map (λ source. area id (place_of source at ∷ [])) source) (Some plain)
+-- a paint that is a plain write
+plain_paint : (b : Bool) (source : Option Source) (id : ℕ) (at : Point) (plain : Area) → ◌≡◌ {A = Option Area} (if b then option_map (λ source. area id (place_of source at ∷ [])) source else None) (Some plain)
     → option_map (λ source. area id (place_of source at ∷ [])) source ≡ Some plain
-plain_paint true source id at plain is = absurd cc
-plain_paint false source id at plain is = is
+plain_paint true source id at plain is = is
+plain_paint false source id at plain is = absurd cc
 
 plain_is_written : (script : Script) (stock : Stock) (kind : Option Kind) (step : Step) (plain : Area) → writes_plainly script kind step ≡ Some plain → writes script stock step ≡ Some plain
 unfolding writes_by writes_plainly paints_plainly
 plain_is_written script stock kind (Fill id colour rects) plain is = is
 plain_is_written script stock None (Paint id picture at named glyph) plain is = absurd cc
-plain_is_written script stock (Some one) (Paint id picture at named glyph) plain is = plain_paint (is_progressive one) (slice_get script.pictures picture) id at plain is
+plain_is_written script stock (Some one) (Paint id picture at named glyph) plain is = plain_paint (is_plain_write one) (slice_get script.pictures picture) id at plain is
 plain_is_written script stock kind (Surface id width height format) plain is = absurd cc
 plain_is_written script stock kind (Delete id) plain is = absurd cc
 plain_is_written script stock kind (Reset width height) plain is = absurd cc

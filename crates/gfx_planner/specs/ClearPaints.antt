@@ -1,10 +1,11 @@
 -- Paints that go by ClearCodec: what a step asks for, and when it can be sent. This project's own rule.
-use Rattle.std.specs.Prelude.{◌≡◌, ℕ, true, List, Option, Some, None, option_map}
+use Rattle.std.specs.Prelude.{◌≡◌, ℕ, true, List, Option, Some, None}
 use Rattle.std.specs.FinMap.{get}
 use Rattle.std.specs.List.{slice_get}
 use Rattle.gfx_base.specs.Format.{byte_of}
 use Rattle.gfx_base.specs.Geometry.{IsRect, lies_in, width_of, height_of}
 use Rattle.gfx_base.specs.declared.format.Format.{Format}
+use Rattle.gfx_base.specs.declared.geometry.Point.{Point}
 use Rattle.gfx_base.specs.declared.geometry.Rect.{Rect}
 use Rattle.gfx_base.specs.declared.pixel.Rgb.{Rgb}
 use Rattle.gfx_clear.specs.declared.layer.Layer.{Layer}
@@ -18,18 +19,26 @@ use Rattle.gfx_script.specs.declared.step.Kind.{Kind}
 use Rattle.gfx_script.specs.declared.step.Step.{Step}
 use Rattle.gfx_script.specs.declared.step.Step.TheVariants.{Paint}
 use Rattle.gfx_script.specs.Scripted.{Script}
+use Rattle.gfx_script.specs.Ways.{goes_by}
 use Rattle.gfx_script.specs.Writes.{place_of}
+use Rattle.gfx_script.specs.declared.way.Way.{Way}
+use Rattle.gfx_script.specs.declared.way.Way.TheVariants as ways
 use Rattle.gfx_state.specs.Sending.{IsCarried}
 use Rattle.gfx_state.specs.State.{State}
 use Rattle.gfx_surface.specs.Picture.{Picture}
-use Rattle.gfx_planner.specs.Layers.{layer_of}
 use Rattle.gfx_planner.specs.Want.{colours_in}
 use Rattle.gfx_planner.specs.Wire.{paint_message}
 
--- a paint by ClearCodec, where a step that goes as a kind is one
+-- a paint by ClearCodec, where a picture goes by a layer
+abbrev pub clear_paint_by : Option Way → ℕ → ℕ → Point → Option ℕ → Option ClearPaint
+clear_paint_by None id picture at glyph = None
+clear_paint_by (Some ways.Uncompressed) id picture at glyph = None
+clear_paint_by (Some (ways.ByLayer layer)) id picture at glyph = Some record { id = id; picture = picture; at = at; layer = layer; glyph = glyph }
+clear_paint_by (Some ways.InPasses) id picture at glyph = None
+
+-- the same of a step that goes as a kind
 abbrev pub clear_paint_of : Step → Option Kind → Option ClearPaint
-clear_paint_of (Paint id picture at named glyph) (Some kind) =
-    option_map (λ layer. record { id = id; picture = picture; at = at; layer = layer; glyph = glyph }) (layer_of kind)
+clear_paint_of (Paint id picture at named glyph) kind = clear_paint_by (goes_by kind) id picture at glyph
 clear_paint_of step kind = None
 
 -- the message that paints colours in a rectangle of a surface by a layer

@@ -1,7 +1,6 @@
 pub mod Slots
 pub mod Passes
 pub mod Tiles
-pub mod Layers
 pub mod Want
 pub mod Wire
 pub mod ClearPaints

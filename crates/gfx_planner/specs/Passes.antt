@@ -1,5 +1,5 @@
 -- What is painted in passes: which tiles a step sends, and which are live after it. This project's own rule.
-use Rattle.std.specs.Prelude.{◌≡◌, ℕ, Bool, true, false, IfSome, Option, Some, None, if◌then◌else◌}
+use Rattle.std.specs.Prelude.{◌≡◌, ℕ, Bool, true, false, IfSome, Option, Some, None}
 use Rattle.std.specs.FinMap.{get}
 use Rattle.std.specs.List.{AllByRecursion, slice_get}
 use Rattle.gfx_base.specs.declared.geometry.Point.{Point}
@@ -13,22 +13,24 @@ use Rattle.gfx_script.specs.declared.picture.Picture.{Picture as Source}
 use Rattle.gfx_script.specs.declared.step.Kind.{Kind}
 use Rattle.gfx_script.specs.declared.step.Step.{Step}
 use Rattle.gfx_script.specs.declared.step.Step.TheVariants.{Delete, Improve, Paint}
-use Rattle.gfx_script.specs.Kinds.{is_progressive}
 use Rattle.gfx_script.specs.Scripted.{Script}
+use Rattle.gfx_script.specs.Ways.{goes_by, is_in_passes}
 use Rattle.gfx_script.specs.Writes.{Area, place_of, writes_by}
+use Rattle.gfx_script.specs.declared.way.Way.{Way}
+use Rattle.gfx_script.specs.declared.way.Way.TheVariants as ways
 use Rattle.gfx_surface.specs.Picture.{Picture}
 use Rattle.gfx_surface_map.specs.Surfaces.{Surfaces}
 
--- a paint goes in passes
-abbrev pub goes_in_passes : Option Kind → Bool
+-- a picture that may go in some way goes as tiles
+abbrev pub goes_in_passes : Option Way → Bool
 goes_in_passes None = false
-goes_in_passes (Some kind) = is_progressive kind
+goes_in_passes (Some way) = is_in_passes way
 
--- a step is painted in passes
-abbrev pub is_in_passes : Option Kind → Step → Bool
-is_in_passes kind (Paint id picture at named glyph) = goes_in_passes kind
-is_in_passes kind (Improve id) = true
-is_in_passes kind step = false
+-- a step sends tiles: a paint in passes, or an improvement
+abbrev pub sends_tiles : Option Kind → Step → Bool
+sends_tiles kind (Paint id picture at named glyph) = goes_in_passes (goes_by kind)
+sends_tiles kind (Improve id) = true
+sends_tiles kind step = false
 
 -- a change in an area, if there is one, ends the tiles of the cells that it touches
 unfoldable pub ended_by : Passes → Option Area → Passes
@@ -45,14 +47,20 @@ unfoldable pub improved_passes : Passes → ℕ → Option Picture → Passes
 improved_passes passes id None = passes
 improved_passes passes id (Some surface) = passes_after id (improved_sends passes.live id surface.width surface.height) passes
 
--- after a step that goes as a kind, on bitmaps of these sides and on these surfaces: a step that isn't in passes ends
--- the tiles of the cells in which it writes
+-- a picture is painted: in passes its tiles are sent, and in each other way it is a change of its place
+unfoldable pub live_after : Script → Passes → Option Way → ℕ → Option Source → Point → Option Area → Passes
+live_after script passes None id source at written = ended_by passes written
+live_after script passes (Some ways.Uncompressed) id source at written = ended_by passes written
+live_after script passes (Some (ways.ByLayer layer)) id source at written = ended_by passes written
+live_after script passes (Some ways.InPasses) id source at written = painted_passes script passes id source at
+
+-- after a step that goes as a kind, on bitmaps of these sides and on these surfaces: a step that sends no tiles ends
+-- those of the cells in which it writes
 unfoldable pub passes_as : Script → (ℕ → Option Sides) → Surfaces → Passes → Option Kind → Step → Passes
 passes_as script sides_of surfaces passes kind (Delete id) = record passes { live = without_surface passes.live id }
 passes_as script sides_of surfaces passes kind (Improve id) = improved_passes passes id (get surfaces id)
 passes_as script sides_of surfaces passes kind (Paint id picture at named glyph) =
-    if goes_in_passes kind then painted_passes script passes id (slice_get script.pictures picture) at
-    else ended_by passes (writes_by script sides_of (Paint id picture at named glyph))
+    live_after script passes (goes_by kind) id (slice_get script.pictures picture) at (writes_by script sides_of (Paint id picture at named glyph))
 passes_as script sides_of surfaces passes kind step = ended_by passes (writes_by script sides_of step)
 
 -- what a step that is painted in passes needs beside what is there: an accepted setting, by which all live tiles are,

@@ -9,11 +9,12 @@ use Rattle.gfx_state.specs.Sending.{sent, standing}
 use Rattle.gfx_state.specs.State.{State}
 use Rattle.gfx_planner.specs.Agree.{Agree}
 use Rattle.gfx_planner.specs.Stream.{stream, end_after, stream_of}
+use Rattle.gfx_planner.specs.Tiles.{HoldsLive}
 use Rattle.gfx_planner.specs.Want.{want}
 
 -- the stream of these steps is refused nowhere by a client, whom the large limits bind; its run stands
 -- between two channel messages, at a state that is the same as that of the server's end and shows what the
--- steps want. The server's end shows and holds what they want
+-- steps want. The server's end shows and holds what they want, and both have the records of the tiles that may be raised
 pub record Shows (script : Script) (steps : List KindedStep) : Type 0 where
   pub applied : ℕ
   pub client : State
@@ -21,6 +22,8 @@ pub record Shows (script : Script) (steps : List KindedStep) : Type 0 where
   pub same : Same (end_after script steps).state client
   pub shown : client.shown ≡ (want script steps).shown
   pub agrees : Agree (end_after script steps) (want script steps)
+  pub tiles : HoldsLive (want script steps).passes.live (end_after script steps).state.records
+  pub client_tiles : HoldsLive (want script steps).passes.live client.records
 
 -- so for each front of an accepted script, whatever kinds its steps go as that they may go as, up to a frame
 -- as up to any other step; and the stream of the whole goes on from that of the front

@@ -1,5 +1,5 @@
 -- What a paint by ClearCodec shows is its source: this project's own promise.
-use Rattle.std.specs.Prelude.{◌≡◌, ℕ, ◌+◌, ◌<◌, true, Option, Some}
+use Rattle.std.specs.Prelude.{◌≡◌, ℕ, ◌+◌, ◌<◌, true, false, Option, Some}
 use Rattle.std.specs.FinMap.{get}
 use Rattle.std.specs.List.{slice_get}
 use Rattle.gfx_base.specs.Geometry.{lies_in}
@@ -10,9 +10,10 @@ use Rattle.gfx_surface_map.specs.Surfaces.{Surfaces}
 use Rattle.gfx_script.specs.declared.picture.Picture.{Picture as Source}
 use Rattle.gfx_script.specs.declared.step.Kind.{Kind}
 use Rattle.gfx_script.specs.declared.step.Step.TheVariants.{Paint}
-use Rattle.gfx_script.specs.Kinds.{as_kind, is_clear}
+use Rattle.gfx_script.specs.Kinds.{as_kind}
 use Rattle.gfx_script.specs.Patterns.{pixel_of}
 use Rattle.gfx_script.specs.Scripted.{Script}
+use Rattle.gfx_script.specs.Ways.{is_stream, way_of}
 use Rattle.gfx_script.specs.Writes.{place_of}
 use Rattle.gfx_planner.specs.Want.{Wanted, wanted_after}
 
@@ -27,5 +28,5 @@ pub record ShowsSource (surfaces : Surfaces) (id : ℕ) (source : Source) (at : 
 abbrev pub ClearPaintsShowTheirSource : Type 0
 ClearPaintsShowTheirSource =
     (script : Script) (wanted : Wanted) (kind : Kind) (named : Option Kind) (id number : ℕ) (at : Point) (glyph : Option ℕ) (source : Source) (surface : Picture)
-    → is_clear kind ≡ true → slice_get script.pictures number ≡ Some source → get wanted.shown.surfaces id ≡ Some surface → lies_in surface.width surface.height (place_of source at) ≡ true
+    → is_stream (way_of false kind) ≡ true → slice_get script.pictures number ≡ Some source → get wanted.shown.surfaces id ≡ Some surface → lies_in surface.width surface.height (place_of source at) ≡ true
     → ShowsSource (wanted_after script wanted (as_kind (Some kind) (Paint id number at named glyph))).shown.surfaces id source at

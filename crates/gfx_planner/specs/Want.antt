@@ -1,7 +1,7 @@
 -- What a script wants to be seen, in the script's own words: no message is named here. A step's effect
 -- is the formula of the surfaces ([MS-RDPEGFX] 3.3.5 leaves to the server what it draws; the steps are
 -- this project's own).
-use Rattle.std.specs.Prelude.{ℕ, Bool, nat_eq, List, [], fold, map, Option, Some, None, option_map, Result, Ok, if◌then◌else◌}
+use Rattle.std.specs.Prelude.{ℕ, Bool, nat_eq, List, [], fold, map, Option, Some, None, option_map, Result, Ok}
 use Rattle.std.specs.List.{slice_get}
 use Rattle.std.specs.Ordering.{nat_cmp}
 use Rattle.std.specs.FinMap.{FinMap, empty, get, insert, remove}
@@ -14,7 +14,6 @@ use Rattle.gfx_base.specs.declared.pixel.Rgb.{Rgb}
 use Rattle.gfx_base.specs.declared.refusal.Refusal.{Refusal}
 use Rattle.gfx_base.specs.Geometry.{width_of, height_of, sized}
 use Rattle.gfx_bitmap_cache.specs.Slots.{Entry, entry}
-use Rattle.gfx_clear.specs.declared.layer.Layer.{Layer}
 use Rattle.gfx_base.specs.Colour.{colour_of, opaque}
 use Rattle.gfx_slot_plan.specs.declared.kept.Kept.{Kept}
 use Rattle.gfx_slot_plan.specs.Plan.{Plan, plan, keeps, slot_of, touched, forgotten}
@@ -33,9 +32,11 @@ use Rattle.gfx_script.specs.declared.step.Step.TheVariants.{Surface, Delete, Res
 use Rattle.gfx_script.specs.Kinds.{KindedStep}
 use Rattle.gfx_script.specs.Patterns.{pixel_of}
 use Rattle.gfx_script.specs.Scripted.{Script}
+use Rattle.gfx_script.specs.Ways.{goes_by}
 use Rattle.gfx_script.specs.Writes.{place_of}
-use Rattle.gfx_planner.specs.Layers.{layer_of}
-use Rattle.gfx_planner.specs.Passes.{goes_in_passes, passes_as}
+use Rattle.gfx_script.specs.declared.way.Way.{Way}
+use Rattle.gfx_script.specs.declared.way.Way.TheVariants as ways
+use Rattle.gfx_planner.specs.Passes.{passes_as}
 use Rattle.gfx_planner.specs.Slots.{emptied, sides_in}
 
 pub record Wanted : Type 0 where
@@ -48,9 +49,13 @@ pub record Wanted : Type 0 where
   -- the tiles that may be raised, and the number of the next message of passes
   pub passes : Passes
 
--- before the first step, under the small limits on bitmaps or the large ones
+-- before the first step, with these bitmaps in the slots of their keys
+abbrev pub bitmaps_wanted : Plan → FinMap nat_cmp Entry → Wanted
+bitmaps_wanted kept slots = record { shown = nothing_shown; plan = kept; slots = slots; passes = at_start }
+
+-- before the first step, with no bitmap, under the small limits on bitmaps or the large ones
 abbrev pub nothing_wanted : Bool → Wanted
-nothing_wanted small = record { shown = nothing_shown; plan = plan [] small; slots = empty; passes = at_start }
+nothing_wanted small = bitmaps_wanted (plan [] small) empty
 
 -- one surface is drawn on, where it is there
 unfoldable pub drawn_on : Shown → ℕ → Option Picture → (Picture → Picture) → Shown
@@ -87,17 +92,14 @@ pixels_in picture = drawn picture.width picture.height (pixel_of picture)
 unfoldable pub colours_in : Source → List Rgb
 colours_in picture = map colour_of (pixels_in picture)
 
--- a picture as it shows: as it is, or opaque in its colours where it goes by a layer of ClearCodec, which has no
--- alpha
-abbrev pub shown_by : Option Layer → Source → List Pixel
-shown_by None picture = pixels_in picture
-shown_by (Some layer) picture = map opaque (colours_in picture)
+-- a picture as it shows that goes by a layer of ClearCodec, which has no alpha: opaque in its colours
+abbrev pub opaque_in : Source → List Pixel
+opaque_in picture = map opaque (colours_in picture)
 
--- a picture lies on a surface, its top left corner at a place, as a picture of its kind shows
-unfoldable pub with_painting : Wanted → Option Source → Option Kind → ℕ → Point → Wanted
-with_painting wanted (Some picture) (Some kind) id at =
-    drawing wanted id (λ surface. overlaid surface (place_of picture at) (shown_by (layer_of kind) picture))
-with_painting wanted picture kind id at = wanted
+-- a picture lies on a surface, its top left corner at a place, in the pixels that it shows
+unfoldable pub with_pixels : Wanted → Option Source → (Source → List Pixel) → ℕ → Point → Wanted
+with_pixels wanted None pixels id at = wanted
+with_pixels wanted (Some picture) pixels id at = drawing wanted id (λ surface. overlaid surface (place_of picture at) (pixels picture))
 
 -- a rectangle of a surface, as it stands, is kept as the bitmap of a key, in the slot that is chosen
 -- for it; other bitmaps go for it
@@ -130,6 +132,13 @@ with_tiles script wanted None id at = wanted
 with_tiles script wanted (Some picture) id at =
     drawing wanted id (after_showing id (painted_sends script wanted.passes.live id picture (place_of picture at)))
 
+-- a picture is painted, and shows as it does in the way in which it goes
+unfoldable pub with_painting : Script → Wanted → Option Way → Option Source → ℕ → Point → Wanted
+with_painting script wanted None source id at = wanted
+with_painting script wanted (Some ways.Uncompressed) source id at = with_pixels wanted source pixels_in id at
+with_painting script wanted (Some (ways.ByLayer layer)) source id at = with_pixels wanted source opaque_in id at
+with_painting script wanted (Some ways.InPasses) source id at = with_tiles script wanted source id at
+
 -- the tiles of a surface that can be raised show as they do at the next level
 unfoldable pub with_improved : Wanted → Option Picture → ℕ → Wanted
 with_improved wanted None id = wanted
@@ -154,8 +163,7 @@ wanted_as script wanted kind (Forget key) = record wanted {
   slots = without_slot wanted.slots (slot_of key wanted.plan.places);
 }
 wanted_as script wanted kind (Paint id picture at named glyph) =
-    if goes_in_passes kind then with_tiles script wanted (slice_get script.pictures picture) id at
-    else with_painting wanted (slice_get script.pictures picture) kind id at
+    with_painting script wanted (goes_by kind) (slice_get script.pictures picture) id at
 wanted_as script wanted kind (Improve id) = with_improved wanted (get wanted.shown.surfaces id) id
 wanted_as script wanted kind Frame = wanted
 
@@ -171,6 +179,10 @@ passes_wanted script wanted kind step = passes_as script (sides_kept wanted.plan
 abbrev pub wanted_after : Script → Wanted → KindedStep → Wanted
 wanted_after script wanted one = record (wanted_as script wanted one.kind one.step) { passes = passes_wanted script wanted one.kind one.step }
 
--- after these steps of a script
+-- after these steps of a script, where so much was wanted before them
+abbrev pub want_from : Script → Wanted → List KindedStep → Wanted
+want_from script start steps = fold (wanted_after script) start steps
+
+-- after these steps of a script that starts with nothing
 abbrev pub want : Script → List KindedStep → Wanted
-want script steps = fold (wanted_after script) (nothing_wanted script.small) steps
+want script steps = want_from script (nothing_wanted script.small) steps

@@ -1,6 +1,6 @@
 -- Which messages the server's end sends, and what it then keeps ([MS-RDPEGFX] 3.2.5; which message a
 -- step is made into is this project's own rule).
-use Rattle.std.specs.Prelude.{ℕ, ◌+◌, ◌-◌, Bool, List, [], ◌∷◌, ◌++◌, map, Option, Some, None, Result, Ok, Err, if◌then◌else◌}
+use Rattle.std.specs.Prelude.{ℕ, ◌+◌, ◌-◌, Bool, List, [], ◌∷◌, ◌++◌, map, Option, Some, None, Result, Ok, Err}
 use Rattle.std.specs.List.{slice_get, AllByRecursion}
 use Rattle.std.specs.FinMap.{get}
 use Rattle.gfx_base.specs.Format.{byte_of}
@@ -26,15 +26,19 @@ use Rattle.gfx_script.specs.declared.step.Step.{Step}
 use Rattle.gfx_script.specs.declared.step.Step.TheVariants.{Surface, Delete, Reset, Map, Fill, Copy, Keep, Show, Forget, Paint, Improve, Frame}
 use Rattle.gfx_script.specs.Kinds.{KindedStep}
 use Rattle.gfx_script.specs.Scripted.{Script}
+use Rattle.gfx_script.specs.Ways.{goes_by}
 use Rattle.gfx_script.specs.Writes.{place_of}
+use Rattle.gfx_script.specs.declared.way.Way.{Way}
+use Rattle.gfx_script.specs.declared.way.Way.TheVariants as ways
 use Rattle.gfx_slot_plan.specs.declared.kept.Kept.{Kept}
 use Rattle.gfx_slot_plan.specs.Plan.{Plan, plan, keeps, slot_of, touched, forgotten}
 use Rattle.gfx_state.specs.State.{State, started}
 use Rattle.gfx_state.specs.Sending.{all_steps, IsCarried}
 use Rattle.gfx_state.specs.Codecs.{PROGRESSIVE, id_of}
+use Rattle.gfx_state.specs.declared.codec.Codec.{Codec}
+use Rattle.gfx_state.specs.declared.codec.Codec.TheVariants.{Uncompressed, ClearCodec}
 use Rattle.gfx_surface.specs.Picture.{Picture}
-use Rattle.gfx_planner.specs.Layers.{layer_of, codec_by}
-use Rattle.gfx_planner.specs.Passes.{goes_in_passes, passes_as}
+use Rattle.gfx_planner.specs.Passes.{passes_as}
 use Rattle.gfx_planner.specs.Want.{pixels_in, colours_in, sides_kept}
 
 -- what the server's end keeps: the state that its messages so far give, which keys have which slots,
@@ -45,9 +49,13 @@ pub record Server : Type 0 where
   pub passes : Passes
   pub frames : ℕ
 
--- nothing was sent yet; the small limits on bitmaps bind, or the large ones
+-- nothing was sent yet, from a state with bitmaps in the slots of their keys
+abbrev pub server_from : State → Plan → Server
+server_from state kept = record { state = state; plan = kept; passes = no_passes; frames = 0 }
+
+-- the same with no bitmap; the small limits on bitmaps bind, or the large ones
 abbrev pub at_start : Bool → Server
-at_start small = record { state = started small; plan = plan [] small; passes = no_passes; frames = 0 }
+at_start small = server_from (started small) (plan [] small)
 
 -- the one monitor of an output of these sides, which is the primary one
 abbrev pub one_monitor : ℕ → ℕ → Monitor
@@ -71,21 +79,26 @@ abbrev pub alone : Option Pdu → Plan → Option Made
 alone None next = None
 alone (Some pdu) next = made (pdu ∷ []) next
 
--- the data of a picture: uncompressed, or a ClearCodec stream by a layer, which goes on from the streams before it,
--- with the index of a glyph if it has one
+-- the codec of a picture that goes whole: by a layer of ClearCodec, or by none
+abbrev pub codec_by : Option Layer → Codec
+codec_by None = Uncompressed
+codec_by (Some layer) = ClearCodec
+
+-- its data: uncompressed, or a ClearCodec stream, which goes on from the streams before it, with the index of a glyph
+-- if it has one
 abbrev pub data_by : Option Layer → ClearState → Option ℕ → Source → List ℕ
 data_by None clear glyph picture = raw_bytes (pixels_in picture)
 data_by (Some layer) clear glyph picture = (stream_sent clear layer glyph picture.width picture.height (colours_in picture)).bytes
 
--- the message that paints a picture on a surface by a layer, or uncompressed, in the surface's format
+-- the message that paints it on a surface, in the surface's format
 abbrev pub paint_message : Option Layer → ClearState → Option ℕ → Picture → Source → ℕ → Point → Pdu
 paint_message layer clear glyph surface picture id at =
     WireToSurface1 id (id_of (codec_by layer)) (byte_of surface.format) (place_of picture at) (data_by layer clear glyph picture)
 
--- the same, where there are a surface, a picture and a kind
-unfoldable pub painting : ClearState → Option Picture → Option Source → Option Kind → Option ℕ → ℕ → Point → Option Pdu
-painting clear (Some surface) (Some picture) (Some kind) glyph id at = Some (paint_message (layer_of kind) clear glyph surface picture id at)
-painting clear surface picture kind glyph id at = None
+-- the same, where there are a surface and a picture
+unfoldable pub painting : Option Layer → ClearState → Option Picture → Option Source → Option ℕ → ℕ → Point → Option Pdu
+painting layer clear (Some surface) (Some picture) glyph id at = Some (paint_message layer clear glyph surface picture id at)
+painting layer clear surface picture glyph id at = None
 
 -- the message that puts a slot's bitmap at points
 unfoldable pub showing_slot : Option ℕ → ℕ → List Point → Option Pdu
@@ -118,6 +131,16 @@ improving script passes None id next = None
 improving script passes (Some surface) id next =
     made (map (passes_message id surface.format) (improve_all script.setting (improved_sends passes.live id surface.width surface.height) passes.next)) next
 
+-- what a paint is made into by the way in which its picture goes
+unfoldable pub paint_made : Script → State → Passes → Plan → Option Way → Option Source → Option ℕ → ℕ → Point → Option Made
+paint_made script state passes old None source glyph id at = None
+paint_made script state passes old (Some ways.Uncompressed) source glyph id at =
+    alone (painting None state.clear (get state.shown.surfaces id) source glyph id at) old
+paint_made script state passes old (Some (ways.ByLayer layer)) source glyph id at =
+    alone (painting (Some layer) state.clear (get state.shown.surfaces id) source glyph id at) old
+paint_made script state passes old (Some ways.InPasses) source glyph id at =
+    painting_in_passes script passes (get state.shown.surfaces id) source id at old
+
 -- what a step is made into that goes as a kind, inside a frame, in this state, with these tiles and
 -- this choice of slots; none where it can't be put, which no step is that passes its checks
 unfoldable pub made_as : Script → State → Passes → Plan → Option Kind → Step → Option Made
@@ -131,8 +154,7 @@ made_as script state passes old kind (Keep id key rect) = keeping (keeps old key
 made_as script state passes old kind (Show key to points) = alone (showing_slot (slot_of key old.places) to points) (touched old key)
 made_as script state passes old kind (Forget key) = alone (emptying (slot_of key old.places)) (forgotten old key)
 made_as script state passes old kind (Paint id picture at named glyph) =
-    if goes_in_passes kind then painting_in_passes script passes (get state.shown.surfaces id) (slice_get script.pictures picture) id at old
-    else alone (painting state.clear (get state.shown.surfaces id) (slice_get script.pictures picture) kind glyph id at) old
+    paint_made script state passes old (goes_by kind) (slice_get script.pictures picture) glyph id at
 made_as script state passes old kind (Improve id) = improving script passes (get state.shown.surfaces id) id old
 made_as script state passes old kind Frame = made [] old
 

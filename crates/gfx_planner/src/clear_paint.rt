@@ -1,11 +1,10 @@
 //! Paints that go by ClearCodec.
-ghost use Rattle.std.specs.Prelude.{◌≡◌, Some};
+ghost use Rattle.std.specs.Prelude.{◌≡◌};
 ghost use Rattle.gfx_planner.specs.ClearPaints.{clear_paint_of};
-ghost use Rattle.gfx_planner.specs.Layers.{layer_of};
 
 use gfx_base::Point;
 use gfx_clear::Layer;
-use gfx_script::{Kind, Step};
+use gfx_script::{Kind, Step, Way};
 
 /// The picture of this number is painted on a surface by a layer of ClearCodec, with its top left corner at a
 /// place. A glyph is the index at which the client is to keep it.
@@ -35,7 +34,9 @@ pub fn clear_paint(step: &Step, kind: Option<Kind>) -> Option<ClearPaint>
     else {
         return None;
     };
-    let layer = layer_of(kind)?;
+    let Way::ByLayer(layer) = kind.way(false) else {
+        return None;
+    };
     Some(ClearPaint {
         id: *id,
         picture: *picture,
@@ -43,17 +44,4 @@ pub fn clear_paint(step: &Step, kind: Option<Kind>) -> Option<ClearPaint>
         layer,
         glyph: *glyph,
     })
-}
-
-/// The layer of a kind that goes by ClearCodec.
-fn layer_of(kind: Kind) -> Option<Layer>
-    ensures { result ≡ layer_of kind }
-{
-    match kind {
-        Kind::Raw | Kind::Progressive => None,
-        Kind::Residual => Some(Layer::Residual),
-        Kind::Bands => Some(Layer::Bands),
-        Kind::Palette => Some(Layer::Palette),
-        Kind::Plain => Some(Layer::Plain),
-    }
 }

@@ -10,8 +10,7 @@ ghost use Rattle.gfx_script.specs.Script.{IsStep};
 ghost use Rattle.gfx_state.specs.Sending.{IsCarried};
 ghost use Rattle.gfx_pdu.specs.declared.pdu.Pdu.TheVariants.{CreateSurface, SolidFill, SurfaceToSurface, ResetGraphics, MapSurfaceToOutput, EvictCacheEntry};
 ghost use Rattle.gfx_planner.specs.ClearPaints.{clear_paint_of};
-ghost use Rattle.gfx_script.specs.declared.step.Kind.TheVariants.{Raw};
-ghost use Rattle.gfx_planner.specs.Passes.{is_in_passes};
+ghost use Rattle.gfx_planner.specs.Passes.{sends_tiles};
 ghost use Rattle.gfx_planner.specs.Wire.{CanBeSent, made, made_as, one_monitor, painting, keeping, showing_slot, emptying};
 
 use crate::paint::raw_payload;
@@ -41,7 +40,7 @@ pub fn step_messages(
     requires numbers { IsStep step.now }
     requires possible { CanBeSent (made_as script.now state.now at_start plan.old kind step.now) }
     requires messages { clear_paint_of step.now kind ≡ None }
-    requires apart { is_in_passes kind step.now ≡ false }
+    requires apart { sends_tiles kind step.now ≡ false }
     ensures { IfOk result (λ pdus. made_as script.now state.now at_start plan.old kind step.now ≡ made pdus.items plan.new) }
 {
     match step {
@@ -70,9 +69,7 @@ pub fn step_messages(
             at,
             ..
         } => {
-            // What goes by ClearCodec or in passes isn't made into messages here.
-            let is_raw = kind == Some(Kind::Raw);
-            prove!(is_raw);
+            // What goes by ClearCodec or in passes isn't made into messages here: it goes uncompressed.
             alone(
                 alloc,
                 paint_picture(alloc, script, state, *id, *picture, *at)?,
@@ -254,9 +251,9 @@ fn paint_picture(
     picture: u32,
     at: Point,
 ) -> Result<Pdu, NoMemory>
-    requires there { IsSome (painting state.now.clear (get state.now.shown.surfaces id) (slice_get script.now.pictures picture) (Some Raw) None id at) }
-    requires fits { IfSome (painting state.now.clear (get state.now.shown.surfaces id) (slice_get script.now.pictures picture) (Some Raw) None id at) IsCarried }
-    ensures { IfOk result (λ pdu. painting state.now.clear (get state.now.shown.surfaces id) (slice_get script.now.pictures picture) (Some Raw) None id at ≡ Some pdu) }
+    requires there { IsSome (painting None state.now.clear (get state.now.shown.surfaces id) (slice_get script.now.pictures picture) None id at) }
+    requires fits { IfSome (painting None state.now.clear (get state.now.shown.surfaces id) (slice_get script.now.pictures picture) None id at) IsCarried }
+    ensures { IfOk result (λ pdu. painting None state.now.clear (get state.now.shown.surfaces id) (slice_get script.now.pictures picture) None id at ≡ Some pdu) }
 {
     let Some(surface) = state.surfaces().get(id) else {
         unreachable!()

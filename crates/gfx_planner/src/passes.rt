@@ -7,9 +7,10 @@ ghost use Rattle.gfx_base.specs.Geometry.{IsRect, sized};
 ghost use Rattle.gfx_live.specs.Inside.{AreBy};
 ghost use Rattle.gfx_quant.specs.Setting.{is_accepted};
 ghost use Rattle.gfx_script.specs.declared.step.Kind.{Kind};
+ghost use Rattle.gfx_script.specs.Ways.{goes_by};
 ghost use Rattle.gfx_script.specs.Writes.{area, at_each, place_of};
 ghost use Rattle.gfx_slot_plan.specs.Plan.{Plan};
-ghost use Rattle.gfx_planner.specs.Passes.{FitsAt, MayGoInPasses, ended_by, improved_passes, is_in_passes, painted_passes, passes_as};
+ghost use Rattle.gfx_planner.specs.Passes.{FitsAt, MayGoInPasses, ended_by, goes_in_passes, improved_passes, painted_passes, passes_as, sends_tiles};
 ghost use Rattle.gfx_planner.specs.Slots.{PlanFitsCache};
 ghost use Rattle.gfx_planner.specs.Want.{sides_kept};
 ghost use Rattle.gfx_planner.specs.Wire.{CanBeSent, improving, made, made_as, painting_in_passes, passes_message};
@@ -23,14 +24,24 @@ use gfx_script::{Kind, Script, Step};
 use gfx_slot_plan::SlotPlan;
 use std::alloc::Global;
 
-/// Whether a step that goes as a kind is painted in passes.
-pub fn is_in_passes(step: &Step, kind: Option<Kind>) -> bool
-    ensures { result ≡ is_in_passes kind step.now }
+/// Whether a step that goes as a kind sends tiles: a paint in passes, or an improvement.
+pub fn sends_tiles(step: &Step, kind: Option<Kind>) -> bool
+    ensures { result ≡ sends_tiles kind step.now }
 {
     match step {
-        Step::Paint { .. } => kind == Some(Kind::Progressive),
+        Step::Paint { .. } => goes_in_passes(kind),
         Step::Improve { .. } => true,
         _ => false,
+    }
+}
+
+/// Whether the picture of a paint that goes as a kind goes in passes.
+fn goes_in_passes(kind: Option<Kind>) -> bool
+    ensures { result ≡ goes_in_passes (goes_by kind) }
+{
+    match kind {
+        Some(kind) => kind.way(false).is_in_passes(),
+        None => false,
     }
 }
 
@@ -44,7 +55,7 @@ pub fn passes_messages(
     step: &Step,
     kind: Option<Kind>,
 ) -> Result<Vec<Pdu>, NoMemory>
-    requires in_passes { is_in_passes kind step.now ≡ true }
+    requires in_passes { sends_tiles kind step.now ≡ true }
     requires possible { CanBeSent (made_as script.now state.now passes.old plan.now kind step.now) }
     requires may { MayGoInPasses script.now passes.old step.now }
     ensures made { IfOk result (λ pdus. made_as script.now state.now passes.old plan.now kind step.now ≡ made pdus.items plan.now) }
@@ -142,7 +153,7 @@ pub fn end_touched(
 )
     requires plan { PlanFitsCache plan.now state.now.cache }
     requires fits { FitsAt script.now (sides_kept plan.now state.now.cache.slots) step.now }
-    ensures { (kind : Option Kind) → is_in_passes kind step.now ≡ false
+    ensures { (kind : Option Kind) → sends_tiles kind step.now ≡ false
         → passes.new ≡ passes_as script.now (sides_kept plan.now state.now.cache.slots) state.now.shown.surfaces passes.old kind step.now }
 {
     match step {

@@ -5,7 +5,7 @@ ghost use Rattle.std.specs.List.{slice_get};
 ghost use Rattle.gfx_live.specs.Live.{at_start};
 ghost use Rattle.gfx_script.specs.Script.{IsStep};
 ghost use Rattle.gfx_planner.specs.ClearPaints.{MayPaintClear, clear_paint_of};
-ghost use Rattle.gfx_planner.specs.Passes.{FitsAt, MayGoInPasses, is_in_passes, passes_as};
+ghost use Rattle.gfx_planner.specs.Passes.{FitsAt, MayGoInPasses, sends_tiles, passes_as};
 ghost use Rattle.gfx_planner.specs.Planned.{MaySend, SendsMade, SendsMessages};
 ghost use Rattle.gfx_planner.specs.Slots.{PlanFitsCache};
 ghost use Rattle.gfx_planner.specs.Want.{sides_kept};
@@ -14,7 +14,7 @@ ghost use Rattle.gfx_planner.specs.Wire.{CanBeSent, made_as, paint_message};
 use crate::clear_paint::{ClearPaint, clear_paint};
 use crate::messages::step_messages;
 use crate::paint::colours;
-use crate::passes::{end_touched, is_in_passes, passes_messages};
+use crate::passes::{end_touched, passes_messages, sends_tiles};
 use crate::sender::Sender;
 use gfx_base::{Bytes, NoMemory, Rect, moved_to};
 use gfx_live::Passes;
@@ -38,13 +38,13 @@ pub fn send_step(
     requires possible { CanBeSent (made_as script.now sender.old passes.old plan.old kind step.now) }
     requires accepted { IfSome (made_as script.now sender.old passes.old plan.old kind step.now) (λ into. MaySend sender.old into.pdus) }
     requires paint { IfSome (clear_paint_of step.now kind) (MayPaintClear script.now sender.old) }
-    requires passes { is_in_passes kind step.now ≡ true → MayGoInPasses script.now passes.old step.now }
+    requires passes { sends_tiles kind step.now ≡ true → MayGoInPasses script.now passes.old step.now }
     requires plan { PlanFitsCache plan.old sender.old.cache }
-    requires fits { is_in_passes kind step.now ≡ false → FitsAt script.now (sides_kept plan.old sender.old.cache.slots) step.now }
+    requires fits { sends_tiles kind step.now ≡ false → FitsAt script.now (sides_kept plan.old sender.old.cache.slots) step.now }
     ensures made { SendsMade result sender.old sender.new plan.new out.old out.new (made_as script.now sender.old passes.old plan.old kind step.now) }
     ensures passes { OnOk result (passes.new ≡ passes_as script.now (sides_kept plan.old sender.old.cache.slots) sender.old.shown.surfaces passes.old kind step.now) }
 {
-    if is_in_passes(step, kind) {
+    if sends_tiles(step, kind) {
         return send_in_passes(alloc, sender, plan, passes, script, step, kind, out);
     }
     end_touched(script, sender.state(), plan, passes, step);
@@ -62,7 +62,7 @@ fn send_in_passes(
     kind: Option<Kind>,
     out: &mut Bytes,
 ) -> Result<(), NoMemory>
-    requires in_passes { is_in_passes kind step.now ≡ true }
+    requires in_passes { sends_tiles kind step.now ≡ true }
     requires possible { CanBeSent (made_as script.now sender.old passes.old plan.now kind step.now) }
     requires accepted { IfSome (made_as script.now sender.old passes.old plan.now kind step.now) (λ into. MaySend sender.old into.pdus) }
     requires may { MayGoInPasses script.now passes.old step.now }
@@ -84,7 +84,7 @@ fn send_apart(
     out: &mut Bytes,
 ) -> Result<(), NoMemory>
     requires numbers { IsStep step.now }
-    requires apart { is_in_passes kind step.now ≡ false }
+    requires apart { sends_tiles kind step.now ≡ false }
     requires possible { CanBeSent (made_as script.now sender.old at_start plan.old kind step.now) }
     requires accepted { IfSome (made_as script.now sender.old at_start plan.old kind step.now) (λ into. MaySend sender.old into.pdus) }
     requires paint { IfSome (clear_paint_of step.now kind) (MayPaintClear script.now sender.old) }

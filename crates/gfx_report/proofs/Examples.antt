@@ -1,16 +1,13 @@
 -- What the definitions say of small pictures, of a decoder that holds little, and of one message.
-use Rattle.std.proofs.Common.{◌≡◌, ℕ, ◌*◌, ◌<◌, ◌≤◌, List, [], ◌∷◌, ◌++◌, Some, None, Ok, refl, ap, ◌∙◌}
+use Rattle.std.proofs.Common.{◌≡◌, ℕ, [], ◌∷◌, Some, None, refl}
 use Rattle.std.specs.Prelude.{codes}
-use Rattle.std.proofs.lemmas.Bool.{lt-ltb, le-ltb, eq-eqb}
 use Rattle.gfx_base.specs.declared.format.Format.TheVariants.{Xrgb, Argb}
 use Rattle.std.specs.Fmt.{digits}
 use Rattle.hex.specs.Hex.{encode_with}
 use Rattle.gfx_pdu.specs.declared.pdu.Pdu.TheVariants.{StartFrame}
 use Rattle.gfx_base.specs.declared.pixel.Rgb.{Rgb}
-use Rattle.gfx_glyph.specs.Glyphs.{Slot as GlyphSlot, glyph}
-use Rattle.gfx_glyph.specs.declared.glyph.Glyph.{Glyph}
-use Rattle.gfx_glyph.specs.declared.glyphs.TheConstants.{PLACES, MOST_AREA}
-use Rattle.gfx_report.specs.StateBytes.{two_bytes, sides_bytes, ring_bytes, glyphs_bytes}
+use Rattle.gfx_glyph.specs.Glyphs.{glyph}
+use Rattle.gfx_report.specs.StateBytes.{ring_bytes, glyphs_bytes}
 use Rattle.gfx_report.specs.Audit.{audit_line, key_digits, places_held, glyphs_held}
 use Rattle.gfx_report.specs.Texts.{surface_line, row_line, rows_text, surface_text, trial_text}
 

@@ -17,8 +17,8 @@ use std::alloc::Global;
 /// reset there are no rows. It takes memory for one row, before anything is written; after a fault the
 /// sink has gained a front of the text. The text is this project's own rule.
 pub fn dump_output<O: Sink>(
-    surfaces: &SurfaceMap,
     alloc: Global,
+    surfaces: &SurfaceMap,
     out: &mut O,
 ) -> Result<(), ReportFault>
     ensures { Reports result

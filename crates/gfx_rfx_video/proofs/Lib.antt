@@ -8,3 +8,15 @@ pub mod Frames
 pub mod BlockLoops
 pub mod BlockNumbers
 pub mod BlockFacts
+pub mod Decoded
+pub mod Pixels
+pub mod Drawn
+pub mod Undoing
+pub mod Shares
+pub mod Parts
+pub mod Turns
+pub mod Direct
+pub mod Lengthy
+pub mod Texts
+pub mod ReadBack
+pub mod Painted

@@ -9,7 +9,8 @@ use Rattle.gfx_rfx_video.specs.declared.block.VideoBlock.TheVariants as blocks
 use Rattle.gfx_rfx_video.specs.declared.frame.Frame.{Frame}
 use Rattle.gfx_rfx_video.specs.declared.set.SetBody.{SetBody}
 use Rattle.gfx_rfx_video.specs.declared.tile.CodedTile.{CodedTile}
-use Rattle.gfx_rfx_video.specs.Shapes.{area, video_quant, tile_head, set_head}
+use Rattle.gfx_prog_block.specs.Shapes.{area, tile_head}
+use Rattle.gfx_rfx_video.specs.Shapes.{set_head, video_quant}
 
 -- TS_RFX_BLOCKT (2.2.2.1.1), round every block: its type, and its length with these six bytes
 abbrev pub frame : Layout Frame

@@ -4,3 +4,10 @@ pub mod Shapes
 pub mod Kinds
 pub mod Layouts
 pub mod BlockReading
+pub mod Tiles
+pub mod Showing
+pub mod Video
+pub mod Undo
+pub mod Inside
+pub mod Message
+pub mod Painted

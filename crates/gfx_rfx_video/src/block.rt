@@ -2,9 +2,9 @@ ghost use Rattle.std.specs.Prelude.{◌≡◌, ◌++◌, ◌∷◌, ◌==◌, []
 ghost use Rattle.std.specs.List.{slice_get};
 ghost use Rattle.std.specs.Option.{option_copied};
 
-use crate::area::Areas;
 use crate::set::TileSet;
 use gfx_base::NoMemory;
+use gfx_prog_block::Areas;
 use std::alloc::Global;
 use std::marker::Model;
 

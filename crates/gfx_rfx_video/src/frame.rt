@@ -1,13 +1,15 @@
 //! What stands round every block and every tile: its type, and its length with these six bytes
 //! ([MS-RDPRFX] 2.2.2.1.1, TS_RFX_BLOCKT).
 
+ghost use Rattle.std.specs.Prelude.{◌≡◌, ◌+◌, ◌<◌, ◌^◌, ◌++◌, OnOk};
 ghost use Rattle.gfx_base.specs.Outcome.{Says};
 ghost use Rattle.gfx_layout.specs.Reading.{read};
+ghost use Rattle.gfx_layout.specs.Shape.{digits, u16 as two_bytes, u32 as four_bytes};
 ghost use Rattle.gfx_rfx_video.specs.Layouts.{frame};
 
-use crate::piece::Piece;
-use gfx_base::Refusal;
-use gfx_layout::{Fields, Stop};
+use gfx_base::{Bytes, NoMemory, Refusal};
+use gfx_layout::{Fields, Part, Stop};
+use gfx_prog_block::Piece;
 
 /// How many bytes stand before a body.
 const FRAME: usize = 6;
@@ -34,4 +36,14 @@ pub(crate) fn read_frame<'a>(fields: &mut Fields<'a>) -> Result<Frame<'a>, Stop>
         kind,
         body: Piece::new(body),
     })
+}
+
+/// Puts what stands before a body of so many bytes.
+#[tactic(auto, unfolding(gfx_layout::specs::Shape::text))]
+pub(crate) fn put_frame(out: &mut Bytes, kind: u16, body: usize) -> Result<(), NoMemory>
+    requires { 6 + body < 2 ^ 32 }
+    ensures { OnOk result (out.new ≡ out.old ++ (digits two_bytes kind ++ digits four_bytes (6 + body))) }
+{
+    kind.put(out)?;
+    ((FRAME + body) as u32).put(out)
 }

@@ -1,11 +1,11 @@
 ghost use Rattle.std.specs.Prelude.{refl};
 ghost use Rattle.gfx_rfx_video.specs.Shapes.{set_head};
 
-use crate::piece::Piece;
 use crate::quants::VideoQuants;
 use crate::tile::CodedTiles;
 use gfx_base::{Bytes, NoMemory};
 use gfx_layout::Part;
+use gfx_prog_block::Piece;
 
 /// Tiles, with what they are decoded by ([MS-RDPRFX] 2.2.2.3.4, TS_RFX_TILESET). Whether the
 /// properties name an entropy coder is judged where the tile set is applied.

@@ -6,11 +6,11 @@ ghost use Rattle.gfx_rfx_video.specs.Layouts.{region, tile_set};
 ghost use Rattle.gfx_rfx_video.specs.BlockReading.{set_of};
 
 use crate::block::VideoBlock;
-use crate::piece::Piece;
 use crate::set::{SetBody, SetHead, TileSet};
 use crate::tile_reading::read_tiles;
 use gfx_base::Cause;
 use gfx_layout::{Fields, Stop};
+use gfx_prog_block::Piece;
 use std::alloc::Global;
 
 /// Reads the body of TS_RFX_REGION: its rectangles, between three bytes and four that aren't looked at.

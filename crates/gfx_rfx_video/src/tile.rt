@@ -1,65 +1,16 @@
 //! What a tile set paints: tiles of 64 by 64 pixels ([MS-RDPRFX] 2.2.2.3.4.1).
 
-ghost use Rattle.std.specs.Prelude.{◌≡◌, ◌++◌, ◌∷◌, ◌==◌, [], length, refl, OnOk, OnErr};
+ghost use Rattle.std.specs.Prelude.{◌≡◌, ◌++◌, ◌∷◌, ◌==◌, [], length, OnOk, OnErr};
 ghost use Rattle.std.specs.List.{slice_get};
 ghost use Rattle.std.specs.Option.{option_copied};
-ghost use Rattle.gfx_rfx_video.specs.Shapes.{tile_head};
 
-use crate::piece::Piece;
-use gfx_base::{Bytes, NoMemory};
-use gfx_layout::Part;
+use gfx_base::NoMemory;
+use gfx_prog_block::{Piece, TileHead};
 use std::alloc::Global;
 use std::marker::Model;
 
-/// What stands first in every tile: which quants of the tile set its components take, counted from 0,
-/// and where it stands, in tiles of 64 pixels from the corner of the message's rectangle.
-#[derive(Clone, Copy, Debug, PartialEq, Eq)]
-pub struct TileHead {
-    pub quant_y: u8,
-    pub quant_cb: u8,
-    pub quant_cr: u8,
-    pub x_idx: u16,
-    pub y_idx: u16,
-}
-
-impl Part for TileHead {
-    ghost shape = { tile_head };
-
-    const SIZE: usize = 7;
-
-    ghost SIZE = { 7 };
-
-    ghost sized = { refl };
-
-    #[inline(always)]
-    #[tactic(auto, unfolding(gfx_layout::specs::Shape::part_in))]
-    fn read(bytes: &[u8]) -> TileHead {
-        TileHead {
-            quant_y: bytes[0],
-            quant_cb: bytes[1],
-            quant_cr: bytes[2],
-            x_idx: u16::read(&bytes[3..]),
-            y_idx: u16::read(&bytes[5..]),
-        }
-    }
-
-    #[tactic(auto, unfolding(gfx_layout::specs::Shape::text))]
-    fn put(self, out: &mut Bytes) -> Result<(), NoMemory> {
-        let [x_low, x_high] = self.x_idx.to_le_bytes();
-        let [y_low, y_high] = self.y_idx.to_le_bytes();
-        out.append(&[
-            self.quant_y,
-            self.quant_cb,
-            self.quant_cr,
-            x_low,
-            x_high,
-            y_low,
-            y_high,
-        ])
-    }
-}
-
-/// A tile with its codes, one for each component, by the entropy coder that the tile set names.
+/// A tile with its codes, one for each component, by the entropy coder that the tile set names. Its place is in tiles of
+/// 64 pixels from the corner of the message's rectangle.
 #[derive(Debug, Drop)]
 pub struct CodedTile<'a> {
     pub head: TileHead,

@@ -7,10 +7,10 @@ ghost use Rattle.gfx_rfx_video.specs.BlockReading.{tile_at, due_tile, tiles_of};
 
 use crate::frame::read_frame;
 use crate::kinds::TILE;
-use crate::piece::Piece;
 use crate::tile::{CodedTile, CodedTiles};
 use gfx_base::{Cause, Refusal};
 use gfx_layout::{Fields, Stop};
+use gfx_prog_block::Piece;
 use std::alloc::Global;
 
 /// Reads the body of TS_RFX_TILE.

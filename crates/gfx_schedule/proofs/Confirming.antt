@@ -18,7 +18,8 @@ use Rattle.gfx_caps.proofs.OfferLaws.{body_from, found}
 use Rattle.gfx_pdu.specs.declared.pdu.Pdu.TheVariants.{CapsConfirm}
 use Rattle.gfx_pdu.specs.Spelling.{size}
 use Rattle.gfx_pdu.proofs.Laws.{length-spelling}
-use Rattle.gfx_script.specs.Script.{IsAccepted}
+use Rattle.gfx_script.specs.Script.{IsAcceptedFrom}
+use Rattle.gfx_script.specs.Checks.{Held}
 use Rattle.gfx_script.specs.Scripted.{Script}
 use Rattle.gfx_state.specs.Same.{Wider}
 use Rattle.gfx_state.specs.Sending.{sent, IsCarried}
@@ -148,15 +149,15 @@ pub record Confirms (script : Script) : Type 0 where
   pub is : choice (map set_offered script.offers) ≡ Ok chosen
   pub allowed : (has_flag chosen.flags SMALL_CACHE && not script.small) ≡ false
   pub carried : IsCarried (confirm chosen)
-  pub extends : (client : State) → Wider (started script.small) client → Extends client (started script.small) (confirm chosen ∷ []) (λ last. [])
+  pub extends : (client : State) → Wider (started script.small) client → Extends Wider client (started script.small) (confirm chosen ∷ []) (λ last. [])
 
 never_both : (a b : Bool) → a ≡ b → (a && not b) ≡ false
 never_both true true e = refl
 never_both false b e = refl
 never_both true false e = absurd cc
 
-pub confirms : (script : Script) → IsAccepted script → Confirms script
-confirms script good =
+pub confirms : (script : Script) (held : Held) → IsAcceptedFrom held script → Confirms script
+confirms script held good =
     let some = some_chosen script.offers good.some_offers good.offers in
     let small : has_flag some.chosen.flags SMALL_CACHE ≡ script.small = ap is_small (sym some.is) ∙ sym good.small in
     record {
@@ -170,7 +171,7 @@ confirms script good =
           record {
             last = limited client (has_flag some.chosen.flags SMALL_CACHE);
             accepted = accepted;
-            wider = record { shown = wider.shown; slots = wider.slots; clear = wider.clear; records = wider.records; frame = wider.frame; decoded = wider.decoded; only_small = λ e. sym small ∙ e };
+            related = record { shown = wider.shown; slots = wider.slots; clear = wider.clear; records = wider.records; frame = wider.frame; decoded = wider.decoded; only_small = λ e. sym small ∙ e };
             frames = frames_inside client (limited client (has_flag some.chosen.flags SMALL_CACHE)) (confirm some.chosen ∷ []) (refl, tt) accepted;
           };
     }

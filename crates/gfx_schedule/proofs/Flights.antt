@@ -7,7 +7,6 @@ use Rattle.gfx_pdu.specs.declared.pdu.Pdu.TheVariants.{EndFrame}
 use Rattle.gfx_pdu.specs.Spelling.{spelling}
 use Rattle.gfx_state.specs.History.{Effect, effects, history, spelled, ends_frame, end_states}
 use Rattle.gfx_state.specs.Run.{Run, eats}
-use Rattle.gfx_state.specs.Same.{Wider}
 use Rattle.gfx_state.specs.Sending.{all_steps, sent, IsCarried}
 use Rattle.gfx_state.specs.State.{State}
 use Rattle.gfx_state.proofs.Effects.{effects-append, effects_cons, nothing}
@@ -79,24 +78,24 @@ abbrev pub pair_of : Flight → ℕ × State
 pair_of flight = (flight.sent_as.frame, flight.client)
 
 -- the bytes on their way to the client are messages that it will accept, which end these frames, and bring
--- it to a state like the server's
-pub record Downward (run : Run) (bytes : List ℕ) (server : State) (coming : List Flight) : Type 0 where
+-- it to a state that is related to the server's
+pub record Downward (R : State → State → Type 0) (run : Run) (bytes : List ℕ) (server : State) (coming : List Flight) : Type 0 where
   pub todo : List Pdu
   pub last : State
   pub inside : IsInside run bytes todo last
-  pub wider : Wider server last
+  pub related : R server last
   pub frames : frames_of (effects run.state (spelled todo)) ≡ map pair_of coming
 
 -- the client takes the first of them
-pub record Draws (run : Run) (bytes behind : List ℕ) (server : State) (coming : List Flight) : Type 0 where
+pub record Draws (R : State → State → Type 0) (run : Run) (bytes behind : List ℕ) (server : State) (coming : List Flight) : Type 0 where
   pub now : List Flight
   pub later : List Flight
   pub cut : coming ≡ now ++ later
   pub drawn : frames_of (history run bytes) ≡ map pair_of now
-  pub downward : Downward (eats run bytes) behind server later
+  pub downward : Downward R (eats run bytes) behind server later
 
-pub draws : (run : Run) (bytes behind : List ℕ) (server : State) (coming : List Flight) → Downward run (bytes ++ behind) server coming → Draws run bytes behind server coming
-draws run bytes behind server coming down =
+pub draws : (R : State → State → Type 0) (run : Run) (bytes behind : List ℕ) (server : State) (coming : List Flight) → Downward R run (bytes ++ behind) server coming → Draws R run bytes behind server coming
+draws R run bytes behind server coming down =
     let read = messages_are_read_in_pieces run bytes behind down.todo down.last down.inside in
     let state : State = (eats run bytes).state in
     let parts : map pair_of coming ≡ frames_of (effects run.state (spelled read.done)) ++ frames_of (effects state (spelled read.left)) =
@@ -107,29 +106,29 @@ draws run bytes behind server coming down =
       later = s.second;
       cut = s.cut;
       drawn = ap frames_of read.made ∙ sym s.first_is;
-      downward = record { todo = read.left; last = down.last; inside = read.inside; wider = down.wider; frames = sym s.second_is };
+      downward = record { todo = read.left; last = down.last; inside = read.inside; related = down.related; frames = sym s.second_is };
     }
 
 -- what more messages come to at a client's state
-pub record Extends (state : State) (server : State) (pdus : List Pdu) (more : State → List Flight) : Type 0 where
+pub record Extends (R : State → State → Type 0) (state : State) (server : State) (pdus : List Pdu) (more : State → List Flight) : Type 0 where
   pub last : State
   pub accepted : all_steps state pdus ≡ Ok last
-  pub wider : Wider server last
+  pub related : R server last
   pub frames : frames_of (effects state (spelled pdus)) ≡ map pair_of (more last)
 
 -- more messages go behind those on their way
-pub record Follows (run : Run) (bytes : List ℕ) (server next : State) (coming : List Flight) (pdus : List Pdu) (more : State → List Flight) : Type 0 where
+pub record Follows (R : State → State → Type 0) (run : Run) (bytes : List ℕ) (server next : State) (coming : List Flight) (pdus : List Pdu) (more : State → List Flight) : Type 0 where
   pub last : State
-  pub wider : Wider next last
-  pub downward : Downward run (bytes ++ sent pdus) next (coming ++ more last)
+  pub related : R next last
+  pub downward : Downward R run (bytes ++ sent pdus) next (coming ++ more last)
 
-pub follows : (run : Run) (bytes : List ℕ) (server next : State) (coming : List Flight) (pdus : List Pdu) (more : State → List Flight) → Downward run bytes server coming → AllByRecursion IsCarried pdus
-    → ((state : State) → Wider server state → Extends state next pdus more) → Follows run bytes server next coming pdus more
-follows run bytes server next coming pdus more down carried extends =
-    let e = extends down.last down.wider in
+pub follows : (R : State → State → Type 0) (run : Run) (bytes : List ℕ) (server next : State) (coming : List Flight) (pdus : List Pdu) (more : State → List Flight) → Downward R run bytes server coming → AllByRecursion IsCarried pdus
+    → ((state : State) → R server state → Extends R state next pdus more) → Follows R run bytes server next coming pdus more
+follows R run bytes server next coming pdus more down carried extends =
+    let e = extends down.last down.related in
     record {
       last = e.last;
-      wider = e.wider;
+      related = e.related;
       downward = record {
         todo = down.todo ++ pdus;
         last = e.last;
@@ -140,7 +139,7 @@ follows run bytes server next coming pdus more down carried extends =
           carried = all_both IsCarried down.todo pdus down.inside.carried carried;
           accepted = both run.state down.last e.last down.todo pdus down.inside.accepted e.accepted;
         };
-        wider = e.wider;
+        related = e.related;
         frames = frames_both run.state down.last down.todo pdus down.inside.accepted
             ∙ ap (λ z. z ++ frames_of (effects down.last (spelled pdus))) down.frames ∙ ap (λ z. map pair_of coming ++ z) e.frames ∙ sym (map-append pair_of coming (more e.last));
       };

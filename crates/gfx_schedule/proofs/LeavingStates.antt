@@ -9,20 +9,21 @@ use Rattle.std.proofs.lemmas.Bool.{cases_eq, eqb-true}
 use Rattle.std.proofs.lemmas.Bool.Decides.{nat_tests}
 use Rattle.gfx_base.specs.declared.geometry.Point.{Point}
 use Rattle.gfx_base.specs.declared.geometry.Rect.{Rect}
+use Rattle.gfx_base.specs.declared.pixel.Pixel.{Pixel}
 use Rattle.gfx_live.specs.Live.{Passes}
-use Rattle.gfx_script.specs.Kinds.{as_kind, is_progressive}
+use Rattle.gfx_script.specs.Kinds.{as_kind}
 use Rattle.gfx_script.specs.Scripted.{Script}
 use Rattle.gfx_script.specs.Writes.{Area, area, paints_plainly, place_of, writes_by, writes_plainly}
 use Rattle.gfx_script.specs.declared.picture.Picture.{Picture as Source}
 use Rattle.gfx_script.specs.declared.step.Kind.{Kind}
+use Rattle.gfx_script.specs.declared.step.Kind.TheVariants.{Raw, Residual, Bands, Palette, Plain, Progressive}
 use Rattle.gfx_script.specs.declared.step.Step.{Step}
 use Rattle.gfx_script.specs.declared.step.Step.TheVariants.{Surface, Delete, Reset, Map, Fill, Copy, Keep, Show, Forget, Paint, Improve, Frame}
 use Rattle.gfx_surface.specs.Picture.{Picture, overlaid}
 use Rattle.gfx_surface_map.specs.Shown.{Shown}
 use Rattle.gfx_surface_map.specs.Surfaces.{painted}
-use Rattle.gfx_planner.specs.Layers.{layer_of}
-use Rattle.gfx_planner.specs.Passes.{ended_by, painted_passes, passes_as}
-use Rattle.gfx_planner.specs.Want.{Wanted, drawn_on, drawing, with_painting, with_tiles, shown_by, wanted_as, wanted_after}
+use Rattle.gfx_planner.specs.Passes.{ended_by, live_after, passes_as}
+use Rattle.gfx_planner.specs.Want.{Wanted, drawn_on, drawing, opaque_in, pixels_in, with_painting, with_pixels, wanted_as, wanted_after}
 use Rattle.gfx_window.specs.Superseded.{covers}
 use Rattle.gfx_window.proofs.HullLaws.{both}
 use Rattle.gfx_schedule.proofs.LeavingPictures.{AreAlike, AreBeside, Draws, sides_back, painted-draws, overlaid-draws, drawn-self, drawn-alike, drawn-same, beside-covered, some-covers}
@@ -45,26 +46,27 @@ fill-draws step id rects draw plain draws is there =
     let same : area id rects ≡ plain = cc in
     subst (IsDrawing step) same record { draw = draw; draws = draws; is = is }
 
--- a paint that doesn't go in passes
-paint-draws : (script : Script) (passes : Bool) (o : Option Source) (kind : Kind) (id : ℕ) (at : Point) (plain : Area)
-    → cond passes None (option_map (λ source. area id (place_of source at ∷ [])) o) ≡ Some plain
-    → IsDrawing (λ wanted. record (cond passes (with_tiles script wanted o id at) (with_painting wanted o (Some kind) id at))
-    { passes = cond passes (painted_passes script wanted.passes id o at) (ended_by wanted.passes (option_map (λ source. area id (place_of source at ∷ [])) o)) }) plain
-unfolding with_painting
-paint-draws script true o kind id at plain there = absurd cc
-paint-draws script false None kind id at plain there = absurd cc
-paint-draws script false (Some source) kind id at plain there =
-    fill-draws _ id (place_of source at ∷ []) (λ surface. overlaid surface (place_of source at) (shown_by (layer_of kind) source)) plain
-    (overlaid-draws (place_of source at) (shown_by (layer_of kind) source)) (λ wanted. refl) there
+-- a picture that shows in these pixels
+pixels-draws : (o : Option Source) (pixels : Source → List Pixel) (id : ℕ) (at : Point) (plain : Area) → option_map (λ source. area id (place_of source at ∷ [])) o ≡ Some plain
+    → IsDrawing (λ wanted. record (with_pixels wanted o pixels id at) { passes = ended_by wanted.passes (option_map (λ source. area id (place_of source at ∷ [])) o) }) plain
+unfolding with_pixels
+pixels-draws None pixels id at plain there = absurd cc
+pixels-draws (Some source) pixels id at plain there =
+    fill-draws _ id (place_of source at ∷ []) (λ surface. overlaid surface (place_of source at) (pixels source)) plain
+    (overlaid-draws (place_of source at) (pixels source)) (λ wanted. refl) there
 
 pub plain-draws : (script : Script) (kind : Option Kind) (step : Step) (plain : Area) → writes_plainly script kind step ≡ Some plain
     → IsDrawing (λ wanted. wanted_after script wanted (as_kind kind step)) plain
-unfolding writes_plainly paints_plainly wanted_as passes_as writes_by
+unfolding writes_plainly paints_plainly wanted_as with_painting passes_as live_after writes_by
 plain-draws script kind (Fill id colour rects) plain there =
     fill-draws _ id rects (λ picture. painted picture rects colour) plain (painted-draws rects colour) (λ wanted. refl) there
 plain-draws script None (Paint id picture at named glyph) plain there = absurd cc
-plain-draws script (Some one) (Paint id picture at named glyph) plain there =
-    paint-draws script (is_progressive one) (slice_get script.pictures picture) one id at plain there
+plain-draws script (Some Raw) (Paint id picture at named glyph) plain there = pixels-draws (slice_get script.pictures picture) pixels_in id at plain there
+plain-draws script (Some Residual) (Paint id picture at named glyph) plain there = pixels-draws (slice_get script.pictures picture) opaque_in id at plain there
+plain-draws script (Some Bands) (Paint id picture at named glyph) plain there = pixels-draws (slice_get script.pictures picture) opaque_in id at plain there
+plain-draws script (Some Palette) (Paint id picture at named glyph) plain there = pixels-draws (slice_get script.pictures picture) opaque_in id at plain there
+plain-draws script (Some Plain) (Paint id picture at named glyph) plain there = pixels-draws (slice_get script.pictures picture) opaque_in id at plain there
+plain-draws script (Some Progressive) (Paint id picture at named glyph) plain there = absurd cc
 plain-draws script kind (Surface id width height format) plain there = absurd cc
 plain-draws script kind (Delete id) plain there = absurd cc
 plain-draws script kind (Reset width height) plain there = absurd cc

@@ -10,24 +10,25 @@ use Rattle.gfx_pdu.specs.declared.pdu.Pdu.{Pdu}
 use Rattle.gfx_pdu.specs.declared.pdu.Pdu.TheVariants.{EndFrame}
 use Rattle.gfx_script.specs.Checks.{Held, held_after, held_through}
 use Rattle.gfx_script.specs.Kinds.{KindedStep, HasKind, Fits}
-use Rattle.gfx_script.specs.Script.{IsStep, IsAccepted}
+use Rattle.gfx_script.specs.Script.{IsStep, IsAcceptedFrom}
 use Rattle.gfx_script.specs.Scripted.{Script}
 use Rattle.gfx_script.specs.declared.step.Step.{Step}
 use Rattle.gfx_state.specs.History.{effects, spelled, ends_frame}
-use Rattle.gfx_state.specs.Same.{Wider}
+use Rattle.gfx_state.specs.Same.{StepsAlike}
 use Rattle.gfx_state.specs.Sending.{all_steps}
 use Rattle.gfx_state.specs.State.{State}
 use Rattle.gfx_state.specs.Step.{step, frame_ended, is_open}
 use Rattle.gfx_state.proofs.Sent.{all_steps-append, all_steps-cons, all_steps-nil}
-use Rattle.gfx_state.proofs.Wider.{all_steps_wider}
+use Rattle.gfx_state.proofs.Wider.{all_steps_alike}
 use Rattle.gfx_planner.specs.Joined.{all_messages, after_all, frame_of, after_frame, JoinsFrame}
-use Rattle.gfx_planner.specs.Want.{Wanted, nothing_wanted, wanted_after, want}
+use Rattle.gfx_planner.specs.Want.{Wanted, wanted_after, want_from}
 use Rattle.gfx_planner.specs.Wire.{Server, frame_start, after_open}
 use Rattle.gfx_planner.proofs.Joined.{joined_frames_are_shown}
 use Rattle.gfx_planner.proofs.Lists.{all_front, all_behind}
-use Rattle.gfx_planner.proofs.Streams.{bare, first_held, held_through-append, held_through-cons}
+use Rattle.gfx_planner.proofs.Streams.{bare, held_through-append, held_through-cons}
 use Rattle.gfx_schedule.specs.Frames.{frames_of}
-use Rattle.gfx_schedule.specs.Plan.{InPlan}
+use Rattle.gfx_schedule.specs.Plan.{InPlanFrom}
+use Rattle.gfx_schedule.specs.Starts.{Start}
 use Rattle.gfx_schedule.specs.Leaving.{AreAmong, steps_of}
 use Rattle.gfx_schedule.specs.ServerEnd.{ServerEnd, first_frame, behind_frame, numbered, queued, due, with_sent}
 use Rattle.gfx_schedule.proofs.Flights.{frames_both, frames_inside, frames_end, Flight, Extends}
@@ -36,9 +37,9 @@ use Rattle.gfx_schedule.proofs.LeavingItems.{all_among, only_leaves}
 use Rattle.gfx_schedule.proofs.LeavingSteps.{is_allowed, not_seen}
 
 -- a frame of the script is queued
-pub queues : (script : Script) (kinded : List KindedStep) (end : ServerEnd) (gone waiting : List KindedStep) → InPlan script kinded end gone waiting → InPlan script kinded (queued end) gone (waiting ++ first_frame end.left)
+pub queues : (start : Start) (script : Script) (kinded : List KindedStep) (end : ServerEnd) (gone waiting : List KindedStep) → InPlanFrom start script kinded end gone waiting → InPlanFrom start script kinded (queued end) gone (waiting ++ first_frame end.left)
 unfolding queued
-queues script kinded end gone waiting plan =
+queues start script kinded end gone waiting plan =
     let first : List KindedStep = first_frame end.left in
     let behind : List KindedStep = behind_frame end.left in
     let number : length gone + 1 + length waiting ≡ end.last + 1 = omega (arith, plan.last) in
@@ -58,14 +59,14 @@ queues script kinded end gone waiting plan =
 
 -- what the script says of the steps that wait -----------------------------------------------------------------
 
-pub record Ahead (script : Script) (kinded : List KindedStep) (end : ServerEnd) (gone waiting : List KindedStep) (held : Held) : Type 0 where
+pub record Ahead (start : Start) (script : Script) (kinded : List KindedStep) (end : ServerEnd) (gone waiting : List KindedStep) (held : Held) : Type 0 where
   pub after : Held
   pub checked : held_through held (bare (due script end)) ≡ Ok after
-  pub whole : held_through (first_held script) (bare (gone ++ waiting)) ≡ Ok after
+  pub whole : held_through start.held (bare (gone ++ waiting)) ≡ Ok after
   pub numbers : AllByRecursion IsStep (bare (due script end))
   pub kinds : AllByRecursion HasKind (due script end)
   pub few : length gone + length waiting ≤ length script.steps
-  pub wanted : fold (wanted_after script) (want script gone) (due script end) ≡ want script (gone ++ waiting)
+  pub wanted : fold (wanted_after script) (want_from script start.wanted gone) (due script end) ≡ want_from script start.wanted (gone ++ waiting)
 
 -- what holds of steps holds of them as they are
 of_bare : (P : Step → Type 0) (steps : List KindedStep) → AllByRecursion P (bare steps) → AllByRecursion (λ one. P one.step) steps
@@ -83,8 +84,8 @@ held_both held via after (x ∷ xs) ys first second =
     let c = held_through-cons held via x xs first in
     and_then_at (held_after held x) c.0 (λ next. held_through next (xs ++ ys)) c.1 ∙ held_both c.0 via after xs ys c.2 second
 
-pub ahead : (script : Script) (kinded : List KindedStep) (end : ServerEnd) (gone waiting : List KindedStep) → IsAccepted script → Fits kinded script.steps → (plan : InPlan script kinded end gone waiting) → Ahead script kinded end gone waiting plan.held
-ahead script kinded end gone waiting good fits plan =
+pub ahead : (start : Start) (script : Script) (kinded : List KindedStep) (end : ServerEnd) (gone waiting : List KindedStep) → IsAcceptedFrom start.held script → Fits kinded script.steps → (plan : InPlanFrom start script kinded end gone waiting) → Ahead start script kinded end gone waiting plan.held
+ahead start script kinded end gone waiting good fits plan =
     let all : bare (gone ++ (waiting ++ end.left)) ≡ script.steps = ap bare (sym plan.cut) ∙ fits.same in
     let is : steps_of script end.window.pending ≡ waiting = ap (steps_of script) plan.pending ∙ steps_of-numbered script gone waiting end.left all in
     let among = (only_leaves script end.window.pending).1 in
@@ -92,7 +93,7 @@ ahead script kinded end gone waiting good fits plan =
     sym all ∙ map-append (λ (z : KindedStep). z.step) gone (waiting ++ end.left) ∙ ap (λ z. bare gone ++ z) (map-append (λ (z : KindedStep). z.step) waiting end.left) in
     let numbers = all_front IsStep (bare waiting) (bare end.left) (all_behind IsStep (bare gone) _ (subst (AllByRecursion IsStep) cut good.numbers)) in
     let kinds = all_front HasKind waiting end.left (all_behind HasKind gone _ (subst (AllByRecursion HasKind) plan.cut fits.kinds)) in
-    let first = held_through-append (first_held script) good.held (bare gone) (bare waiting ++ bare end.left) (ap (held_through (first_held script)) (sym cut) ∙ good.checked) in
+    let first = held_through-append start.held good.held (bare gone) (bare waiting ++ bare end.left) (ap (held_through start.held) (sym cut) ∙ good.checked) in
     let same : first.0 ≡ plan.held = (let here = first.1 in let there = plan.checked in cc) in
     let second = held_through-append plan.held good.held (bare waiting) (bare end.left) (ap (λ h. held_through h (bare waiting ++ bare end.left)) (sym same) ∙ first.2) in
     let through : held_through plan.held (bare (steps_of script end.window.pending)) ≡ Ok second.0 = ap (λ z. held_through plan.held (bare z)) is ∙ second.1 in
@@ -101,27 +102,27 @@ ahead script kinded end gone waiting good fits plan =
     record {
       after = second.0;
       checked = is_allowed script plan.held second.0 end.window.pending through;
-      whole = ap (held_through (first_held script)) (map-append (λ (z : KindedStep). z.step) gone waiting) ∙ held_both (first_held script) plan.held second.0 (bare gone) (bare waiting) plan.checked second.1;
+      whole = ap (held_through start.held) (map-append (λ (z : KindedStep). z.step) gone waiting) ∙ held_both start.held plan.held second.0 (bare gone) (bare waiting) plan.checked second.1;
       numbers = to_bare IsStep (due script end) (all_among (λ one. IsStep one.step) (due script end) waiting (subst (AreAmong (due script end)) is among) (of_bare IsStep waiting numbers));
       kinds = all_among HasKind (due script end) waiting (subst (AreAmong (due script end)) is among) kinds;
       few = omega (arith, count);
-      wanted = not_seen script (want script gone) end.window.pending ∙ ap (fold (wanted_after script) (want script gone)) is ∙ sym (fold-append (wanted_after script) (nothing_wanted script.small) gone waiting);
+      wanted = not_seen script (want_from script start.wanted gone) end.window.pending ∙ ap (fold (wanted_after script) (want_from script start.wanted gone)) is ∙ sym (fold-append (wanted_after script) start.wanted gone waiting);
     }
 
 -- a frame goes ------------------------------------------------------------------------------------------------
 
 -- the frame that goes, of all that waits
-pub joins : (script : Script) (kinded : List KindedStep) (end : ServerEnd) (gone waiting : List KindedStep) → IsAccepted script → Fits kinded script.steps → (plan : InPlan script kinded end gone waiting)
-    → (ahead : Ahead script kinded end gone waiting plan.held) → JoinsFrame script end.server (due script end) ahead.after (want script (gone ++ waiting))
-joins script kinded end gone waiting good fits plan ahead =
+pub joins : (start : Start) (script : Script) (kinded : List KindedStep) (end : ServerEnd) (gone waiting : List KindedStep) → IsAcceptedFrom start.held script → Fits kinded script.steps → (plan : InPlanFrom start script kinded end gone waiting)
+    → (ahead : Ahead start script kinded end gone waiting plan.held) → JoinsFrame script end.server (due script end) ahead.after (want_from script start.wanted (gone ++ waiting))
+joins start script kinded end gone waiting good fits plan ahead =
     subst (JoinsFrame script end.server (due script end) ahead.after) ahead.wanted
-    (joined_frames_are_shown script end.server (due script end) plan.held ahead.after (want script gone) (omega (arith, plan.frames, ahead.few, good.few)) plan.frame plan.holds plan.agrees ahead.numbers ahead.kinds ahead.checked)
+    (joined_frames_are_shown script end.server (due script end) plan.held ahead.after (want_from script start.wanted gone) (omega (arith, plan.frames, ahead.few, good.few)) plan.frame plan.holds plan.agrees ahead.numbers ahead.kinds ahead.checked)
 
 -- at least one step waited
-pub goes : (script : Script) (kinded : List KindedStep) (end : ServerEnd) (gone waiting : List KindedStep) (plan : InPlan script kinded end gone waiting) (ahead : Ahead script kinded end gone waiting plan.held) → 0 < length waiting
-    → JoinsFrame script end.server (due script end) ahead.after (want script (gone ++ waiting)) → InPlan script kinded (with_sent end (after_frame script end.server (due script end))) (gone ++ waiting) []
+pub goes : (start : Start) (script : Script) (kinded : List KindedStep) (end : ServerEnd) (gone waiting : List KindedStep) (plan : InPlanFrom start script kinded end gone waiting) (ahead : Ahead start script kinded end gone waiting plan.held) → 0 < length waiting
+    → JoinsFrame script end.server (due script end) ahead.after (want_from script start.wanted (gone ++ waiting)) → InPlanFrom start script kinded (with_sent end (after_frame script end.server (due script end))) (gone ++ waiting) []
 unfolding with_sent
-goes script kinded end gone waiting plan ahead some joins = record {
+goes start script kinded end gone waiting plan ahead some joins = record {
   cut = plan.cut ∙ sym (append_assoc gone waiting end.left);
   last = omega (arith, plan.last, length-append gone waiting);
   pending = refl;
@@ -162,16 +163,16 @@ ending state last pdus frame inside accepted =
 abbrev pub flight_of : Server → ℕ → State → Flight
 flight_of server step client = record { sent_as = record { frame = server.frames; step = step }; server = server.state; client = client }
 
-pub extends : (script : Script) (server : Server) (steps : List KindedStep) (after : Held) (wanted : Wanted) (number : ℕ) (client : State) → JoinsFrame script server steps after wanted → Wider server.state client
-    → Extends client (after_frame script server steps).state (frame_of script server steps) (λ last. flight_of (after_frame script server steps) number last ∷ [])
+pub extends : (R : State → State → Type 0) → StepsAlike R → (script : Script) (server : Server) (steps : List KindedStep) (after : Held) (wanted : Wanted) (number : ℕ) (client : State) → JoinsFrame script server steps after wanted → R server.state client
+    → Extends R client (after_frame script server steps).state (frame_of script server steps) (λ last. flight_of (after_frame script server steps) number last ∷ [])
 unfolding frame_of
-extends script server steps after wanted number client joins wider =
-    let went = all_steps_wider server.state (after_frame script server steps).state client (frame_of script server steps) joins.accepted wider in
+extends R alike script server steps after wanted number client joins related =
+    let went = all_steps_alike R alike server.state (after_frame script server steps).state client (frame_of script server steps) joins.accepted related in
     let ready : Server = after_open server in
     let body : List Pdu = frame_start server ∷ all_messages script ready steps in
     let end = ending client went.0 body (after_all script ready steps).frames (refl, joins.inside) went.1 in
     let number_is : (after_all script ready steps).frames ≡ (after_frame script server steps).frames = joins.ends ∙ sym joins.frames in
-    record { last = went.0; accepted = went.1; wider = went.2; frames = end.frames ∙ ap (λ n. (n, went.0) ∷ []) number_is }
+    record { last = went.0; accepted = went.1; related = went.2; frames = end.frames ∙ ap (λ n. (n, went.0) ∷ []) number_is }
 
 pub decoded_fits : (script : Script) (server : Server) (steps : List KindedStep) (after : Held) (wanted : Wanted) → JoinsFrame script server steps after wanted → (after_frame script server steps).state.decoded < 2 ^ 32
 unfolding frame_of

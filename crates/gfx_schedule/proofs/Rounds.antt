@@ -8,13 +8,14 @@ use Rattle.gfx_caps.specs.Spelling.{spelling as word_spelling}
 use Rattle.gfx_pdu.specs.declared.pdu.Pdu.{Pdu}
 use Rattle.gfx_pdu.specs.Spelling.{spelling}
 use Rattle.gfx_script.specs.Kinds.{KindedStep, Fits}
-use Rattle.gfx_script.specs.Script.{IsAccepted, is_frame}
+use Rattle.gfx_script.specs.Script.{is_frame}
 use Rattle.gfx_script.specs.Scripted.{Script}
 use Rattle.gfx_script.specs.declared.turn.Turn.TheVariants.{Server, Client, Answer}
 use Rattle.gfx_segment.specs.Framing.{Whole, front, ReadBack}
 use Rattle.gfx_segment.proofs.ReadBackLemmas.{read_back}
 use Rattle.gfx_state.specs.History.{effects, spelled}
-use Rattle.gfx_state.specs.Run.{Run, run_of}
+use Rattle.gfx_state.specs.Run.{Run, run_from}
+use Rattle.gfx_state.specs.Same.{Wider}
 use Rattle.gfx_state.specs.Sending.{sent, IsCarried}
 use Rattle.gfx_state.specs.State.{State}
 use Rattle.gfx_state.proofs.Effects.{nothing}
@@ -23,13 +24,14 @@ use Rattle.gfx_window.specs.Window.{has_room}
 use Rattle.gfx_schedule.specs.Frames.{frames_of}
 use Rattle.gfx_schedule.specs.Hearing.{Heard, listening, hears}
 use Rattle.gfx_schedule.specs.Schedule.{rounds_for, RoundsEnd}
+use Rattle.gfx_schedule.specs.Starts.{Start, from_nothing}
 use Rattle.gfx_schedule.specs.ServerEnd.{ServerEnd, is_none, behind_frame, queued, can_send, serves, with_sent}
 use Rattle.gfx_schedule.specs.Words.{said}
-use Rattle.gfx_schedule.specs.World.{World, server_turns, client_takes, server_heard, happens, world, round, drained, is_ended, begin}
+use Rattle.gfx_schedule.specs.World.{World, server_turns, client_takes, server_heard, happens, world, round, drained, is_ended}
 use Rattle.gfx_schedule.proofs.Confirming.{confirms, tell_offers}
 use Rattle.gfx_schedule.proofs.Flights.{Flight, pair_of, Downward}
 use Rattle.gfx_schedule.proofs.Keeping.{word_of}
-use Rattle.gfx_schedule.proofs.Turns.{Phase, Greeting, Going, Upward, Keeps, takes, serving, hearing, frames_heard, Offered, NotYet, Now, offers_heard, sends_yes, sends_no, beginning, all_turns}
+use Rattle.gfx_schedule.proofs.Turns.{Phase, Greeting, Going, Upward, Keeps, takes, serving, hearing, frames_heard, Offered, NotYet, Now, offers_heard, sends_yes, sends_no, Begins, begins, keeps_from}
 
 -- no bytes in flight ---------------------------------------------------------------------------------------------
 
@@ -38,8 +40,8 @@ none_mapped f [] e = refl
 none_mapped f (x ∷ xs) e = absurd cc
 
 -- where none is on its way to the client, no frame is
-pub none_coming : (run : Run) (server : State) (coming : List Flight) → Downward run [] server coming → coming ≡ []
-none_coming run server coming down = by down.todo down.inside.bytes_are down.inside.carried down.frames
+pub none_coming : (R : State → State → Type 0) (run : Run) (server : State) (coming : List Flight) → Downward R run [] server coming → coming ≡ []
+none_coming R run server coming down = by down.todo down.inside.bytes_are down.inside.carried down.frames
   where
     by : (todo : List Pdu) → run.rest ++ [] ≡ sent todo → AllByRecursion IsCarried todo → frames_of (effects run.state (spelled todo)) ≡ map pair_of coming → coming ≡ []
     by [] are carried frames = none_mapped pair_of coming (sym frames ∙ ap frames_of (nothing run.state))
@@ -58,17 +60,17 @@ none_said end (word ∷ words) up =
     absurd cc
 
 -- the version is confirmed then, and all that was drawn is acknowledged
-pub record Answered (script : Script) (kinded : List KindedStep) (w : World) (keeps : Keeps script kinded w) : Type 0 where
+pub record Answered (R : State → State → Type 0) (start : Start) (script : Script) (kinded : List KindedStep) (w : World) (keeps : Keeps R start script kinded w) : Type 0 where
   pub confirmed : w.server.confirmed ≡ true
   pub drawn : keeps.drawn ≡ []
 
-answered : (script : Script) (kinded : List KindedStep) (w : World) (keeps : Keeps script kinded w) → w.up ≡ [] → Answered script kinded w keeps
-answered script kinded w keeps none =
+answered : (R : State → State → Type 0) (start : Start) (script : Script) (kinded : List KindedStep) (w : World) (keeps : Keeps R start script kinded w) → w.up ≡ [] → Answered R start script kinded w keeps
+answered R start script kinded w keeps none =
     let no_words = none_said w.server keeps.words (subst (λ z. Upward w.server z keeps.words) none keeps.upward) in
     by keeps.phase no_words
   where
-    by : Phase script w.server keeps.drawn keeps.coming keeps.words → keeps.words ≡ [] → Answered script kinded w keeps
-    by (Greeting unconfirmed start none_drawn none_coming are) no_words = absurd cc
+    by : Phase start script w.server keeps.drawn keeps.coming keeps.words → keeps.words ≡ [] → Answered R start script kinded w keeps
+    by (Greeting unconfirmed at none_drawn none_coming are) no_words = absurd cc
     by (Going confirmed are) no_words = record { confirmed = confirmed; drawn = none_mapped word_of keeps.drawn (sym are ∙ no_words) }
 
 -- the parts of a round -------------------------------------------------------------------------------------------
@@ -134,46 +136,46 @@ pub record Settled (w : World) : Type 0 where
   pub up : w.up ≡ []
 
 -- the client has drawn all, and the server's end has heard all
-pub record Rounded (script : Script) (kinded : List KindedStep) (w : World) : Type 0 where
-  pub keeps : Keeps script kinded (round script w)
+pub record Rounded (R : State → State → Type 0) (start : Start) (script : Script) (kinded : List KindedStep) (w : World) : Type 0 where
+  pub keeps : Keeps R start script kinded (round script w)
   pub settled : Settled (round script w)
 
 -- no frame is in flight once all is heard
-none_flying : (script : Script) (kinded : List KindedStep) (w : World) → IsAccepted script → (keeps : Keeps script kinded w) → w.down ≡ [] → (hears script (listening w.server) w.up).end.window.flying ≡ []
-none_flying script kinded w good keeps none =
-    let coming = none_coming (run_of w.taken) w.server.server.state keeps.coming (subst (λ z. Downward (run_of w.taken) z w.server.server.state keeps.coming) none keeps.downward) in
+none_flying : (R : State → State → Type 0) (start : Start) (script : Script) (kinded : List KindedStep) (w : World) → Begins R start script → (keeps : Keeps R start script kinded w) → w.down ≡ [] → (hears script (listening w.server) w.up).end.window.flying ≡ []
+none_flying R start script kinded w good keeps none =
+    let coming = none_coming R (run_from w.start w.taken) w.server.server.state keeps.coming (subst (λ z. Downward R (run_from w.start w.taken) z w.server.server.state keeps.coming) none keeps.downward) in
     by coming keeps.phase
   where
-    by : keeps.coming ≡ [] → Phase script w.server keeps.drawn keeps.coming keeps.words → (hears script (listening w.server) w.up).end.window.flying ≡ []
-    by coming (Greeting unconfirmed start none_drawn none_coming are) =
-        let h = offers_heard script kinded w w.up [] good (sym (append-nil w.up)) keeps are in
+    by : keeps.coming ≡ [] → Phase start script w.server keeps.drawn keeps.coming keeps.words → (hears script (listening w.server) w.up).end.window.flying ≡ []
+    by coming (Greeting unconfirmed at none_drawn none_coming are) =
+        let h = offers_heard R start script kinded w w.up [] good (sym (append-nil w.up)) keeps are in
         offers_leave h.left h.offered ∙ keeps.flying.flying ∙ ap (λ z. map (λ (f : Flight). f.sent_as) (z ++ keeps.coming)) none_drawn ∙ ap (map (λ (f : Flight). f.sent_as)) none_coming
       where
         offers_leave : (left : List ClientPdu) → Offered script w (hears script (listening w.server) w.up) left → (hears script (listening w.server) w.up).end.window.flying ≡ w.server.window.flying
         offers_leave left (NotYet held is left_is) = ap (λ z. z.end.window.flying) is
-        offers_leave left (Now held is left_is) = ap (λ z. z.end.window.flying) is ∙ ap (λ z. z.end.window.flying) (tell_offers script (listening w.server) (confirms script good))
+        offers_leave left (Now held is left_is) = ap (λ z. z.end.window.flying) is ∙ ap (λ z. z.end.window.flying) (tell_offers script (listening w.server) (confirms script start.held good.good))
     by coming (Going confirmed are) =
-        let h = frames_heard script kinded w w.up [] (sym (append-nil w.up)) keeps are in
+        let h = frames_heard R start script kinded w w.up [] (sym (append-nil w.up)) keeps are in
         let listens = h.listens in
         let end : ServerEnd = (hears script (listening w.server) w.up).end in
         let words = none_said end (map word_of h.later) (record { goes_on = listens.goes_on; short = listens.short; bytes_are = listens.bytes_are; carried = listens.carried }) in
         let later = none_mapped word_of h.later words in
         ap (λ z. z.end.window.flying) h.is ∙ ap (λ z. map (λ (f : Flight). f.sent_as) (z ++ keeps.coming)) later ∙ ap (map (λ (f : Flight). f.sent_as)) coming
 
-pub rounded : (script : Script) (kinded : List KindedStep) (w : World) → IsAccepted script → Fits kinded script.steps → Keeps script kinded w → Rounded script kinded w
-rounded script kinded w good fits keeps =
+pub rounded : (R : State → State → Type 0) (start : Start) (script : Script) (kinded : List KindedStep) (w : World) → Begins R start script → Fits kinded script.steps → Keeps R start script kinded w → Rounded R start script kinded w
+rounded R start script kinded w good fits keeps =
     let p = parts script w in
     let sent_to : World = server_turns script w in
-    let first = serving script kinded w good fits keeps in
-    let second = subst (Keeps script kinded) (sym p.drawn_is) (takes script kinded sent_to sent_to.down [] (sym (append-nil sent_to.down)) first) in
-    let third = hearing script kinded p.drawn p.drawn.up [] good (sym (append-nil p.drawn.up)) second in
+    let first = serving R start script kinded w good fits keeps in
+    let second = subst (Keeps R start script kinded) (sym p.drawn_is) (takes R start script kinded sent_to sent_to.down [] (sym (append-nil sent_to.down)) first) in
+    let third = hearing R start script kinded p.drawn p.drawn.up [] good (sym (append-nil p.drawn.up)) second in
     let last : World = server_heard p.drawn (hears script (listening p.drawn.server) p.drawn.up) [] in
     let up = up_of_heard p.drawn (hears script (listening p.drawn.server) p.drawn.up) in
-    let answer = answered script kinded last third up in
+    let answer = answered R start script kinded last third up in
     let down : p.drawn.down ≡ [] = ap (λ z. z.down) p.drawn_is ∙ down_of_taken sent_to sent_to.down in
-    let flying = ap (λ z. z.window.flying) (server_of_heard p.drawn (hears script (listening p.drawn.server) p.drawn.up)) ∙ none_flying script kinded p.drawn good second down in
+    let flying = ap (λ z. z.window.flying) (server_of_heard p.drawn (hears script (listening p.drawn.server) p.drawn.up)) ∙ none_flying R start script kinded p.drawn good second down in
     record {
-      keeps = subst (Keeps script kinded) (sym p.is) third;
+      keeps = subst (Keeps R start script kinded) (sym p.is) third;
       settled = subst Settled (sym p.is) record { confirmed = answer.confirmed; flying = flying; up = up };
     }
 
@@ -185,17 +187,17 @@ pub record Quiet (w : World) : Type 0 where
   pub down : w.down ≡ []
 
 -- a frame goes where a step waits
-served_all : (script : Script) (kinded : List KindedStep) (w : World) → IsAccepted script → Keeps script kinded w → Settled w
+served_all : (R : State → State → Type 0) (start : Start) (script : Script) (kinded : List KindedStep) (w : World) → Begins R start script → Keeps R start script kinded w → Settled w
     → ((serves script w.server).window.pending ≡ []) × ((serves script w.server).left ≡ behind_frame w.server.left) × ((serves script w.server).confirmed ≡ true)
 unfolding queued with_sent
-served_all script kinded w good keeps settled =
+served_all R start script kinded w good keeps settled =
     elim (cases_Bool (can_send (queued w.server))) [
       | inl can ↦
           let is = (sends_yes script (queued w.server) can).0 in
           (ap (λ z. z.window.pending) is, ap (λ z. z.left) is, ap (λ z. z.confirmed) is ∙ settled.confirmed)
       | inr can ↦
           let is = (sends_no script (queued w.server) can).0 in
-          let room : has_room (queued w.server).window ≡ true = lt-ltb (length w.server.window.flying) w.server.window.size (omega (arith, ap length settled.flying, keeps.size, good.window_from)) in
+          let room : has_room (queued w.server).window ≡ true = lt-ltb (length w.server.window.flying) w.server.window.size (omega (arith, ap length settled.flying, keeps.size, good.good.window_from)) in
           (ap (λ z. z.window.pending) is ∙ empty (queued w.server).window.pending (refused (queued w.server) settled.confirmed room can), ap (λ z. z.left) is, ap (λ z. z.confirmed) is ∙ settled.confirmed)
     ]
   where
@@ -213,33 +215,33 @@ served_all script kinded w good keeps settled =
     empty (x ∷ items) e = absurd (let none : length (x ∷ items) ≡ 0 = eqb-true (length (x ∷ items)) 0 e in omega (arith, none))
 
 -- what is said of frames leaves the rest of the server's end, and is answered by nothing
-heard_leaves : (script : Script) (kinded : List KindedStep) (w : World) → (keeps : Keeps script kinded w) → w.server.confirmed ≡ true
+heard_leaves : (R : State → State → Type 0) (start : Start) (script : Script) (kinded : List KindedStep) (w : World) → (keeps : Keeps R start script kinded w) → w.server.confirmed ≡ true
     → ((hears script (listening w.server) w.up).end.window.pending ≡ w.server.window.pending) × ((hears script (listening w.server) w.up).end.left ≡ w.server.left) × ((hears script (listening w.server) w.up).out ≡ [])
-heard_leaves script kinded w keeps confirmed = by keeps.phase
+heard_leaves R start script kinded w keeps confirmed = by keeps.phase
   where
-    by : Phase script w.server keeps.drawn keeps.coming keeps.words
+    by : Phase start script w.server keeps.drawn keeps.coming keeps.words
         → ((hears script (listening w.server) w.up).end.window.pending ≡ w.server.window.pending) × ((hears script (listening w.server) w.up).end.left ≡ w.server.left) × ((hears script (listening w.server) w.up).out ≡ [])
-    by (Greeting unconfirmed start none_drawn none_coming are) = absurd cc
+    by (Greeting unconfirmed at none_drawn none_coming are) = absurd (let no : w.server.confirmed ≡ false = unconfirmed.1 in cc)
     by (Going is are) =
-        let h = frames_heard script kinded w w.up [] (sym (append-nil w.up)) keeps are in
+        let h = frames_heard R start script kinded w w.up [] (sym (append-nil w.up)) keeps are in
         (ap (λ z. z.end.window.pending) h.is, ap (λ z. z.end.left) h.is, ap (λ z. z.out) h.is)
 
-pub record Advanced (script : Script) (kinded : List KindedStep) (w : World) : Type 0 where
-  pub keeps : Keeps script kinded (round script w)
+pub record Advanced (R : State → State → Type 0) (start : Start) (script : Script) (kinded : List KindedStep) (w : World) : Type 0 where
+  pub keeps : Keeps R start script kinded (round script w)
   pub quiet : Quiet (round script w)
   pub left : (round script w).server.left ≡ behind_frame w.server.left
 
-pub advanced : (script : Script) (kinded : List KindedStep) (w : World) → IsAccepted script → Fits kinded script.steps → Keeps script kinded w → Settled w → Advanced script kinded w
-advanced script kinded w good fits keeps settled =
-    let r = rounded script kinded w good fits keeps in
+pub advanced : (R : State → State → Type 0) (start : Start) (script : Script) (kinded : List KindedStep) (w : World) → Begins R start script → Fits kinded script.steps → Keeps R start script kinded w → Settled w → Advanced R start script kinded w
+advanced R start script kinded w good fits keeps settled =
+    let r = rounded R start script kinded w good fits keeps in
     let p = parts script w in
     let sent_to : World = server_turns script w in
-    let first = serving script kinded w good fits keeps in
-    let second = subst (Keeps script kinded) (sym p.drawn_is) (takes script kinded sent_to sent_to.down [] (sym (append-nil sent_to.down)) first) in
+    let first = serving R start script kinded w good fits keeps in
+    let second = subst (Keeps R start script kinded) (sym p.drawn_is) (takes R start script kinded sent_to sent_to.down [] (sym (append-nil sent_to.down)) first) in
     let server : p.drawn.server ≡ serves script w.server = ap (λ z. z.server) p.drawn_is ∙ server_of_taken sent_to sent_to.down ∙ server_of_turn script w in
-    let s = served_all script kinded w good keeps settled in
+    let s = served_all R start script kinded w good keeps settled in
     let heard : Heard = hears script (listening p.drawn.server) p.drawn.up in
-    let l = heard_leaves script kinded p.drawn second (ap (λ z. z.confirmed) server ∙ s.2) in
+    let l = heard_leaves R start script kinded p.drawn second (ap (λ z. z.confirmed) server ∙ s.2) in
     let end : (round script w).server ≡ heard.end = ap (λ z. z.server) p.is ∙ server_of_heard p.drawn heard in
     let down : p.drawn.down ≡ [] = ap (λ z. z.down) p.drawn_is ∙ down_of_taken sent_to sent_to.down in
     record {
@@ -277,14 +279,14 @@ drained_done script zero w ended = ended
 drained_done script (suc most) w ended = ap (λ b. is_ended (cond b w (drained script most (round script w)))) ended ∙ ended
 
 -- from a quiet session on
-pub quiet_ends : (script : Script) (kinded : List KindedStep) (most : ℕ) (w : World) → IsAccepted script → Fits kinded script.steps → Keeps script kinded w → Quiet w → length w.server.left ≤ most → is_ended (drained script most w) ≡ true
-quiet_ends script kinded zero w good fits keeps quiet few = ended_now w quiet (nil_from_length w.server.left (omega (arith, few)))
-quiet_ends script kinded (suc most) w good fits keeps quiet few =
+pub quiet_ends : (R : State → State → Type 0) (start : Start) (script : Script) (kinded : List KindedStep) (most : ℕ) (w : World) → Begins R start script → Fits kinded script.steps → Keeps R start script kinded w → Quiet w → length w.server.left ≤ most → is_ended (drained script most w) ≡ true
+quiet_ends R start script kinded zero w good fits keeps quiet few = ended_now w quiet (nil_from_length w.server.left (omega (arith, few)))
+quiet_ends R start script kinded (suc most) w good fits keeps quiet few =
     elim (cases_Bool (is_ended w)) [
       | inl ended ↦ drained_done script (suc most) w ended
       | inr going ↦
-          let a = advanced script kinded w good fits keeps quiet.settled in
-          ap is_ended (drained_more script most w going) ∙ quiet_ends script kinded most (round script w) good fits a.keeps a.quiet (omega (arith, ap length a.left, shrinks w quiet going, few))
+          let a = advanced R start script kinded w good fits keeps quiet.settled in
+          ap is_ended (drained_more script most w going) ∙ quiet_ends R start script kinded most (round script w) good fits a.keeps a.quiet (omega (arith, ap length a.left, shrinks w quiet going, few))
     ]
   where
     shrinks : (w : World) → Quiet w → is_ended w ≡ false → length (behind_frame w.server.left) + 1 ≤ length w.server.left
@@ -294,29 +296,29 @@ quiet_ends script kinded (suc most) w good fits keeps quiet few =
         by [] none = absurd (let now = ended_now w quiet none in cc)
         by (one ∷ steps) some = omega (arith, one_fewer one steps)
 
-left_few : (script : Script) (kinded : List KindedStep) (w : World) → Fits kinded script.steps → Keeps script kinded w → length w.server.left ≤ length script.steps
-left_few script kinded w fits keeps =
+left_few : (R : State → State → Type 0) (start : Start) (script : Script) (kinded : List KindedStep) (w : World) → Fits kinded script.steps → Keeps R start script kinded w → length w.server.left ≤ length script.steps
+left_few R start script kinded w fits keeps =
     omega (arith, ap length fits.same, length-map kinded (λ (z : KindedStep). z.step), ap length keeps.plan.cut, length-append keeps.gone (keeps.waiting ++ w.server.left), length-append keeps.waiting w.server.left)
 
 -- two rounds settle it and make it quiet
-pub ends : (script : Script) (kinded : List KindedStep) (most : ℕ) (w : World) → IsAccepted script → Fits kinded script.steps → Keeps script kinded w → length script.steps ≤ most → is_ended (drained script (suc (suc most)) w) ≡ true
-ends script kinded most w good fits keeps few =
+pub ends : (R : State → State → Type 0) (start : Start) (script : Script) (kinded : List KindedStep) (most : ℕ) (w : World) → Begins R start script → Fits kinded script.steps → Keeps R start script kinded w → length script.steps ≤ most → is_ended (drained script (suc (suc most)) w) ≡ true
+ends R start script kinded most w good fits keeps few =
     elim (cases_Bool (is_ended w)) [
       | inl ended ↦ drained_done script (suc (suc most)) w ended
       | inr going ↦
-          let one = rounded script kinded w good fits keeps in
+          let one = rounded R start script kinded w good fits keeps in
           ap is_ended (drained_more script (suc most) w going)
           ∙ elim (cases_Bool (is_ended (round script w))) as (λ _. is_ended (drained script (suc most) (round script w)) ≡ true) [
             | inl ended ↦ drained_done script (suc most) (round script w) ended
             | inr more ↦
-                let two = advanced script kinded (round script w) good fits one.keeps one.settled in
+                let two = advanced R start script kinded (round script w) good fits one.keeps one.settled in
                 ap is_ended (drained_more script most (round script w) more)
-                ∙ quiet_ends script kinded most (round script (round script w)) good fits two.keeps two.quiet (omega (arith, left_few script kinded (round script (round script w)) fits two.keeps, few))
+                ∙ quiet_ends R start script kinded most (round script (round script w)) good fits two.keeps two.quiet (omega (arith, left_few R start script kinded (round script (round script w)) fits two.keeps, few))
           ]
     ]
 
 pub rounds_end : RoundsEnd
 rounds_end script kinded turns good fits =
-    let keeps = all_turns script kinded (begin script kinded) turns good fits (beginning script kinded good fits) in
+    let keeps = keeps_from Wider (from_nothing script) script kinded turns (begins script good) fits in
     let count : rounds_for script ≡ suc (suc (length script.steps + 2)) = omega arith in
-    ap (λ n. is_ended (drained script n (world script kinded turns))) count ∙ ends script kinded (length script.steps + 2) (world script kinded turns) good fits keeps (omega arith)
+    ap (λ n. is_ended (drained script n (world script kinded turns))) count ∙ ends Wider (from_nothing script) script kinded (length script.steps + 2) (world script kinded turns) (begins script good) fits keeps (omega arith)

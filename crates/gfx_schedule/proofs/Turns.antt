@@ -1,5 +1,6 @@
 -- Every turn keeps what a session promises.
-use Rattle.std.proofs.Common.{◌≡◌, ℕ, ◌+◌, ◌≤◌, ◌<◌, ◌^◌, Bool, true, false, ◌&&◌, not, cond, List, [], ◌∷◌, ◌++◌, length, fold, map, take, drop, None, Ok, inl, inr, refl, sym, ap, ◌∙◌, subst, append_assoc, arith, length-append}
+use Rattle.std.proofs.Common.{◌≡◌, ℕ, ◌+◌, ◌≤◌, ◌<◌, ◌^◌, Bool, true, false, ◌&&◌, not, cond, if◌then◌else◌, List, [], ◌∷◌, ◌++◌, length, fold, map, take, drop, None, Ok, inl, inr, refl, sym, ap, ◌∙◌, subst, append_assoc, arith, length-append}
+use Rattle.std.specs.FinMap.{get}
 use Rattle.std.specs.List.{AllByRecursion}
 use Rattle.std.proofs.lemmas.Bool.{cases_Bool, ltb-true}
 use Rattle.std.proofs.lemmas.List.{append-nil, map-append, length-map, take-append-drop}
@@ -12,38 +13,44 @@ use Rattle.gfx_client.proofs.ReplyLemmas.{hello_read}
 use Rattle.gfx_pdu.specs.declared.pdu.Pdu.{Pdu}
 use Rattle.gfx_script.specs.Checks.{Held, held_through}
 use Rattle.gfx_script.specs.Kinds.{KindedStep, Fits}
-use Rattle.gfx_script.specs.Script.{IsAccepted}
+use Rattle.gfx_script.specs.Script.{IsAccepted, IsAcceptedFrom}
 use Rattle.gfx_script.specs.Scripted.{Script}
 use Rattle.gfx_script.specs.declared.turn.Turn.{Turn}
 use Rattle.gfx_script.specs.declared.turn.Turn.TheVariants.{Server, Client, Answer}
 use Rattle.gfx_segment.specs.Framing.{Short, front}
 use Rattle.gfx_segment.proofs.FrontLemmas.{front-nil}
-use Rattle.gfx_state.specs.History.{history, history_of, ended}
-use Rattle.gfx_state.specs.Run.{Run, begun, run_of, eats}
-use Rattle.gfx_state.specs.Same.{Wider}
+use Rattle.gfx_state.specs.History.{history, history_from, ended}
+use Rattle.gfx_state.specs.Run.{Run, begun_from, run_from, eats}
+use Rattle.gfx_state.specs.Same.{StepsAlike, Wider}
 use Rattle.gfx_state.specs.Sending.{all_steps, sent}
-use Rattle.gfx_state.specs.State.{State, fresh, started}
+use Rattle.gfx_state.specs.State.{State, started}
 use Rattle.gfx_state.proofs.Effects.{history-nil, history-append, nothing}
 use Rattle.gfx_state.proofs.Runs.{eats-append, eats-nil}
 use Rattle.gfx_state.proofs.Sent.{sent-nil}
-use Rattle.gfx_state.proofs.Wider.{Wider_same, started_fresh}
+use Rattle.gfx_state.proofs.Wider.{Wider_same, started_fresh, wider_alike}
 use Rattle.gfx_planner.specs.Joined.{frame_of, after_frame}
-use Rattle.gfx_planner.specs.Want.{want}
-use Rattle.gfx_planner.specs.Wire.{at_start}
+use Rattle.gfx_live.specs.Live.{Passes}
+use Rattle.gfx_prog_decode.specs.Records.{Records}
+use Rattle.gfx_planner.specs.Agree.{Agree, Holds}
+use Rattle.gfx_planner.specs.Tiles.{HoldsLive}
+use Rattle.gfx_planner.specs.Want.{want_from}
+use Rattle.gfx_planner.specs.Wire.{Server as Planned}
 use Rattle.gfx_planner.proofs.Effects.{all_steps-none}
 use Rattle.gfx_planner.proofs.Lists.{all_both, all_front, all_behind}
-use Rattle.gfx_planner.proofs.Streams.{first_held, stands_at_start}
+use Rattle.gfx_planner.proofs.Streams.{stands_at_start}
+use Rattle.gfx_planner.proofs.TilesFollow.{has-records}
 use Rattle.gfx_window.specs.declared.window.Sent.{Sent}
 use Rattle.gfx_window.specs.Window.{has_room}
 use Rattle.gfx_schedule.specs.Frames.{frames_of}
 use Rattle.gfx_schedule.specs.Hearing.{Heard, listening, confirm, hears}
-use Rattle.gfx_schedule.specs.Plan.{InPlan}
+use Rattle.gfx_schedule.specs.Plan.{InPlanFrom}
 use Rattle.gfx_schedule.specs.Rising.{AreRising}
-use Rattle.gfx_schedule.specs.Schedule.{ShowsWanted, IsShown, KeepsWorld, EverySchedule}
-use Rattle.gfx_schedule.specs.ServerEnd.{ServerEnd, is_none, queued, can_send, due, sends, bytes_sent, with_sent, first_frame}
+use Rattle.gfx_schedule.specs.Schedule.{ShowsWanted, wanted_at, IsShownFrom, KeepsWorldFrom, EverySchedule, EveryScheduleFrom}
+use Rattle.gfx_schedule.specs.Starts.{MayStart, Start, from_nothing}
+use Rattle.gfx_schedule.specs.ServerEnd.{ServerEnd, server_end_from, is_none, queued, can_send, due, sends, bytes_sent, with_sent, first_frame}
 use Rattle.gfx_schedule.specs.Words.{said, IsWord, holding, tell, tells, TakesAll, IsListening}
-use Rattle.gfx_schedule.specs.World.{World, Acknowledged, acknowledgements, begin, server_turns, client_takes, server_heard, happens, world}
-use Rattle.gfx_schedule.proofs.Confirming.{confirms, tell_offers, version_fits}
+use Rattle.gfx_schedule.specs.World.{World, Acknowledged, acknowledgements, greeting, begin_from, server_turns, client_takes, server_heard, happens, world_from}
+use Rattle.gfx_schedule.proofs.Confirming.{Confirms, confirms, tell_offers, version_fits}
 use Rattle.gfx_schedule.proofs.Flights.{frames_of-append, end_states-frames, Flight, pair_of, Downward, draws, follows, Extends}
 use Rattle.gfx_schedule.proofs.Items.{length-numbered}
 use Rattle.gfx_schedule.proofs.Keeping.{word_in, replies_said, said-append, word_of, words_of, FitsWord, words_carried, having, HasFlying, tells_all, takes_all}
@@ -51,21 +58,35 @@ use Rattle.gfx_schedule.proofs.Lists.{nil_parts, splits, rises_on, rises_first, 
 use Rattle.gfx_schedule.proofs.Planning.{queues, ahead, joins, goes, flight_of, extends, decoded_fits}
 use Rattle.gfx_schedule.proofs.Words.{words_are_heard_in_pieces}
 
+-- what every session needs of its start: the relation of its two ends there is one that messages keep, and the
+-- confirmation of a version keeps it too
+pub record Begins (R : State → State → Type 0) (start : Start) (script : Script) : Type 0 where
+  pub good : IsAcceptedFrom start.held script
+  pub may : MayStart script start
+  pub alike : StepsAlike R
+  pub related : R start.server.state start.client
+  pub greets : start.confirmed ≡ false → (c : Confirms script) → (client : State) → R start.server.state client → Extends R client start.server.state (confirm c.chosen ∷ []) (λ last. [])
+
 -- what holds of a session -------------------------------------------------------------------------------------
 
 -- both ends right after a frame
-pub record IsFlight (script : Script) (kinded : List KindedStep) (flight : Flight) : Type 0 where
-  pub wider : Wider flight.server flight.client
-  pub shows : ShowsWanted flight.server (want script (take flight.sent_as.step kinded))
+pub record IsFlight (R : State → State → Type 0) (start : Start) (script : Script) (kinded : List KindedStep) (flight : Flight) : Type 0 where
+  pub related : R flight.server flight.client
+  pub shows : ShowsWanted flight.server (wanted_at start script kinded flight.sent_as.step)
   pub fits : FitsWord flight
 
 abbrev pub step_of : Flight → ℕ
 step_of flight = flight.sent_as.step
 
+-- the same of a frame that is acknowledged
+pub record IsSeen (R : State → State → Type 0) (start : Start) (script : Script) (kinded : List KindedStep) (ack : Acknowledged) : Type 0 where
+  pub related : R ack.server ack.client
+  pub shows : ShowsWanted ack.server (wanted_at start script kinded ack.step)
+
 -- before the version is confirmed nothing is sent; from then on the client speaks of the frames that it drew
-pub data Phase (script : Script) (end : ServerEnd) (drawn coming : List Flight) (words : List ClientPdu) : Type 0 where
-  Greeting : end.confirmed ≡ false → end.server ≡ at_start script.small → drawn ≡ [] → coming ≡ [] → words ≡ advertised script.offers ∷ [] → Phase script end drawn coming words
-  Going : end.confirmed ≡ true → words ≡ map word_of drawn → Phase script end drawn coming words
+pub data Phase (start : Start) (script : Script) (end : ServerEnd) (drawn coming : List Flight) (words : List ClientPdu) : Type 0 where
+  Greeting : (start.confirmed ≡ false) × (end.confirmed ≡ false) → end.server ≡ start.server → drawn ≡ [] → coming ≡ [] → words ≡ advertised script.offers ∷ [] → Phase start script end drawn coming words
+  Going : end.confirmed ≡ true → words ≡ map word_of drawn → Phase start script end drawn coming words
 
 -- the bytes on their way to the server's end are these messages
 pub record Upward (end : ServerEnd) (up : List ℕ) (words : List ClientPdu) : Type 0 where
@@ -74,35 +95,54 @@ pub record Upward (end : ServerEnd) (up : List ℕ) (words : List ClientPdu) : T
   pub bytes_are : end.heard ++ up ≡ said words
   pub carried : AllByRecursion IsWord words
 
-pub record Keeps (script : Script) (kinded : List KindedStep) (w : World) : Type 0 where
+pub record Keeps (R : State → State → Type 0) (start : Start) (script : Script) (kinded : List KindedStep) (w : World) : Type 0 where
+  pub started : w.start ≡ start.client
   pub gone : List KindedStep
   pub waiting : List KindedStep
-  pub plan : InPlan script kinded w.server gone waiting
+  pub plan : InPlanFrom start script kinded w.server gone waiting
   -- the frames that the client has drawn and the server's end has not seen acknowledged, and those to come
   pub drawn : List Flight
   pub coming : List Flight
   pub flying : HasFlying w.server (drawn ++ coming)
-  pub flights : AllByRecursion (IsFlight script kinded) (drawn ++ coming)
-  pub downward : Downward (run_of w.taken) w.down w.server.server.state coming
+  pub flights : AllByRecursion (IsFlight R start script kinded) (drawn ++ coming)
+  pub downward : Downward R (run_from w.start w.taken) w.down w.server.server.state coming
   pub words : List ClientPdu
   pub upward : Upward w.server w.up words
-  pub phase : Phase script w.server drawn coming words
+  pub phase : Phase start script w.server drawn coming words
   pub drawn_are : w.drawn ≡ map (λ (f : Flight). f.client) drawn
-  pub there : frames_of (history_of w.taken) ≡ map (λ (a : Acknowledged). (a.frame, a.client)) w.acks ++ map pair_of drawn
-  pub acks : AllByRecursion (IsShown script kinded) w.acks
+  pub there : frames_of (history_from w.start w.taken) ≡ map (λ (a : Acknowledged). (a.frame, a.client)) w.acks ++ map pair_of drawn
+  pub acks : AllByRecursion (IsSeen R start script kinded) w.acks
   pub size : w.server.window.size ≡ script.window
   pub window : length w.server.window.flying ≤ script.window
   pub rising : AreRising 0 (map (λ (a : Acknowledged). a.step) w.acks ++ map step_of (drawn ++ coming))
   pub within : AllByRecursion (λ step. step ≤ length gone) (map (λ (a : Acknowledged). a.step) w.acks ++ map step_of (drawn ++ coming))
 
--- and so the promise
-pub promised : (script : Script) (kinded : List KindedStep) (w : World) → Keeps script kinded w → KeepsWorld script kinded w
-promised script kinded w keeps = record {
+-- and so the promise, where the client's state is the server's but for limits that may be wider
+shown_wider : (start : Start) (script : Script) (kinded : List KindedStep) (acks : List Acknowledged) → AllByRecursion (IsSeen Wider start script kinded) acks → AllByRecursion (IsShownFrom start script kinded) acks
+shown_wider start script kinded [] all = tt
+shown_wider start script kinded (ack ∷ acks) all =
+    let w = all.0.related in
+    let is = all.0.shows in (
+      record {
+        same = Wider_same ack.server ack.client w;
+        server = is;
+        client = record {
+          shown = sym w.shown ∙ is.shown;
+          slots = sym w.slots ∙ is.slots;
+          tiles = λ key send found. ap (λ (records : Records). get records key) (sym w.records) ∙ is.tiles key send found;
+        };
+      },
+      shown_wider start script kinded acks all.1,
+    )
+
+pub promised : (start : Start) (script : Script) (kinded : List KindedStep) (w : World) → Keeps Wider start script kinded w → KeepsWorldFrom start script kinded w
+promised start script kinded w keeps = record {
+  started = keeps.started;
   client_goes_on = keeps.downward.inside.goes_on;
   server_goes_on = keeps.upward.goes_on;
   behind = map pair_of keeps.drawn;
   there = keeps.there;
-  shown = keeps.acks;
+  shown = shown_wider start script kinded w.acks keeps.acks;
   window = keeps.window;
   rising = rises_first 0 (map (λ (a : Acknowledged). a.step) w.acks) _ keeps.rising;
 }
@@ -110,39 +150,40 @@ promised script kinded w keeps = record {
 -- the client takes bytes -----------------------------------------------------------------------------------------
 
 -- it speaks of the frames that it draws
-speaks : (script : Script) (end : ServerEnd) (drawn now later : List Flight) (words : List ClientPdu) → Phase script end drawn (now ++ later) words → Phase script end (drawn ++ now) later (words ++ map word_of now)
-speaks script end drawn [] later words (Greeting unconfirmed start none_drawn none_coming are) =
-    Greeting unconfirmed start (append-nil drawn ∙ none_drawn) none_coming (append-nil words ∙ are)
-speaks script end drawn (flight ∷ now) later words (Greeting unconfirmed start none_drawn none_coming are) = absurd cc
-speaks script end drawn now later words (Going confirmed are) = Going confirmed (ap (λ z. z ++ map word_of now) are ∙ sym (map-append word_of drawn now))
+speaks : (start : Start) (script : Script) (end : ServerEnd) (drawn now later : List Flight) (words : List ClientPdu) → Phase start script end drawn (now ++ later) words → Phase start script end (drawn ++ now) later (words ++ map word_of now)
+speaks start script end drawn [] later words (Greeting unconfirmed at none_drawn none_coming are) =
+    Greeting unconfirmed at (append-nil drawn ∙ none_drawn) none_coming (append-nil words ∙ are)
+speaks start script end drawn (flight ∷ now) later words (Greeting unconfirmed at none_drawn none_coming are) = absurd cc
+speaks start script end drawn now later words (Going confirmed are) = Going confirmed (ap (λ z. z ++ map word_of now) are ∙ sym (map-append word_of drawn now))
 
-fits_of : (script : Script) (kinded : List KindedStep) (flights : List Flight) → AllByRecursion (IsFlight script kinded) flights → AllByRecursion FitsWord flights
-fits_of script kinded [] all = tt
-fits_of script kinded (flight ∷ flights) all = (all.0.fits, fits_of script kinded flights all.1)
+fits_of : (R : State → State → Type 0) (start : Start) (script : Script) (kinded : List KindedStep) (flights : List Flight) → AllByRecursion (IsFlight R start script kinded) flights → AllByRecursion FitsWord flights
+fits_of R start script kinded [] all = tt
+fits_of R start script kinded (flight ∷ flights) all = (all.0.fits, fits_of R start script kinded flights all.1)
 
 clients_of : (flights : List Flight) → map (λ (pair : ℕ × State). pair.1) (map pair_of flights) ≡ map (λ (f : Flight). f.client) flights
 clients_of [] = refl
 clients_of (flight ∷ flights) = ap (λ z. flight.client ∷ z) (clients_of flights)
 
-pub takes : (script : Script) (kinded : List KindedStep) (w : World) (bytes behind : List ℕ) → w.down ≡ bytes ++ behind → Keeps script kinded w → Keeps script kinded (client_takes w bytes behind)
+pub takes : (R : State → State → Type 0) (start : Start) (script : Script) (kinded : List KindedStep) (w : World) (bytes behind : List ℕ) → w.down ≡ bytes ++ behind → Keeps R start script kinded w → Keeps R start script kinded (client_takes w bytes behind)
 unfolding client_takes
-takes script kinded w bytes behind cut keeps =
-    let run : Run = run_of w.taken in
-    let d = draws run bytes behind w.server.server.state keeps.coming (subst (λ z. Downward run z w.server.server.state keeps.coming) cut keeps.downward) in
-    let ran : run_of (w.taken ++ bytes) ≡ eats run bytes = eats-append _ w.taken bytes in
+takes R start script kinded w bytes behind cut keeps =
+    let run : Run = run_from w.start w.taken in
+    let d = draws R run bytes behind w.server.server.state keeps.coming (subst (λ z. Downward R run z w.server.server.state keeps.coming) cut keeps.downward) in
+    let ran : run_from w.start (w.taken ++ bytes) ≡ eats run bytes = eats-append _ w.taken bytes in
     let all : keeps.drawn ++ keeps.coming ≡ (keeps.drawn ++ d.now) ++ d.later = ap (λ z. keeps.drawn ++ z) d.cut ∙ sym (append_assoc keeps.drawn d.now d.later) in
-    let fits = all_front FitsWord d.now d.later (all_behind FitsWord keeps.drawn _ (subst (AllByRecursion FitsWord) (ap (λ z. keeps.drawn ++ z) d.cut) (fits_of script kinded _ keeps.flights))) in
+    let fits = all_front FitsWord d.now d.later (all_behind FitsWord keeps.drawn _ (subst (AllByRecursion FitsWord) (ap (λ z. keeps.drawn ++ z) d.cut) (fits_of R start script kinded _ keeps.flights))) in
     let said_now : replies (history run bytes) ≡ said (map word_of d.now) = replies_said (history run bytes) ∙ ap (λ z. said (map word_in z)) d.drawn ∙ ap said (words_of d.now) in
     let states_now : ended run bytes ≡ map (λ (f : Flight). f.client) d.now = end_states-frames (history run bytes) ∙ ap (map (λ (pair : ℕ × State). pair.1)) d.drawn ∙ clients_of d.now in
     record {
+      started = keeps.started;
       gone = keeps.gone;
       waiting = keeps.waiting;
       plan = keeps.plan;
       drawn = keeps.drawn ++ d.now;
       coming = d.later;
       flying = subst (HasFlying w.server) all keeps.flying;
-      flights = subst (AllByRecursion (IsFlight script kinded)) all keeps.flights;
-      downward = subst (λ z. Downward z behind w.server.server.state d.later) (sym ran) d.downward;
+      flights = subst (AllByRecursion (IsFlight R start script kinded)) all keeps.flights;
+      downward = subst (λ z. Downward R z behind w.server.server.state d.later) (sym ran) d.downward;
       words = keeps.words ++ map word_of d.now;
       upward = record {
         goes_on = keeps.upward.goes_on;
@@ -150,10 +191,10 @@ takes script kinded w bytes behind cut keeps =
         bytes_are = sym (append_assoc w.server.heard w.up _) ∙ ap (λ z. z ++ replies (history run bytes)) keeps.upward.bytes_are ∙ ap (λ z. said keeps.words ++ z) said_now ∙ sym (said-append keeps.words (map word_of d.now));
         carried = all_both IsWord keeps.words (map word_of d.now) keeps.upward.carried (words_carried d.now fits);
       };
-      phase = speaks script w.server keeps.drawn d.now d.later keeps.words (subst (λ z. Phase script w.server keeps.drawn z keeps.words) d.cut keeps.phase);
+      phase = speaks start script w.server keeps.drawn d.now d.later keeps.words (subst (λ z. Phase start script w.server keeps.drawn z keeps.words) d.cut keeps.phase);
       drawn_are = ap (λ z. z ++ ended run bytes) keeps.drawn_are ∙ ap (λ z. map (λ (f : Flight). f.client) keeps.drawn ++ z) states_now ∙ sym (map-append (λ (f : Flight). f.client) keeps.drawn d.now);
       there =
-          ap frames_of (history-append _ w.taken bytes) ∙ frames_of-append (history_of w.taken) (history run bytes)
+          ap frames_of (history-append _ w.taken bytes) ∙ frames_of-append (history_from w.start w.taken) (history run bytes)
           ∙ ap (λ z. z ++ frames_of (history run bytes)) keeps.there ∙ ap (λ z. (map (λ (a : Acknowledged). (a.frame, a.client)) w.acks ++ map pair_of keeps.drawn) ++ z) d.drawn
           ∙ append_assoc (map (λ (a : Acknowledged). (a.frame, a.client)) w.acks) (map pair_of keeps.drawn) (map pair_of d.now)
           ∙ ap (λ z. map (λ (a : Acknowledged). (a.frame, a.client)) w.acks ++ z) (sym (map-append pair_of keeps.drawn d.now));
@@ -167,12 +208,13 @@ takes script kinded w bytes behind cut keeps =
 -- the server's end queues and sends ------------------------------------------------------------------------------
 
 -- nothing but what is queued changes
-pub queueing : (script : Script) (kinded : List KindedStep) (w : World) → Keeps script kinded w → Keeps script kinded (record w { server = queued w.server })
+pub queueing : (R : State → State → Type 0) (start : Start) (script : Script) (kinded : List KindedStep) (w : World) → Keeps R start script kinded w → Keeps R start script kinded (record w { server = queued w.server })
 unfolding queued
-queueing script kinded w keeps = record {
+queueing R start script kinded w keeps = record {
+  started = keeps.started;
   gone = keeps.gone;
   waiting = keeps.waiting ++ first_frame w.server.left;
-  plan = queues script kinded w.server keeps.gone keeps.waiting keeps.plan;
+  plan = queues start script kinded w.server keeps.gone keeps.waiting keeps.plan;
   drawn = keeps.drawn;
   coming = keeps.coming;
   flying = record { flying = keeps.flying.flying; ends = keeps.flying.ends };
@@ -190,8 +232,8 @@ queueing script kinded w keeps = record {
   within = keeps.within;
 }
   where
-    by : Phase script w.server keeps.drawn keeps.coming keeps.words → Phase script (queued w.server) keeps.drawn keeps.coming keeps.words
-    by (Greeting unconfirmed start none_drawn none_coming are) = Greeting unconfirmed start none_drawn none_coming are
+    by : Phase start script w.server keeps.drawn keeps.coming keeps.words → Phase start script (queued w.server) keeps.drawn keeps.coming keeps.words
+    by (Greeting unconfirmed at none_drawn none_coming are) = Greeting unconfirmed at none_drawn none_coming are
     by (Going confirmed are) = Going confirmed are
 
 -- what lets a frame go
@@ -215,9 +257,9 @@ may_go end can =
     record { confirmed = first.0; some = not_none end.window.pending second.0; room = ltb-true (length end.window.flying) end.window.size second.1 }
 
 -- once it goes, it goes on
-still_going : (script : Script) (old new : ServerEnd) (drawn coming more : List Flight) (words : List ClientPdu) → old.confirmed ≡ true → new.confirmed ≡ true → Phase script old drawn coming words → Phase script new drawn more words
-still_going script old new drawn coming more words was is (Greeting unconfirmed start none_drawn none_coming are) = absurd cc
-still_going script old new drawn coming more words was is (Going confirmed are) = Going is are
+still_going : (start : Start) (script : Script) (old new : ServerEnd) (drawn coming more : List Flight) (words : List ClientPdu) → old.confirmed ≡ true → new.confirmed ≡ true → Phase start script old drawn coming words → Phase start script new drawn more words
+still_going start script old new drawn coming more words was is (Greeting unconfirmed at none_drawn none_coming are) = absurd (let first : old.confirmed ≡ false = unconfirmed.1 in cc)
+still_going start script old new drawn coming more words was is (Going confirmed are) = Going is are
 
 -- the steps up to the last that was queued
 shown_front : (kinded gone waiting left : List KindedStep) (last : ℕ) → kinded ≡ gone ++ (waiting ++ left) → last ≡ length gone + length waiting → take last kinded ≡ gone ++ waiting
@@ -225,21 +267,31 @@ shown_front kinded gone waiting left last cut is =
     let count : last ≡ length (gone ++ waiting) = omega (arith, is, length-append gone waiting) in
     ap (λ n. take n kinded) count ∙ ap (take (length (gone ++ waiting))) (cut ∙ sym (append_assoc gone waiting left)) ∙ take-append_seam (gone ++ waiting) left
 
+-- the server's end shows what the steps up to a number want
+shows_front : (start : Start) (script : Script) (kinded : List KindedStep) (last : ℕ) (gone : List KindedStep) (server : Planned) (after : Held) → take last kinded ≡ gone → Holds script after server
+    → Agree server (want_from script start.wanted gone) → ShowsWanted server.state (wanted_at start script kinded last)
+shows_front start script kinded last gone server after is holds agrees =
+    subst (λ z. ShowsWanted server.state (want_from script start.wanted z)) (sym is) record {
+      shown = agrees.shown;
+      slots = agrees.slots;
+      tiles = subst (λ (p : Passes). HoldsLive p.live server.state.records) agrees.passes (has-records script.setting _ _ _ holds.tiles);
+    }
+
 -- a frame goes
-pub sending : (script : Script) (kinded : List KindedStep) (w : World) → IsAccepted script → Fits kinded script.steps → can_send w.server ≡ true → Keeps script kinded w
-    → Keeps script kinded (record w { server = with_sent w.server (after_frame script w.server.server (due script w.server)); down = w.down ++ sent (frame_of script w.server.server (due script w.server)) })
+pub sending : (R : State → State → Type 0) (start : Start) (script : Script) (kinded : List KindedStep) (w : World) → Begins R start script → Fits kinded script.steps → can_send w.server ≡ true → Keeps R start script kinded w
+    → Keeps R start script kinded (record w { server = with_sent w.server (after_frame script w.server.server (due script w.server)); down = w.down ++ sent (frame_of script w.server.server (due script w.server)) })
 unfolding with_sent
-sending script kinded w good fits can keeps =
+sending R start script kinded w good fits can keeps =
     let may = may_go w.server can in
     let end : ServerEnd = w.server in
     let plan = keeps.plan in
-    let next = ahead script kinded end keeps.gone keeps.waiting good fits plan in
-    let frame = joins script kinded end keeps.gone keeps.waiting good fits plan next in
+    let next = ahead start script kinded end keeps.gone keeps.waiting good.good fits plan in
+    let frame = joins start script kinded end keeps.gone keeps.waiting good.good fits plan next in
     let some : 0 < length keeps.waiting = omega (arith, may.some, ap length plan.pending, length-numbered (length keeps.gone + 1) keeps.waiting) in
     let server = after_frame script end.server (due script end) in
     let pdus : List Pdu = frame_of script end.server (due script end) in
     let more = λ (last : State). flight_of server end.last last ∷ [] in
-    let f = follows (run_of w.taken) w.down end.server.state server.state keeps.coming pdus more keeps.downward frame.carried (λ client wider. extends script end.server (due script end) next.after _ end.last client frame wider) in
+    let f = follows R (run_from w.start w.taken) w.down end.server.state server.state keeps.coming pdus more keeps.downward frame.carried (λ client related. extends R good.alike script end.server (due script end) next.after _ end.last client frame related) in
     let flight : Flight = flight_of server end.last f.last in
     let steps : List ℕ = map (λ (a : Acknowledged). a.step) w.acks ++ map step_of (keeps.drawn ++ keeps.coming) in
     let all : keeps.drawn ++ (keeps.coming ++ flight ∷ []) ≡ (keeps.drawn ++ keeps.coming) ++ flight ∷ [] = sym (append_assoc keeps.drawn keeps.coming (flight ∷ [])) in
@@ -249,27 +301,28 @@ sending script kinded w good fits can keeps =
     ∙ sym (append_assoc (map (λ (a : Acknowledged). a.step) w.acks) (map step_of (keeps.drawn ++ keeps.coming)) (end.last ∷ [])) in
     let shown_to : take end.last kinded ≡ gone = shown_front kinded keeps.gone keeps.waiting end.left end.last plan.cut plan.last in
     record {
+      started = keeps.started;
       gone = gone;
       waiting = [];
-      plan = goes script kinded end keeps.gone keeps.waiting plan next some frame;
+      plan = goes start script kinded end keeps.gone keeps.waiting plan next some frame;
       drawn = keeps.drawn;
       coming = keeps.coming ++ flight ∷ [];
       flying = record {
         flying = ap (λ z. z ++ flight.sent_as ∷ []) keeps.flying.flying ∙ sym (map-append (λ (f : Flight). f.sent_as) (keeps.drawn ++ keeps.coming) (flight ∷ [])) ∙ ap (map (λ (f : Flight). f.sent_as)) (sym all);
         ends = ap (λ z. z ++ server.state ∷ []) keeps.flying.ends ∙ sym (map-append (λ (f : Flight). f.server) (keeps.drawn ++ keeps.coming) (flight ∷ [])) ∙ ap (map (λ (f : Flight). f.server)) (sym all);
       };
-      flights = subst (AllByRecursion (IsFlight script kinded)) (sym all) (all_both (IsFlight script kinded) (keeps.drawn ++ keeps.coming) (flight ∷ []) keeps.flights (
+      flights = subst (AllByRecursion (IsFlight R start script kinded)) (sym all) (all_both (IsFlight R start script kinded) (keeps.drawn ++ keeps.coming) (flight ∷ []) keeps.flights (
         record {
-          wider = f.wider;
-          shows = record { shown = frame.agrees.shown ∙ ap (λ z. (want script z).shown) (sym shown_to); slots = frame.agrees.slots ∙ ap (λ z. (want script z).slots) (sym shown_to) };
-          fits = record { frame = omega (arith, frame.frames, plan.frames, next.few, good.few); decoded = subst (λ n. n < 2 ^ 32) f.wider.decoded (decoded_fits script end.server (due script end) next.after (want script (keeps.gone ++ keeps.waiting)) frame) };
+          related = f.related;
+          shows = shows_front start script kinded end.last gone server next.after shown_to frame.holds frame.agrees;
+          fits = record { frame = omega (arith, frame.frames, plan.frames, next.few, good.good.few); decoded = subst (λ n. n < 2 ^ 32) (good.alike.decoded server.state f.last f.related) (decoded_fits script end.server (due script end) next.after _ frame) };
         },
         tt,
       ));
       downward = f.downward;
       words = keeps.words;
       upward = record { goes_on = keeps.upward.goes_on; short = keeps.upward.short; bytes_are = keeps.upward.bytes_are; carried = keeps.upward.carried };
-      phase = still_going script end (with_sent end server) keeps.drawn keeps.coming (keeps.coming ++ flight ∷ []) keeps.words may.confirmed may.confirmed keeps.phase;
+      phase = still_going start script end (with_sent end server) keeps.drawn keeps.coming (keeps.coming ++ flight ∷ []) keeps.words may.confirmed may.confirmed keeps.phase;
       drawn_are = keeps.drawn_are;
       there = keeps.there;
       acks = keeps.acks;
@@ -295,33 +348,29 @@ sends_no script end can = (
   ap (λ b. cond b (sent (frame_of script end.server (due script end))) []) can,
 )
 
-pub serving : (script : Script) (kinded : List KindedStep) (w : World) → IsAccepted script → Fits kinded script.steps → Keeps script kinded w → Keeps script kinded (server_turns script w)
+pub serving : (R : State → State → Type 0) (start : Start) (script : Script) (kinded : List KindedStep) (w : World) → Begins R start script → Fits kinded script.steps → Keeps R start script kinded w → Keeps R start script kinded (server_turns script w)
 unfolding server_turns
-serving script kinded w good fits keeps =
+serving R start script kinded w good fits keeps =
     let ready : World = record w { server = queued w.server } in
-    let first = queueing script kinded w keeps in
+    let first = queueing R start script kinded w keeps in
     elim (cases_Bool (can_send ready.server)) [
       | inl can ↦
           let is = sends_yes script ready.server can in
-          subst (Keeps script kinded) (λ i. record w { server = sym is.0 i; down = w.down ++ sym is.1 i }) (sending script kinded ready good fits can first)
+          subst (Keeps R start script kinded) (λ i. record w { server = sym is.0 i; down = w.down ++ sym is.1 i }) (sending R start script kinded ready good fits can first)
       | inr can ↦
           let is = sends_no script ready.server can in
-          subst (Keeps script kinded) (λ i. record w { server = sym is.0 i; down = (sym (append-nil w.down) ∙ ap (λ z. w.down ++ z) (sym is.1)) i }) first
+          subst (Keeps R start script kinded) (λ i. record w { server = sym is.0 i; down = (sym (append-nil w.down) ∙ ap (λ z. w.down ++ z) (sym is.1)) i }) first
     ]
 
 -- the server's end takes bytes -------------------------------------------------------------------------------------
 
 -- it has taken some acknowledgements: what they say
-acked : (script : Script) (kinded : List KindedStep) (done : List Flight) (left : List State) → AllByRecursion (IsFlight script kinded) done
-    → AllByRecursion (IsShown script kinded) (acknowledgements (map (λ (f : Flight). f.sent_as) done) (map (λ (f : Flight). f.server) done) (map (λ (f : Flight). f.client) done ++ left))
-acked script kinded [] left all = tt
-acked script kinded (flight ∷ done) left all = (
-  record {
-    same = Wider_same flight.server flight.client all.0.wider;
-    server = all.0.shows;
-    client = record { shown = sym all.0.wider.shown ∙ all.0.shows.shown; slots = sym all.0.wider.slots ∙ all.0.shows.slots };
-  },
-  acked script kinded done left all.1,
+acked : (R : State → State → Type 0) (start : Start) (script : Script) (kinded : List KindedStep) (done : List Flight) (left : List State) → AllByRecursion (IsFlight R start script kinded) done
+    → AllByRecursion (IsSeen R start script kinded) (acknowledgements (map (λ (f : Flight). f.sent_as) done) (map (λ (f : Flight). f.server) done) (map (λ (f : Flight). f.client) done ++ left))
+acked R start script kinded [] left all = tt
+acked R start script kinded (flight ∷ done) left all = (
+  record { related = all.0.related; shows = all.0.shows },
+  acked R start script kinded done left all.1,
 )
 
 pairs_acked : (done : List Flight) (left : List State)
@@ -335,9 +384,9 @@ steps_acked [] left = refl
 steps_acked (flight ∷ done) left = ap (λ z. step_of flight ∷ z) (steps_acked done left)
 
 -- what a client says changes nothing of what is queued
-heard_plan : (script : Script) (kinded : List KindedStep) (end : ServerEnd) (gone waiting : List KindedStep) (flying : List Sent) (ends : List State) (held : List ℕ) (confirmed : Bool) → InPlan script kinded end gone waiting
-    → InPlan script kinded (record end { window = record end.window { flying = flying }; ends = ends; heard = held; confirmed = confirmed }) gone waiting
-heard_plan script kinded end gone waiting flying ends held confirmed plan =
+heard_plan : (start : Start) (script : Script) (kinded : List KindedStep) (end : ServerEnd) (gone waiting : List KindedStep) (flying : List Sent) (ends : List State) (held : List ℕ) (confirmed : Bool) → InPlanFrom start script kinded end gone waiting
+    → InPlanFrom start script kinded (record end { window = record end.window { flying = flying }; ends = ends; heard = held; confirmed = confirmed }) gone waiting
+heard_plan start script kinded end gone waiting flying ends held confirmed plan =
     record { cut = plan.cut; last = plan.last; pending = plan.pending; held = plan.held; checked = plan.checked; holds = plan.holds; agrees = plan.agrees; frame = plan.frame; frames = plan.frames }
 
 -- what is held of a message that isn't whole is read by none
@@ -354,9 +403,9 @@ pub record HearsFrames (script : Script) (w : World) (drawn coming : List Flight
   pub is : hears script (listening w.server) bytes ≡ holding (having (holding (listening w.server) []) now (later ++ coming)) held
   pub listens : IsListening script (hears script (listening w.server) bytes) behind (map word_of later)
 
-pub frames_heard : (script : Script) (kinded : List KindedStep) (w : World) (bytes behind : List ℕ) → w.up ≡ bytes ++ behind → (keeps : Keeps script kinded w) → keeps.words ≡ map word_of keeps.drawn
+pub frames_heard : (R : State → State → Type 0) (start : Start) (script : Script) (kinded : List KindedStep) (w : World) (bytes behind : List ℕ) → w.up ≡ bytes ++ behind → (keeps : Keeps R start script kinded w) → keeps.words ≡ map word_of keeps.drawn
     → HearsFrames script w keeps.drawn keeps.coming bytes behind
-frames_heard script kinded w bytes behind cut keeps are =
+frames_heard R start script kinded w bytes behind cut keeps are =
     let end : ServerEnd = w.server in
     let taken = subst (TakesAll script (listening end)) (sym are) (takes_all script (listening end) keeps.drawn keeps.coming keeps.upward.goes_on keeps.flying) in
     let h = words_are_heard_in_pieces script (listening end) bytes behind keeps.words (record {
@@ -380,17 +429,17 @@ frames_heard script kinded w bytes behind cut keeps are =
       listens = subst (IsListening script (hears script (listening end) bytes) behind) (sym s.second_is) h.listens;
     }
 
-hears_frames : (script : Script) (kinded : List KindedStep) (w : World) (bytes behind : List ℕ) → w.up ≡ bytes ++ behind → (keeps : Keeps script kinded w) → w.server.confirmed ≡ true → keeps.words ≡ map word_of keeps.drawn
-    → Keeps script kinded (server_heard w (hears script (listening w.server) bytes) behind)
+hears_frames : (R : State → State → Type 0) (start : Start) (script : Script) (kinded : List KindedStep) (w : World) (bytes behind : List ℕ) → w.up ≡ bytes ++ behind → (keeps : Keeps R start script kinded w) → w.server.confirmed ≡ true → keeps.words ≡ map word_of keeps.drawn
+    → Keeps R start script kinded (server_heard w (hears script (listening w.server) bytes) behind)
 unfolding server_heard
-hears_frames script kinded w bytes behind cut keeps confirmed are =
+hears_frames R start script kinded w bytes behind cut keeps confirmed are =
     let end : ServerEnd = w.server in
-    let s = frames_heard script kinded w bytes behind cut keeps are in
+    let s = frames_heard R start script kinded w bytes behind cut keeps are in
     let now : List Flight = s.now in
     let later : List Flight = s.later in
     let all : keeps.drawn ++ keeps.coming ≡ now ++ (later ++ keeps.coming) = ap (λ z. z ++ keeps.coming) s.cut ∙ append_assoc now later keeps.coming in
     let flying = subst (HasFlying end) all keeps.flying in
-    let flights = subst (AllByRecursion (IsFlight script kinded)) all keeps.flights in
+    let flights = subst (AllByRecursion (IsFlight R start script kinded)) all keeps.flights in
     let is = s.is in
     let listens = subst (λ z. IsListening script z behind (map word_of later)) is s.listens in
     let clients : w.drawn ≡ map (λ (f : Flight). f.client) now ++ map (λ (f : Flight). f.client) later = keeps.drawn_are ∙ ap (map (λ (f : Flight). f.client)) s.cut ∙ map-append (λ (f : Flight). f.client) now later in
@@ -410,15 +459,16 @@ hears_frames script kinded w bytes behind cut keeps confirmed are =
     ap (λ n. drop n w.drawn) (sym count) ∙ ap (drop (length (map (λ (f : Flight). f.client) now))) clients ∙ drop-append_seam (map (λ (f : Flight). f.client) now) (map (λ (f : Flight). f.client) later) in
     let fewer : length (map (λ (f : Flight). f.sent_as) (later ++ keeps.coming)) ≤ length end.window.flying =
     omega (arith, ap length flying.flying, length-map (later ++ keeps.coming) (λ (f : Flight). f.sent_as), length-map (now ++ (later ++ keeps.coming)) (λ (f : Flight). f.sent_as), length-append now (later ++ keeps.coming)) in
-    subst (λ z. Keeps script kinded (server_heard w z behind)) (sym is) record {
+    subst (λ z. Keeps R start script kinded (server_heard w z behind)) (sym is) record {
+      started = keeps.started;
       gone = keeps.gone;
       waiting = keeps.waiting;
-      plan = heard_plan script kinded end keeps.gone keeps.waiting (map (λ (f : Flight). f.sent_as) (later ++ keeps.coming)) (map (λ (f : Flight). f.server) (later ++ keeps.coming)) s.held end.confirmed keeps.plan;
+      plan = heard_plan start script kinded end keeps.gone keeps.waiting (map (λ (f : Flight). f.sent_as) (later ++ keeps.coming)) (map (λ (f : Flight). f.server) (later ++ keeps.coming)) s.held end.confirmed keeps.plan;
       drawn = later;
       coming = keeps.coming;
       flying = record { flying = refl; ends = refl };
-      flights = all_behind (IsFlight script kinded) now (later ++ keeps.coming) flights;
-      downward = subst (λ z. Downward (run_of w.taken) z end.server.state keeps.coming) (sym (append-nil w.down)) keeps.downward;
+      flights = all_behind (IsFlight R start script kinded) now (later ++ keeps.coming) flights;
+      downward = subst (λ z. Downward R (run_from w.start w.taken) z end.server.state keeps.coming) (sym (append-nil w.down)) keeps.downward;
       words = map word_of later;
       upward = record { goes_on = listens.goes_on; short = listens.short; bytes_are = listens.bytes_are; carried = listens.carried };
       phase = Going confirmed refl;
@@ -426,7 +476,7 @@ hears_frames script kinded w bytes behind cut keeps confirmed are =
       there =
           keeps.there ∙ ap (λ z. map (λ (a : Acknowledged). (a.frame, a.client)) w.acks ++ map pair_of z) s.cut ∙ ap (λ z. map (λ (a : Acknowledged). (a.frame, a.client)) w.acks ++ z) (map-append pair_of now later)
           ∙ sym (append_assoc (map (λ (a : Acknowledged). (a.frame, a.client)) w.acks) (map pair_of now) (map pair_of later)) ∙ ap (λ z. z ++ map pair_of later) (sym pairs);
-      acks = all_both (IsShown script kinded) w.acks acks keeps.acks (subst (AllByRecursion (IsShown script kinded)) (sym acks_are) (acked script kinded now _ (all_front (IsFlight script kinded) now _ flights)));
+      acks = all_both (IsSeen R start script kinded) w.acks acks keeps.acks (subst (AllByRecursion (IsSeen R start script kinded)) (sym acks_are) (acked R start script kinded now _ (all_front (IsFlight R start script kinded) now _ flights)));
       size = keeps.size;
       window = omega (arith, fewer, keeps.window);
       rising = subst (AreRising 0) steps_are keeps.rising;
@@ -453,11 +503,11 @@ pub record HearsOffers (script : Script) (w : World) (bytes behind : List ℕ) :
   pub offered : Offered script w (hears script (listening w.server) bytes) left
   pub listens : IsListening script (hears script (listening w.server) bytes) behind left
 
-pub offers_heard : (script : Script) (kinded : List KindedStep) (w : World) (bytes behind : List ℕ) → IsAccepted script → w.up ≡ bytes ++ behind → (keeps : Keeps script kinded w) → keeps.words ≡ advertised script.offers ∷ []
+pub offers_heard : (R : State → State → Type 0) (start : Start) (script : Script) (kinded : List KindedStep) (w : World) (bytes behind : List ℕ) → Begins R start script → w.up ≡ bytes ++ behind → (keeps : Keeps R start script kinded w) → keeps.words ≡ advertised script.offers ∷ []
     → HearsOffers script w bytes behind
-offers_heard script kinded w bytes behind good cut keeps are =
+offers_heard R start script kinded w bytes behind good cut keeps are =
     let end : ServerEnd = w.server in
-    let c = confirms script good in
+    let c = confirms script start.held good.good in
     let told_is = tell_offers script (listening end) c in
     let taken : TakesAll script (listening end) (advertised script.offers ∷ []) = (ap (λ z. z.end.stopped) told_is ∙ keeps.upward.goes_on, tt) in
     let h = words_are_heard_in_pieces script (listening end) bytes behind keeps.words (record {
@@ -469,80 +519,82 @@ offers_heard script kinded w bytes behind good cut keeps are =
     }) in
     record { left = h.left; offered = offered script w (hears script (listening end) bytes) h.held h.done h.left (sym are ∙ h.cut) h.is; listens = h.listens }
 
-hears_offers : (script : Script) (kinded : List KindedStep) (w : World) (bytes behind : List ℕ) → IsAccepted script → w.up ≡ bytes ++ behind → (keeps : Keeps script kinded w) → w.server.confirmed ≡ false → w.server.server ≡ at_start script.small
-    → keeps.drawn ≡ [] → keeps.coming ≡ [] → keeps.words ≡ advertised script.offers ∷ [] → Keeps script kinded (server_heard w (hears script (listening w.server) bytes) behind)
+hears_offers : (R : State → State → Type 0) (start : Start) (script : Script) (kinded : List KindedStep) (w : World) (bytes behind : List ℕ) → Begins R start script → w.up ≡ bytes ++ behind → (keeps : Keeps R start script kinded w) → (start.confirmed ≡ false) × (w.server.confirmed ≡ false) → w.server.server ≡ start.server
+    → keeps.drawn ≡ [] → keeps.coming ≡ [] → keeps.words ≡ advertised script.offers ∷ [] → Keeps R start script kinded (server_heard w (hears script (listening w.server) bytes) behind)
 unfolding server_heard
-hears_offers script kinded w bytes behind good cut keeps unconfirmed start none_drawn none_coming are =
-    let h = offers_heard script kinded w bytes behind good cut keeps are in
+hears_offers R start script kinded w bytes behind good cut keeps unconfirmed at none_drawn none_coming are =
+    let h = offers_heard R start script kinded w bytes behind good cut keeps are in
     by h.left h.offered (λ heard is. subst (λ z. IsListening script z behind h.left) is h.listens)
   where
     by : (left : List ClientPdu) → Offered script w (hears script (listening w.server) bytes) left → ((heard : Heard) → hears script (listening w.server) bytes ≡ heard → IsListening script heard behind left)
-        → Keeps script kinded (server_heard w (hears script (listening w.server) bytes) behind)
+        → Keeps R start script kinded (server_heard w (hears script (listening w.server) bytes) behind)
     by left (NotYet held is left_is) kept =
         let listens = kept (holding (listening w.server) held) is in
-        subst (λ z. Keeps script kinded (server_heard w z behind)) (sym is) record {
+        subst (λ z. Keeps R start script kinded (server_heard w z behind)) (sym is) record {
+          started = keeps.started;
           gone = keeps.gone;
           waiting = keeps.waiting;
-          plan = heard_plan script kinded w.server keeps.gone keeps.waiting w.server.window.flying w.server.ends held w.server.confirmed keeps.plan;
+          plan = heard_plan start script kinded w.server keeps.gone keeps.waiting w.server.window.flying w.server.ends held w.server.confirmed keeps.plan;
           drawn = keeps.drawn;
           coming = keeps.coming;
           flying = record { flying = keeps.flying.flying; ends = keeps.flying.ends };
           flights = keeps.flights;
-          downward = subst (λ z. Downward (run_of w.taken) z w.server.server.state keeps.coming) (sym (append-nil w.down)) keeps.downward;
+          downward = subst (λ z. Downward R (run_from w.start w.taken) z w.server.server.state keeps.coming) (sym (append-nil w.down)) keeps.downward;
           words = left;
           upward = record { goes_on = listens.goes_on; short = listens.short; bytes_are = listens.bytes_are; carried = listens.carried };
-          phase = Greeting unconfirmed start none_drawn none_coming left_is;
+          phase = Greeting unconfirmed at none_drawn none_coming left_is;
           drawn_are = keeps.drawn_are;
           there = keeps.there ∙ ap (λ z. map (λ (a : Acknowledged). (a.frame, a.client)) z ++ map pair_of keeps.drawn) (sym (append-nil w.acks));
-          acks = subst (AllByRecursion (IsShown script kinded)) (sym (append-nil w.acks)) keeps.acks;
+          acks = subst (AllByRecursion (IsSeen R start script kinded)) (sym (append-nil w.acks)) keeps.acks;
           size = keeps.size;
           window = keeps.window;
           rising = subst (λ z. AreRising 0 (map (λ (a : Acknowledged). a.step) z ++ map step_of (keeps.drawn ++ keeps.coming))) (sym (append-nil w.acks)) keeps.rising;
           within = subst (λ z. AllByRecursion (λ step. step ≤ length keeps.gone) (map (λ (a : Acknowledged). a.step) z ++ map step_of (keeps.drawn ++ keeps.coming))) (sym (append-nil w.acks)) keeps.within;
         }
     by left (Now held is left_is) kept =
-        let c = confirms script good in
+        let c = confirms script start.held good.good in
         let told_is = tell_offers script (listening w.server) c in
         let is_now = is ∙ ap (λ z. holding z held) told_is in
         let listens = kept _ is_now in
-        let at : w.server.server.state ≡ started script.small = ap (λ z. z.state) start in
-        let f = follows (run_of w.taken) w.down w.server.server.state w.server.server.state keeps.coming (confirm c.chosen ∷ []) (λ last. []) keeps.downward (c.carried, tt)
-        (λ client wider. subst (λ z. Extends client z (confirm c.chosen ∷ []) (λ last. [])) (sym at) (c.extends client (subst (λ z. Wider z client) at wider))) in
-        subst (λ z. Keeps script kinded (server_heard w z behind)) (sym is_now) record {
+        let state_is : w.server.server.state ≡ start.server.state = ap (λ z. z.state) at in
+        let f = follows R (run_from w.start w.taken) w.down w.server.server.state w.server.server.state keeps.coming (confirm c.chosen ∷ []) (λ last. []) keeps.downward (c.carried, tt)
+        (λ client related. subst (λ z. Extends R client z (confirm c.chosen ∷ []) (λ last. [])) (sym state_is) (good.greets unconfirmed.0 c client (subst (λ z. R z client) state_is related))) in
+        subst (λ z. Keeps R start script kinded (server_heard w z behind)) (sym is_now) record {
+          started = keeps.started;
           gone = keeps.gone;
           waiting = keeps.waiting;
-          plan = heard_plan script kinded w.server keeps.gone keeps.waiting w.server.window.flying w.server.ends held true keeps.plan;
+          plan = heard_plan start script kinded w.server keeps.gone keeps.waiting w.server.window.flying w.server.ends held true keeps.plan;
           drawn = keeps.drawn;
           coming = keeps.coming;
           flying = record { flying = keeps.flying.flying; ends = keeps.flying.ends };
           flights = keeps.flights;
-          downward = subst (Downward (run_of w.taken) (w.down ++ sent (confirm c.chosen ∷ [])) w.server.server.state) (append-nil keeps.coming) f.downward;
+          downward = subst (Downward R (run_from w.start w.taken) (w.down ++ sent (confirm c.chosen ∷ [])) w.server.server.state) (append-nil keeps.coming) f.downward;
           words = left;
           upward = record { goes_on = listens.goes_on; short = listens.short; bytes_are = listens.bytes_are; carried = listens.carried };
           phase = Going refl (left_is ∙ sym (ap (map word_of) none_drawn));
           drawn_are = keeps.drawn_are;
           there = keeps.there ∙ ap (λ z. map (λ (a : Acknowledged). (a.frame, a.client)) z ++ map pair_of keeps.drawn) (sym (append-nil w.acks));
-          acks = subst (AllByRecursion (IsShown script kinded)) (sym (append-nil w.acks)) keeps.acks;
+          acks = subst (AllByRecursion (IsSeen R start script kinded)) (sym (append-nil w.acks)) keeps.acks;
           size = keeps.size;
           window = keeps.window;
           rising = subst (λ z. AreRising 0 (map (λ (a : Acknowledged). a.step) z ++ map step_of (keeps.drawn ++ keeps.coming))) (sym (append-nil w.acks)) keeps.rising;
           within = subst (λ z. AllByRecursion (λ step. step ≤ length keeps.gone) (map (λ (a : Acknowledged). a.step) z ++ map step_of (keeps.drawn ++ keeps.coming))) (sym (append-nil w.acks)) keeps.within;
         }
 
-pub hearing : (script : Script) (kinded : List KindedStep) (w : World) (bytes behind : List ℕ) → IsAccepted script → w.up ≡ bytes ++ behind → Keeps script kinded w → Keeps script kinded (server_heard w (hears script (listening w.server) bytes) behind)
-hearing script kinded w bytes behind good cut keeps = by keeps.phase
+pub hearing : (R : State → State → Type 0) (start : Start) (script : Script) (kinded : List KindedStep) (w : World) (bytes behind : List ℕ) → Begins R start script → w.up ≡ bytes ++ behind → Keeps R start script kinded w → Keeps R start script kinded (server_heard w (hears script (listening w.server) bytes) behind)
+hearing R start script kinded w bytes behind good cut keeps = by keeps.phase
   where
-    by : Phase script w.server keeps.drawn keeps.coming keeps.words → Keeps script kinded (server_heard w (hears script (listening w.server) bytes) behind)
-    by (Greeting unconfirmed start none_drawn none_coming are) = hears_offers script kinded w bytes behind good cut keeps unconfirmed start none_drawn none_coming are
-    by (Going confirmed are) = hears_frames script kinded w bytes behind cut keeps confirmed are
+    by : Phase start script w.server keeps.drawn keeps.coming keeps.words → Keeps R start script kinded (server_heard w (hears script (listening w.server) bytes) behind)
+    by (Greeting unconfirmed at none_drawn none_coming are) = hears_offers R start script kinded w bytes behind good cut keeps unconfirmed at none_drawn none_coming are
+    by (Going confirmed are) = hears_frames R start script kinded w bytes behind cut keeps confirmed are
 
 -- all turns ---------------------------------------------------------------------------------------------------------
 
-pub turning : (script : Script) (kinded : List KindedStep) (w : World) (turn : Turn) → IsAccepted script → Fits kinded script.steps → Keeps script kinded w → Keeps script kinded (happens script w turn)
+pub turning : (R : State → State → Type 0) (start : Start) (script : Script) (kinded : List KindedStep) (w : World) (turn : Turn) → Begins R start script → Fits kinded script.steps → Keeps R start script kinded w → Keeps R start script kinded (happens script w turn)
 unfolding happens
-turning script kinded w Server good fits keeps = serving script kinded w good fits keeps
-turning script kinded w (Client most) good fits keeps = takes script kinded w (take most w.down) (drop most w.down) (sym (take-append-drop most w.down)) keeps
-turning script kinded w (Answer most) good fits keeps = hearing script kinded w (take most w.up) (drop most w.up) good (sym (take-append-drop most w.up)) keeps
+turning R start script kinded w Server good fits keeps = serving R start script kinded w good fits keeps
+turning R start script kinded w (Client most) good fits keeps = takes R start script kinded w (take most w.down) (drop most w.down) (sym (take-append-drop most w.down)) keeps
+turning R start script kinded w (Answer most) good fits keeps = hearing R start script kinded w (take most w.up) (drop most w.up) good (sym (take-append-drop most w.up)) keeps
 
 versions_fit : (offers : List Offer) → AllByRecursion IsOffer offers → AllByRecursion (λ (offer : Offer). offer.version < 2 ^ 32) offers
 versions_fit [] all = tt
@@ -552,21 +604,41 @@ held_through-start : (held : Held) → held_through held [] ≡ Ok held
 unfolding held_through
 held_through-start held = refl
 
-pub beginning : (script : Script) (kinded : List KindedStep) → IsAccepted script → Fits kinded script.steps → Keeps script kinded (begin script kinded)
-beginning script kinded good fits =
+-- what the client says first, where no version is confirmed
+abbrev words_first : Bool → Script → List ClientPdu
+words_first confirmed script = if confirmed then [] else advertised script.offers ∷ []
+
+first_upward : (end : ServerEnd) (confirmed : Bool) (script : Script) (held : Held) → IsAcceptedFrom held script → end.stopped ≡ None → end.heard ≡ [] → Upward end (greeting confirmed script) (words_first confirmed script)
+first_upward end true script held good goes_on none =
+    record { goes_on = goes_on; short = ap front none ∙ front-nil; bytes_are = ap (λ z. z ++ []) none; carried = tt }
+first_upward end false script held good goes_on none = record {
+  goes_on = goes_on;
+  short = ap front none ∙ front-nil;
+  bytes_are = ap (λ z. z ++ alone (advertised script.offers)) none ∙ sym (append-nil (alone (advertised script.offers)));
+  carried = (λ more. hello_read script.offers more (omega (arith, good.few_offers)) (versions_fit script.offers good.offers), tt);
+}
+
+first_phase : (start : Start) (script : Script) (kinded : List KindedStep) (confirmed : Bool) → start.confirmed ≡ confirmed → Phase start script (server_end_from start script kinded) [] [] (words_first confirmed script)
+first_phase start script kinded true is = Going is refl
+first_phase start script kinded false is = Greeting (is, is) refl refl refl refl
+
+pub beginning : (R : State → State → Type 0) (start : Start) (script : Script) (kinded : List KindedStep) → Begins R start script → Fits kinded script.steps → Keeps R start script kinded (begin_from start script kinded)
+beginning R start script kinded good fits =
+    let run : Run = begun_from start.client in
     record {
+      started = refl;
       gone = [];
       waiting = [];
       plan = record {
         cut = refl;
         last = refl;
         pending = refl;
-        held = first_held script;
-        checked = held_through-start (first_held script);
-        holds = (stands_at_start script good).holds;
-        agrees = (stands_at_start script good).agrees;
-        frame = refl;
-        frames = omega arith;
+        held = start.held;
+        checked = held_through-start start.held;
+        holds = good.may.holds;
+        agrees = good.may.agrees;
+        frame = good.may.closed;
+        frames = omega (arith, good.may.frames);
       };
       drawn = [];
       coming = [];
@@ -574,21 +646,22 @@ beginning script kinded good fits =
       flights = tt;
       downward = record {
         todo = [];
-        last = fresh;
-        inside = record { goes_on = ap (λ z. z.refusal) (eats-nil begun); short = ap (λ z. front z.rest) (eats-nil begun) ∙ front-nil; bytes_are = ap (λ z. z.rest ++ []) (eats-nil begun) ∙ sym sent-nil; carried = tt; accepted = ap (λ z. all_steps z.state []) (eats-nil begun) ∙ all_steps-none fresh };
-        wider = started_fresh script.small;
-        frames = ap frames_of (nothing (run_of []).state);
+        last = start.client;
+        inside = record {
+          goes_on = ap (λ z. z.refusal) (eats-nil run);
+          short = ap (λ z. front z.rest) (eats-nil run) ∙ front-nil;
+          bytes_are = ap (λ z. z.rest ++ []) (eats-nil run) ∙ sym sent-nil;
+          carried = tt;
+          accepted = ap (λ z. all_steps z.state []) (eats-nil run) ∙ all_steps-none start.client;
+        };
+        related = good.related;
+        frames = ap frames_of (nothing (run_from start.client []).state);
       };
-      words = advertised script.offers ∷ [];
-      upward = record {
-        goes_on = refl;
-        short = front-nil;
-        bytes_are = sym (append-nil (alone (advertised script.offers)));
-        carried = (λ more. hello_read script.offers more (omega (arith, good.few_offers)) (versions_fit script.offers good.offers), tt);
-      };
-      phase = Greeting refl refl refl refl refl;
+      words = words_first start.confirmed script;
+      upward = first_upward (server_end_from start script kinded) start.confirmed script start.held good.good refl refl;
+      phase = first_phase start script kinded start.confirmed refl;
       drawn_are = refl;
-      there = ap frames_of (history-nil begun);
+      there = ap frames_of (history-nil run);
       acks = tt;
       size = refl;
       window = omega arith;
@@ -596,9 +669,43 @@ beginning script kinded good fits =
       within = tt;
     }
 
-pub all_turns : (script : Script) (kinded : List KindedStep) (w : World) (turns : List Turn) → IsAccepted script → Fits kinded script.steps → Keeps script kinded w → Keeps script kinded (fold (happens script) w turns)
-all_turns script kinded w [] good fits keeps = keeps
-all_turns script kinded w (turn ∷ turns) good fits keeps = all_turns script kinded (happens script w turn) turns good fits (turning script kinded w turn good fits keeps)
+pub all_turns : (R : State → State → Type 0) (start : Start) (script : Script) (kinded : List KindedStep) (w : World) (turns : List Turn) → Begins R start script → Fits kinded script.steps → Keeps R start script kinded w → Keeps R start script kinded (fold (happens script) w turns)
+all_turns R start script kinded w [] good fits keeps = keeps
+all_turns R start script kinded w (turn ∷ turns) good fits keeps = all_turns R start script kinded (happens script w turn) turns good fits (turning R start script kinded w turn good fits keeps)
+
+-- from any start
+pub keeps_from : (R : State → State → Type 0) (start : Start) (script : Script) (kinded : List KindedStep) (turns : List Turn) → Begins R start script → Fits kinded script.steps
+    → Keeps R start script kinded (world_from start script kinded turns)
+keeps_from R start script kinded turns good fits = all_turns R start script kinded (begin_from start script kinded) turns good fits (beginning R start script kinded good fits)
+
+-- the relation of states whose limits may be wider is kept by the confirmation of a version, too
+pub begins_wider : (start : Start) (script : Script) → IsAcceptedFrom start.held script → MayStart script start → Wider start.server.state start.client → Begins Wider start script
+begins_wider start script good may wider = record {
+  good = good;
+  may = may;
+  alike = wider_alike;
+  related = wider;
+  greets = λ unconfirmed c client w.
+      let at : start.server.state ≡ started script.small = ap (λ z. z.state) (may.greets unconfirmed) in
+      subst (λ z. Extends Wider client z (confirm c.chosen ∷ []) (λ last. [])) (sym at) (c.extends client (subst (λ z. Wider z client) at w));
+}
+
+pub every_schedule_from : EveryScheduleFrom
+every_schedule_from start script kinded turns good fits may wider =
+    promised start script kinded (world_from start script kinded turns) (keeps_from Wider start script kinded turns (begins_wider start script good may wider) fits)
+
+-- nothing before is a start
+pub may_start : (script : Script) → IsAccepted script → MayStart script (from_nothing script)
+may_start script good = record {
+  holds = (stands_at_start script good).holds;
+  agrees = (stands_at_start script good).agrees;
+  closed = refl;
+  frames = refl;
+  greets = λ unconfirmed. refl;
+}
+
+pub begins : (script : Script) → IsAccepted script → Begins Wider (from_nothing script) script
+begins script good = begins_wider (from_nothing script) script good (may_start script good) (started_fresh script.small)
 
 pub every_schedule : EverySchedule
-every_schedule script kinded turns good fits = promised script kinded (world script kinded turns) (all_turns script kinded (begin script kinded) turns good fits (beginning script kinded good fits))
+every_schedule script kinded turns good fits = every_schedule_from (from_nothing script) script kinded turns good fits (may_start script good) (started_fresh script.small)

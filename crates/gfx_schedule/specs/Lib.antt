@@ -2,6 +2,7 @@ pub mod Rising
 pub mod Frames
 pub mod Leaving
 pub mod Pieces
+pub mod Starts
 pub mod ServerEnd
 pub mod Plan
 pub mod Hearing

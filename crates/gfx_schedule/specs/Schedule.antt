@@ -2,46 +2,70 @@
 -- project's own promise.
 use Rattle.std.specs.Prelude.{◌≡◌, ◌≤◌, ℕ, List, ◌++◌, ◌+◌, true, length, map, take, None}
 use Rattle.std.specs.List.{AllByRecursion}
-use Rattle.gfx_planner.specs.Want.{Wanted, want}
+use Rattle.gfx_planner.specs.Tiles.{HoldsLive}
+use Rattle.gfx_planner.specs.Want.{Wanted, want_from}
 use Rattle.gfx_script.specs.Kinds.{KindedStep, Fits}
-use Rattle.gfx_script.specs.Script.{IsAccepted}
+use Rattle.gfx_script.specs.Script.{IsAccepted, IsAcceptedFrom}
 use Rattle.gfx_script.specs.Scripted.{Script}
 use Rattle.gfx_script.specs.declared.turn.Turn.{Turn}
-use Rattle.gfx_state.specs.History.{history_of}
-use Rattle.gfx_state.specs.Run.{run_of}
-use Rattle.gfx_state.specs.Same.{Same}
+use Rattle.gfx_state.specs.History.{history_from}
+use Rattle.gfx_state.specs.Run.{run_from}
+use Rattle.gfx_state.specs.Same.{Same, Wider}
 use Rattle.gfx_state.specs.State.{State}
 use Rattle.gfx_schedule.specs.Frames.{frames_of}
 use Rattle.gfx_schedule.specs.Rising.{AreRising}
-use Rattle.gfx_schedule.specs.World.{World, Acknowledged, world, is_ended, drained}
+use Rattle.gfx_schedule.specs.Starts.{MayStart, Start, from_nothing}
+use Rattle.gfx_schedule.specs.World.{World, Acknowledged, world, world_from, is_ended, drained}
 
--- a state shows what is wanted: its surfaces, its output, what is mapped to it, and its slots
+-- a state shows what is wanted: its surfaces, its output, what is mapped to it, and its slots; and it has the records of
+-- the tiles that may be raised
 pub record ShowsWanted (state : State) (wanted : Wanted) : Type 0 where
   pub shown : state.shown ≡ wanted.shown
   pub slots : state.cache.slots ≡ wanted.slots
+  pub tiles : HoldsLive wanted.passes.live state.records
+
+-- what is wanted at a step of a script
+abbrev pub wanted_at : Start → Script → List KindedStep → ℕ → Wanted
+wanted_at start script kinded step = want_from script start.wanted (take step kinded)
 
 -- an acknowledged frame: the two ends were the same right after it, and both showed what the steps up to
 -- its recorded one want, with those that were left out
-pub record IsShown (script : Script) (kinded : List KindedStep) (ack : Acknowledged) : Type 0 where
+pub record IsShownFrom (start : Start) (script : Script) (kinded : List KindedStep) (ack : Acknowledged) : Type 0 where
   pub same : Same ack.server ack.client
-  pub server : ShowsWanted ack.server (want script (take ack.step kinded))
-  pub client : ShowsWanted ack.client (want script (take ack.step kinded))
+  pub server : ShowsWanted ack.server (wanted_at start script kinded ack.step)
+  pub client : ShowsWanted ack.client (wanted_at start script kinded ack.step)
 
-pub record KeepsWorld (script : Script) (kinded : List KindedStep) (w : World) : Type 0 where
+pub record KeepsWorldFrom (start : Start) (script : Script) (kinded : List KindedStep) (w : World) : Type 0 where
+  -- the client stands at the run of the bytes that it has taken, from its start
+  pub started : w.start ≡ start.client
   -- neither end refuses anything
-  pub client_goes_on : (run_of w.taken).refusal ≡ None
+  pub client_goes_on : (run_from w.start w.taken).refusal ≡ None
   pub server_goes_on : w.server.stopped ≡ None
   -- the acknowledged frames are the first that the client has ended, in order, with its states right after them
   pub behind : List (ℕ × State)
-  pub there : frames_of (history_of w.taken) ≡ map (λ ack. (ack.frame, ack.client)) w.acks ++ behind
+  pub there : frames_of (history_from w.start w.taken) ≡ map (λ ack. (ack.frame, ack.client)) w.acks ++ behind
   -- the two ends agree at each, and show the script
-  pub shown : AllByRecursion (IsShown script kinded) w.acks
+  pub shown : AllByRecursion (IsShownFrom start script kinded) w.acks
   -- the window is kept
   pub window : length w.server.window.flying ≤ script.window
   pub rising : AreRising 0 (map (λ ack. ack.step) w.acks)
 
--- so for every accepted script, whatever kinds its steps go as that they may go as, and after every list
--- of turns
+-- so from each start that a script may have, at which the client's state is the server's but for limits that may be
+-- wider; whatever kinds its steps go as that they may go as, and after every list of turns
+abbrev pub EveryScheduleFrom : Type 0
+EveryScheduleFrom =
+    (start : Start) (script : Script) (kinded : List KindedStep) (turns : List Turn) → IsAcceptedFrom start.held script → Fits kinded script.steps
+    → MayStart script start → Wider start.server.state start.client
+    → KeepsWorldFrom start script kinded (world_from start script kinded turns)
+
+-- the same of a session that starts from nothing
+abbrev pub IsShown : Script → List KindedStep → Acknowledged → Type 0
+IsShown script kinded ack = IsShownFrom (from_nothing script) script kinded ack
+
+abbrev pub KeepsWorld : Script → List KindedStep → World → Type 0
+KeepsWorld script kinded w = KeepsWorldFrom (from_nothing script) script kinded w
+
+-- so for every accepted script
 abbrev pub EverySchedule : Type 0
 EverySchedule = (script : Script) (kinded : List KindedStep) (turns : List Turn) → IsAccepted script → Fits kinded script.steps
     → KeepsWorld script kinded (world script kinded turns)

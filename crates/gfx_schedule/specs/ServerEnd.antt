@@ -1,9 +1,9 @@
 -- The server's end of a session: the steps that wait, the frames in flight, and what a turn does. How
 -- frames are joined, and which steps are left out of one, is this project's own rule.
-use Rattle.std.specs.Prelude.{ℕ, ◌+◌, Bool, false, ◌&&◌, not, ◌==◌, List, [], ◌∷◌, ◌++◌, length, Option, None, if◌then◌else◌}
+use Rattle.std.specs.Prelude.{ℕ, ◌+◌, Bool, ◌&&◌, not, ◌==◌, List, [], ◌∷◌, ◌++◌, length, Option, None, if◌then◌else◌}
 use Rattle.gfx_base.specs.declared.refusal.Refusal.{Refusal}
 use Rattle.gfx_planner.specs.Joined.{frame_of, after_frame}
-use Rattle.gfx_planner.specs.Wire.{Server, at_start}
+use Rattle.gfx_planner.specs.Wire.{Server}
 use Rattle.gfx_script.specs.Kinds.{KindedStep}
 use Rattle.gfx_script.specs.Script.{is_frame}
 use Rattle.gfx_script.specs.Scripted.{Script}
@@ -14,6 +14,7 @@ use Rattle.gfx_window.specs.declared.window.Queued.{Queued}
 use Rattle.gfx_window.specs.Window.{Window, with_pending, has_room}
 use Rattle.gfx_window.specs.Window.{sent as with_frame}
 use Rattle.gfx_schedule.specs.Leaving.{kept, steps_of}
+use Rattle.gfx_schedule.specs.Starts.{Start, from_nothing}
 
 -- why a server's end listens no more to its client
 pub data Stop : Type 0 where
@@ -40,17 +41,20 @@ pub record ServerEnd : Type 0 where
   pub stopped : Option Stop
 
 -- nothing is queued yet, of steps that go as these kinds
-abbrev pub server_at_start : Script → List KindedStep → ServerEnd
-server_at_start script kinded = record {
+abbrev pub server_end_from : Start → Script → List KindedStep → ServerEnd
+server_end_from start script kinded = record {
   left = kinded;
   last = 0;
   window = record { size = script.window; pending = []; flying = [] };
-  server = at_start script.small;
+  server = start.server;
   ends = [];
-  confirmed = false;
+  confirmed = start.confirmed;
   heard = [];
   stopped = None;
 }
+
+abbrev pub server_at_start : Script → List KindedStep → ServerEnd
+server_at_start script kinded = server_end_from (from_nothing script) script kinded
 
 -- the steps of the first script frame, up to and including the step of the word `frame`, and those behind it
 abbrev pub first_frame : List KindedStep → List KindedStep

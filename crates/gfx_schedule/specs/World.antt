@@ -10,13 +10,14 @@ use Rattle.gfx_script.specs.declared.turn.Turn.{Turn}
 use Rattle.gfx_script.specs.declared.turn.Turn.TheVariants.{Server, Client, Answer}
 use Rattle.gfx_segment.specs.Framing.{prefixed}
 use Rattle.gfx_state.specs.History.{history, ended}
-use Rattle.gfx_state.specs.Run.{run_of}
+use Rattle.gfx_state.specs.Run.{run_from}
 use Rattle.gfx_state.specs.State.{State}
 use Rattle.gfx_window.specs.declared.window.Sent.{Sent}
 use Rattle.gfx_schedule.specs.declared.turned.Turned.{Turned}
 use Rattle.gfx_schedule.specs.declared.turned.Turned.TheVariants.{Moved, Waiting, Ended}
-use Rattle.gfx_schedule.specs.ServerEnd.{ServerEnd, server_at_start, serves, serving, can_serve, has_served, is_none}
+use Rattle.gfx_schedule.specs.ServerEnd.{ServerEnd, server_end_from, serves, serving, can_serve, has_served, is_none}
 use Rattle.gfx_schedule.specs.Hearing.{Heard, listening, hears}
+use Rattle.gfx_schedule.specs.Starts.{Start, from_nothing}
 
 -- an acknowledgement that the server's end has taken: the frame, its recorded step, the server's state
 -- right after that frame was planned, and the client's right after it was drawn
@@ -33,26 +34,36 @@ acknowledgements (frame ∷ frames) (server ∷ servers) (client ∷ clients) =
 acknowledgements frames servers clients = []
 
 pub record World : Type 0 where
+  -- the client's state before the first byte
+  pub start : State
   pub server : ServerEnd
   -- the bytes in flight to the client, and to the server
   pub down : List ℕ
   pub up : List ℕ
-  -- the bytes that the client has taken: it is at their run
+  -- the bytes that the client has taken: it is at their run from its start
   pub taken : List ℕ
   -- the client's states right after the frames whose acknowledgements the server's end has not taken
   pub drawn : List State
   pub acks : List Acknowledged
 
--- the client says which versions it offers; nothing else has happened
-abbrev pub begin : Script → List KindedStep → World
-begin script kinded = record {
-  server = server_at_start script kinded;
+-- what a client says first: which versions it offers, where none is confirmed yet
+abbrev pub greeting : Bool → Script → List ℕ
+greeting confirmed script = if confirmed then [] else prefixed (spelling (advertised script.offers))
+
+-- the client has said that; nothing else has happened
+abbrev pub begin_from : Start → Script → List KindedStep → World
+begin_from start script kinded = record {
+  start = start.client;
+  server = server_end_from start script kinded;
   down = [];
-  up = prefixed (spelling (advertised script.offers));
+  up = greeting start.confirmed script;
   taken = [];
   drawn = [];
   acks = [];
 }
+
+abbrev pub begin : Script → List KindedStep → World
+begin script kinded = begin_from (from_nothing script) script kinded
 
 -- the server's end queues and sends
 unfoldable pub server_turns : Script → World → World
@@ -62,9 +73,9 @@ server_turns script world = record world { server = serves script world.server; 
 unfoldable pub client_takes : World → List ℕ → List ℕ → World
 client_takes world bytes behind = record world {
   down = behind;
-  up = world.up ++ replies (history (run_of world.taken) bytes);
+  up = world.up ++ replies (history (run_from world.start world.taken) bytes);
   taken = world.taken ++ bytes;
-  drawn = world.drawn ++ ended (run_of world.taken) bytes;
+  drawn = world.drawn ++ ended (run_from world.start world.taken) bytes;
 }
 
 -- the server's end takes what it has made of these bytes
@@ -83,9 +94,13 @@ happens script world Server = server_turns script world
 happens script world (Client most) = client_takes world (take most world.down) (drop most world.down)
 happens script world (Answer most) = server_heard world (hears script (listening world.server) (take most world.up)) (drop most world.up)
 
--- the session of a script, whose steps go as these kinds, after these turns
+-- the session of a script from a start, whose steps go as these kinds, after these turns
+abbrev pub world_from : Start → Script → List KindedStep → List Turn → World
+world_from start script kinded turns = fold (happens script) (begin_from start script kinded) turns
+
+-- the same from nothing
 abbrev pub world : Script → List KindedStep → List Turn → World
-world script kinded turns = fold (happens script) (begin script kinded) turns
+world script kinded turns = world_from (from_nothing script) script kinded turns
 
 -- what is said of a turn ---------------------------------------------------------------------------
 

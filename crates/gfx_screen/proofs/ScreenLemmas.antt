@@ -1,5 +1,5 @@
 -- What each message does to the screen.
-use Rattle.std.proofs.Common.{◌≡◌, ◌∙◌, ℕ, Bool, true, false, Some, Result, Ok, Err, refl, sym, ap, subst}
+use Rattle.std.proofs.Common.{◌≡◌, ℕ, Bool, true, false, Some, Result, Ok, Err, refl, sym, subst}
 use Rattle.std.specs.Result.{is_ok}
 use Rattle.std.specs.FinMap.{contains_key, get}
 use Rattle.gfx_base.specs.Format.{format_of}

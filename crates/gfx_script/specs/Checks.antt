@@ -20,8 +20,8 @@ use Rattle.gfx_script.specs.declared.picture.Picture.{Picture}
 use Rattle.gfx_script.specs.declared.step.Kind.{Kind}
 use Rattle.gfx_script.specs.declared.step.Step.{Step}
 use Rattle.gfx_script.specs.declared.step.Step.TheVariants.{Surface, Delete, Reset, Map, Fill, Copy, Keep, Show, Forget, Paint, Improve, Frame}
-use Rattle.gfx_script.specs.Kinds.{is_clear}
 use Rattle.gfx_script.specs.Stock.{Stock, no_bitmaps, bitmap_kept, bitmap_sides, bitmap_shown, bitmap_forgotten}
+use Rattle.gfx_script.specs.Ways.{is_stream, way_of}
 
 -- what the steps so far have left, as far as later ones are checked against it
 pub record Held : Type 0 where
@@ -38,9 +38,13 @@ pub record Held : Type 0 where
 abbrev pub sides_of_all : List Picture → List Sides
 sides_of_all pictures = map (λ picture. record { width = picture.width; height = picture.height }) pictures
 
--- before the first step, with pictures of these sides and under the small limits on bitmaps or the large ones
+-- before the first step, with pictures of these sides and these bitmaps
+abbrev pub held_from : List Sides → Stock → Held
+held_from pictures stock = record { pictures = pictures; sides = finmap.empty; cells = 0; stock = stock }
+
+-- the same with no bitmap, under the small limits on bitmaps or the large ones
 abbrev pub held_first : List Sides → Bool → Held
-held_first pictures small = record { pictures = pictures; sides = finmap.empty; cells = 0; stock = no_bitmaps small }
+held_first pictures small = held_from pictures (no_bitmaps small)
 
 -- one more surface of these sides is within both limits
 abbrev pub may_add : Held → ℕ → ℕ → Bool
@@ -122,7 +126,7 @@ key_forgotten held key = do
 -- few ([MS-RDPEGFX] 2.2.4.1)
 abbrev pub takes_glyph : Option Kind → Sides → Bool
 takes_glyph None drawn = false
-takes_glyph (Some kind) drawn = is_clear kind && nat_le (drawn.width * drawn.height) MOST_GLYPH_AREA
+takes_glyph (Some kind) drawn = is_stream (way_of false kind) && nat_le (drawn.width * drawn.height) MOST_GLYPH_AREA
 
 -- the glyph of a paint, if it has one, is kept of such a picture
 abbrev pub is_glyph : Option Kind → Sides → Option ℕ → Bool

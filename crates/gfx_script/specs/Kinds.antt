@@ -2,20 +2,18 @@
 use Rattle.std.specs.Prelude.{◌≡◌, Bool, true, false, List, map, Option, Some, None, IsSome, IfSome, unwrap_or}
 use Rattle.std.specs.List.{AllByRecursion}
 use Rattle.gfx_script.specs.declared.step.Kind.{Kind}
-use Rattle.gfx_script.specs.declared.step.Kind.TheVariants.{Raw, Residual, Progressive}
+use Rattle.gfx_script.specs.declared.step.Kind.TheVariants.{Raw, Residual, Bands, Palette, Plain, Progressive}
 use Rattle.gfx_script.specs.declared.step.Step.{Step}
 use Rattle.gfx_script.specs.declared.step.Step.TheVariants.{Paint}
 
--- a picture goes by ClearCodec
-abbrev pub is_clear : Kind → Bool
-is_clear Raw = false
-is_clear Progressive = false
-is_clear kind = true
-
--- a picture goes in passes
-abbrev pub is_progressive : Kind → Bool
-is_progressive Progressive = true
-is_progressive kind = false
+-- a paint of this kind sets the pixels of its picture and nothing else
+abbrev pub is_plain_write : Kind → Bool
+is_plain_write Raw = true
+is_plain_write Residual = true
+is_plain_write Bands = true
+is_plain_write Palette = true
+is_plain_write Plain = true
+is_plain_write Progressive = false
 
 -- the kind that a paint goes as where nothing else chooses one: the kind that it names, or runs of one colour.
 -- None of another step

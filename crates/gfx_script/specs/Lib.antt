@@ -3,6 +3,7 @@ pub mod Kind
 pub mod Patterns
 pub mod Pictures
 pub mod Stock
+pub mod Ways
 pub mod Checks
 pub mod Codes
 pub mod Kinds

@@ -55,8 +55,8 @@ IsTurn Server = Unit {0}
 IsTurn (Client most) = (1 ≤ most) × (most < 2 ^ 32)
 IsTurn (Answer most) = (1 ≤ most) × (most < 2 ^ 32)
 
--- what holds of every script that is read
-pub record IsAccepted (script : Script) : Type 0 where
+-- what holds of every script that is read, whose first step is checked against this
+pub record IsAcceptedFrom (start : Held) (script : Script) : Type 0 where
   pub window_from : 1 ≤ script.window
   pub window_most : script.window ≤ MOST_WINDOW
   pub some_offers : 1 ≤ length script.offers
@@ -70,7 +70,11 @@ pub record IsAccepted (script : Script) : Type 0 where
   pub few : length script.steps ≤ MOST_STEPS
   pub numbers : AllByRecursion IsStep script.steps
   pub held : Held
-  pub checked : held_through (held_first (sides_of_all script.pictures) script.small) script.steps ≡ Ok held
+  pub checked : held_through start script.steps ≡ Ok held
   pub framed : IsTrue (is_framed script.steps)
   pub few_turns : length script.turns ≤ MOST_TURNS
   pub turns : AllByRecursion IsTurn script.turns
+
+-- the same of a script that starts with nothing
+abbrev pub IsAccepted : Script → Type 0
+IsAccepted script = IsAcceptedFrom (held_first (sides_of_all script.pictures) script.small) script

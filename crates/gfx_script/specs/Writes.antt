@@ -10,7 +10,7 @@ use Rattle.gfx_script.specs.declared.step.Kind.{Kind}
 use Rattle.gfx_script.specs.declared.step.Step.{Step}
 use Rattle.gfx_script.specs.declared.step.Step.TheVariants.{Surface, Fill, Copy, Show, Paint, Improve}
 use Rattle.gfx_script.specs.declared.held.Sides.{Sides}
-use Rattle.gfx_script.specs.Kinds.{is_progressive}
+use Rattle.gfx_script.specs.Kinds.{is_plain_write}
 use Rattle.gfx_script.specs.Scripted.{Script}
 use Rattle.gfx_script.specs.Stock.{Stock, bitmap_sides}
 
@@ -51,10 +51,10 @@ writes_by script sides_of step = None
 abbrev pub writes : Script → Stock → Step → Option Area
 writes script stock step = writes_by script (λ key. result_ok (bitmap_sides stock key)) step
 
--- where a paint writes that sets the pixels of its picture and nothing else: each but one in passes
+-- where a paint writes that sets the pixels of its picture and nothing else
 unfoldable pub paints_plainly : Kind → Option Picture → ℕ → Point → Option Area
 paints_plainly kind source id at =
-    if is_progressive kind then None else option_map (λ source. area id (place_of source at ∷ [])) source
+    if is_plain_write kind then option_map (λ source. area id (place_of source at ∷ [])) source else None
 
 -- where a plain write writes, which needs no bitmap: a fill, or such a paint
 unfoldable pub writes_plainly : Script → Option Kind → Step → Option Area

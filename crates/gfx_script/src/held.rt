@@ -305,7 +305,8 @@ fn takes_glyph(kind: Option<Kind>, drawn: Sides) -> bool
 {
     match kind {
         Some(kind) => {
-            kind.is_clear() && u32::from(drawn.width) * u32::from(drawn.height) <= MOST_GLYPH_AREA
+            kind.way(false).is_stream()
+                && u32::from(drawn.width) * u32::from(drawn.height) <= MOST_GLYPH_AREA
         }
         None => false,
     }

@@ -13,6 +13,7 @@ mod script;
 mod step;
 mod stock;
 mod turn;
+mod way;
 
 pub use error::{Flaw, ScriptKind};
 pub use held::{Held, Sides};
@@ -20,6 +21,7 @@ pub use picture::{Pattern, Picture};
 pub use script::{Script, is_framed};
 pub use step::{Kind, Step};
 pub use turn::Turn;
+pub use way::Way;
 
 /// The most steps of a script.
 pub const MOST_STEPS: u32 = 100_000;

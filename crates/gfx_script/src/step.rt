@@ -1,5 +1,5 @@
 ghost use Rattle.std.specs.Prelude.{◌≡◌};
-ghost use Rattle.gfx_script.specs.Kinds.{is_clear, is_progressive, kind_of};
+ghost use Rattle.gfx_script.specs.Kinds.{is_plain_write, kind_of};
 ghost use Rattle.gfx_script.specs.Script.{is_frame};
 
 use gfx_base::{Format, Pixel, Point, Points, Rect, Rects};
@@ -23,23 +23,14 @@ pub enum Kind {
 }
 
 impl Kind {
-    /// Whether a picture goes by ClearCodec.
-    pub fn is_clear(self) -> bool
-        ensures { result ≡ is_clear self }
+    /// Whether a paint of this kind sets the pixels of its picture and nothing else, so that a later write may
+    /// cover it.
+    pub fn is_plain_write(self) -> bool
+        ensures { result ≡ is_plain_write self }
     {
         match self {
-            Kind::Raw | Kind::Progressive => false,
-            Kind::Residual | Kind::Bands | Kind::Palette | Kind::Plain => true,
-        }
-    }
-
-    /// Whether a picture goes in passes.
-    pub fn is_progressive(self) -> bool
-        ensures { result ≡ is_progressive self }
-    {
-        match self {
-            Kind::Progressive => true,
-            Kind::Raw | Kind::Residual | Kind::Bands | Kind::Palette | Kind::Plain => false,
+            Kind::Raw | Kind::Residual | Kind::Bands | Kind::Palette | Kind::Plain => true,
+            Kind::Progressive => false,
         }
     }
 }

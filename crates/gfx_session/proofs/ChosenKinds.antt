@@ -66,6 +66,7 @@ with_left_stands session w left same s = record {
     heard = s.server.heard;
     short = s.server.short;
   };
+  offers = s.offers;
   client = s.client;
   brought = s.brought;
   drained = s.drained;

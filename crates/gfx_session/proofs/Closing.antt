@@ -8,7 +8,7 @@ use Rattle.gfx_script.specs.Kinds.{Fits}
 use Rattle.gfx_script.specs.Script.{IsAccepted}
 use Rattle.gfx_script.specs.Scripted.{Script}
 use Rattle.gfx_window.specs.declared.window.Sent.{Sent}
-use Rattle.gfx_session.specs.Kept.{digest_in, InStep, IsServerEnd, Stands}
+use Rattle.gfx_session.specs.Kept.{digest_in, InStep, IsServerEnd, ListensAs, PlansAsBefore}
 use Rattle.gfx_session.specs.Listening.{Amid, Beside, Hears}
 use Rattle.gfx_session.specs.Serving.{Takes, Listens, taken_of}
 use Rattle.gfx_session.specs.declared.server_end.ServerEnd.{ServerEnd}
@@ -52,14 +52,10 @@ closed_too new closed i = record {
   in_step = λ fresh. let s = i.in_step fresh in record { kinded = s.kinded; fits = s.fits; at = s.at; gone = s.gone; waiting = s.waiting; plan = s.plan; last = s.last; window = s.window; planned = s.planned };
 }
 
--- a server's end that a fault closes stands for the schedule's that has stopped
-stops : (before now : List ℕ) (had has : List Taken) (new : ServerEnd) (heard : Heard) (why : Stop) → Amid before now had has new heard → heard.end.stopped ≡ Some why → Stands (record new { closed = true }) heard.end
+-- a server's end that a fault closes hears as the schedule's that has stopped
+stops : (before now : List ℕ) (had has : List Taken) (new : ServerEnd) (heard : Heard) (why : Stop) → Amid before now had has new heard → heard.end.stopped ≡ Some why → ListensAs (record new { closed = true }) heard.end
 stops before now had has new heard why a is = record {
-  fresh = a.fresh;
-  left = a.left;
-  last = a.last;
   window = a.window;
-  planned = a.planned;
   ends = a.ends;
   even = a.even;
   confirmed = a.confirmed;
@@ -68,19 +64,23 @@ stops before now had has new heard why a is = record {
   short = λ none. absurd (let no : None ≡ Some why = sym none ∙ is in cc);
 }
 
+-- what its client's bytes leave as it is
+pub plans : {old new : ServerEnd} {had has : List Taken} {closed : Bool} → Beside old new had has → PlansAsBefore old (record new { closed = closed })
+plans b = record { script = b.script; last = b.last; planner = b.planner; spent = b.spent; pending = b.pending }
+
 -- what a fault leaves that closes it
 pub closed_by : (closed : Bool) (fault : ServerFault) (old new : ServerEnd) (before now : List ℕ) (had has : List Taken) (piece : List ℕ) → closed ≡ false → Beside old new had has
     → Hears (Err fault) old new before now had has piece → Listens closed (Err fault) old (record new { closed = true }) before now had has piece
 closed_by true fault old new before now had has piece unclosed b h = absurd cc
 closed_by false (Refused r) old new before now had has piece unclosed b h = (
-  b.script,
+  plans b,
   λ at stands. let x = h at stands in (stops before now had has new (hears old.script (listening at) piece) (refuses r) x.0 x.1, x.1, x.0.out),
 )
 closed_by false (Ack u) old new before now had has piece unclosed b h = (
-  b.script,
+  plans b,
   λ at stands. let x = h at stands in (stops before now had has new (hears old.script (listening at) piece) (unknown u) x.0 x.1, x.1, x.0.out),
 )
-closed_by false Memory old new before now had has piece unclosed b h = (b.script, (refl, h))
+closed_by false Memory old new before now had has piece unclosed b h = (plans b, (refl, h))
 closed_by false Closed old new before now had has piece unclosed b h = absurd h
 
 -- the count ---------------------------------------------------------------------------------------------------

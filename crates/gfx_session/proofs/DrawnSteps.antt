@@ -6,7 +6,7 @@ use Rattle.std.proofs.lemmas.Grind.{flat_map-append}
 use Rattle.gfx_base.specs.declared.refusal.Refusal.{Refusal}
 use Rattle.gfx_client.specs.Client.{cursor_of, closed_by, Steps, StepsOpen, Ends, MovesBy, Waits}
 use Rattle.gfx_client.specs.Replies.{stepped_of, stepped_by, reply_in, replies}
-use Rattle.gfx_client.specs.Standing.{HasBrought, BringsNext, BringsOpen}
+use Rattle.gfx_client.specs.Standing.{HasBroughtFrom, BringsNext, BringsOpen}
 use Rattle.gfx_client.specs.declared.client.Client.{Client}
 use Rattle.gfx_client.specs.declared.fault.ClientFault.{ClientFault}
 use Rattle.gfx_client.specs.declared.fault.ClientFault.TheVariants.{Refused, Memory, ClosedRefused, ClosedMemory}
@@ -65,19 +65,19 @@ more_replies all next = flat_map-append (λ (e : Effect). reply_in (stepped_by e
 
 -- nothing is drawn yet
 pub draws_none : (client : Client) (up : List ℕ) (noted : List (List ℕ)) → Draws client client up up noted noted
-draws_none client up noted = λ bytes all b. record {
+draws_none client up noted = λ origin bytes all b. record {
   more = [];
-  brought = subst (HasBrought client bytes) (sym (append-nil all)) b;
+  brought = subst (HasBroughtFrom origin client bytes) (sym (append-nil all)) b;
   replied = sym (append-nil up);
   shown = sym (append-nil noted);
 }
 
 -- one more message
-draws_next : (old new : Client) (said : Stepped) (bytes : List ℕ) (all : List Effect) (up_before up up_now : List ℕ) (noted_before noted noted_now : List (List ℕ)) (d : Drew old bytes all up_before up noted_before noted)
-    → BringsNext new bytes (all ++ d.more) said → up_now ≡ up ++ reply_in said → noted_now ≡ noted ++ noted_of said (cursor_of new).state → Drew new bytes all up_before up_now noted_before noted_now
-draws_next old new said bytes all up_before up up_now noted_before noted noted_now d n replied shown = record {
+draws_next : {origin : State} (old new : Client) (said : Stepped) (bytes : List ℕ) (all : List Effect) (up_before up up_now : List ℕ) (noted_before noted noted_now : List (List ℕ)) (d : Drew origin old bytes all up_before up noted_before noted)
+    → BringsNext origin new bytes (all ++ d.more) said → up_now ≡ up ++ reply_in said → noted_now ≡ noted ++ noted_of said (cursor_of new).state → Drew origin new bytes all up_before up_now noted_before noted_now
+draws_next {origin = origin} old new said bytes all up_before up up_now noted_before noted noted_now d n replied shown = record {
   more = d.more ++ n.next ∷ [];
-  brought = subst (HasBrought new bytes) (append_assoc all d.more (n.next ∷ [])) n.brought;
+  brought = subst (HasBroughtFrom origin new bytes) (append_assoc all d.more (n.next ∷ [])) n.brought;
   replied =
       replied ∙ ap (λ z. z ++ reply_in said) d.replied ∙ append_assoc up_before (replies d.more) (reply_in said)
       ∙ ap (λ z. up_before ++ (replies d.more ++ reply_in z)) n.says ∙ ap (λ z. up_before ++ z) (sym (more_replies d.more n.next));
@@ -91,21 +91,21 @@ draws_next old new said bytes all up_before up up_now noted_before noted noted_n
 }
 
 draws_applied : (start old new : Client) (pdu : Pdu) (size : ℕ) (up_before up : List ℕ) (noted_before noted : List (List ℕ)) → Draws start old up_before up noted_before noted
-    → ((bytes : List ℕ) (all : List Effect) → HasBrought old bytes all → BringsNext new bytes all (Applied pdu size)) → Draws start new up_before up noted_before noted
-draws_applied start old new pdu size up_before up noted_before noted before brings = λ bytes all b.
-    let d = before bytes all b in
-    draws_next old new (Applied pdu size) bytes all up_before up up noted_before noted noted d (brings bytes (all ++ d.more) d.brought) (sym (append-nil up)) (sym (append-nil noted))
+    → ((origin : State) (bytes : List ℕ) (all : List Effect) → HasBroughtFrom origin old bytes all → BringsNext origin new bytes all (Applied pdu size)) → Draws start new up_before up noted_before noted
+draws_applied start old new pdu size up_before up noted_before noted before brings = λ origin bytes all b.
+    let d = before origin bytes all b in
+    draws_next old new (Applied pdu size) bytes all up_before up up noted_before noted noted d (brings origin bytes (all ++ d.more) d.brought) (sym (append-nil up)) (sym (append-nil noted))
 
 draws_ended : (start old new : Client) (frame size : ℕ) (reply : List ℕ) (up_before up up_now : List ℕ) (noted_before noted noted_now : List (List ℕ)) → Draws start old up_before up noted_before noted
-    → ((bytes : List ℕ) (all : List Effect) → HasBrought old bytes all → BringsNext new bytes all (Ended frame size reply))
+    → ((origin : State) (bytes : List ℕ) (all : List Effect) → HasBroughtFrom origin old bytes all → BringsNext origin new bytes all (Ended frame size reply))
     → up_now ≡ up ++ reply → noted_now ≡ noted ++ digest_in (cursor_of new).state ∷ [] → Draws start new up_before up_now noted_before noted_now
-draws_ended start old new frame size reply up_before up up_now noted_before noted noted_now before brings replied shown = λ bytes all b.
-    let d = before bytes all b in
-    draws_next old new (Ended frame size reply) bytes all up_before up up_now noted_before noted noted_now d (brings bytes (all ++ d.more) d.brought) replied shown
+draws_ended start old new frame size reply up_before up up_now noted_before noted noted_now before brings replied shown = λ origin bytes all b.
+    let d = before origin bytes all b in
+    draws_next old new (Ended frame size reply) bytes all up_before up up_now noted_before noted noted_now d (brings origin bytes (all ++ d.more) d.brought) replied shown
 
 -- a message that ends no frame
 pub draws_message : (start old new : Client) (stepped : Stepped) (up_before up : List ℕ) (noted_before noted : List (List ℕ)) → drawn_by stepped ≡ Message → Draws start old up_before up noted_before noted
-    → ((bytes : List ℕ) (all : List Effect) → HasBrought old bytes all → BringsOpen (Ok stepped) new bytes all) → Draws start new up_before up noted_before noted
+    → ((origin : State) (bytes : List ℕ) (all : List Effect) → HasBroughtFrom origin old bytes all → BringsOpen origin (Ok stepped) new bytes all) → Draws start new up_before up noted_before noted
 draws_message start old new Need up_before up noted_before noted is before brings = absurd cc
 draws_message start old new (Applied pdu size) up_before up noted_before noted is before brings = draws_applied start old new pdu size up_before up noted_before noted before brings
 draws_message start old new (Ended frame size reply) up_before up noted_before noted is before brings = absurd cc
@@ -116,7 +116,7 @@ reply_drawn other = []
 
 -- the end of a frame
 pub draws_frame : (start old new : Client) (stepped : Stepped) (said : List ℕ) (up_before up up_now : List ℕ) (noted_before noted noted_now : List (List ℕ)) → drawn_by stepped ≡ Frame said → Draws start old up_before up noted_before noted
-    → ((bytes : List ℕ) (all : List Effect) → HasBrought old bytes all → BringsOpen (Ok stepped) new bytes all)
+    → ((origin : State) (bytes : List ℕ) (all : List Effect) → HasBroughtFrom origin old bytes all → BringsOpen origin (Ok stepped) new bytes all)
     → up_now ≡ up ++ said → noted_now ≡ noted ++ digest_in (cursor_of new).state ∷ [] → Draws start new up_before up_now noted_before noted_now
 draws_frame start old new Need said up_before up up_now noted_before noted noted_now is before brings replied shown = absurd cc
 draws_frame start old new (Applied pdu size) said up_before up up_now noted_before noted noted_now is before brings replied shown = absurd cc
@@ -126,10 +126,10 @@ draws_frame start old new (Ended frame size reply) said up_before up up_now note
 
 -- it needs more bytes
 pub draws_rest : (start old new : Client) (up_before up : List ℕ) (noted_before noted : List (List ℕ)) → Draws start old up_before up noted_before noted
-    → ((bytes : List ℕ) (all : List Effect) → HasBrought old bytes all → HasBrought new bytes all) → Draws start new up_before up noted_before noted
-draws_rest start old new up_before up noted_before noted before brings = λ bytes all b.
-    let d = before bytes all b in
-    record { more = d.more; brought = brings bytes (all ++ d.more) d.brought; replied = d.replied; shown = d.shown }
+    → ((origin : State) (bytes : List ℕ) (all : List Effect) → HasBroughtFrom origin old bytes all → HasBroughtFrom origin new bytes all) → Draws start new up_before up noted_before noted
+draws_rest start old new up_before up noted_before noted before brings = λ origin bytes all b.
+    let d = before origin bytes all b in
+    record { more = d.more; brought = brings origin bytes (all ++ d.more) d.brought; replied = d.replied; shown = d.shown }
 
 -- where a step leaves the client ------------------------------------------------------------------------------
 
@@ -163,7 +163,7 @@ needs old new Need is steps = steps
 needs old new (Applied pdu size) is steps = absurd cc
 needs old new (Ended frame size reply) is steps = absurd cc
 
-pub needs_brought : (new : Client) (bytes : List ℕ) (all : List Effect) (stepped : Stepped) → drawn_by stepped ≡ Nothing → BringsOpen (Ok stepped) new bytes all → HasBrought new bytes all
+pub needs_brought : {origin : State} (new : Client) (bytes : List ℕ) (all : List Effect) (stepped : Stepped) → drawn_by stepped ≡ Nothing → BringsOpen origin (Ok stepped) new bytes all → HasBroughtFrom origin new bytes all
 needs_brought new bytes all Need is brings = brings.0
 needs_brought new bytes all (Applied pdu size) is brings = absurd cc
 needs_brought new bytes all (Ended frame size reply) is brings = absurd cc

@@ -2,12 +2,11 @@ pub mod Queueing
 pub mod Framing
 pub mod Plans
 pub mod Turning
-pub mod Growing
 pub mod Messages
 pub mod Midway
 pub mod Closing
 pub mod NotedFrames
 pub mod DrawnSteps
-pub mod LastHeard
+pub mod HeardPlan
 pub mod ChosenKinds
 pub mod TurnLemmas

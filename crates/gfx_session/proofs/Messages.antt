@@ -39,11 +39,7 @@ use Rattle.gfx_session.specs.declared.server_end.listening.Taken.{Taken}
 -- whether it goes on is no matter, and neither are the bytes that are held
 amid_stop : (before now : List ℕ) (had has : List Taken) (end : ServerEnd) (heard : Heard) (why : Stop) → Amid before now had has end heard → Amid before now had has end (stop heard why)
 amid_stop before now had has end heard why a = record {
-  fresh = a.fresh;
-  left = a.left;
-  last = a.last;
   window = a.window;
-  planned = a.planned;
   ends = a.ends;
   even = a.even;
   confirmed = a.confirmed;
@@ -99,11 +95,7 @@ is_confirmed script heard chosen e = rw e refl
 
 amid_confirmed : (before now later : List ℕ) (had has : List Taken) (end : ServerEnd) (heard : Heard) (chosen : Chosen) → later ≡ now ++ sent (confirm chosen ∷ []) → Amid before now had has end heard → Amid before later had has (record end { confirmed = true }) (confirmed heard chosen)
 amid_confirmed before now later had has end heard chosen wrote a = record {
-  fresh = a.fresh;
-  left = a.left;
-  last = a.last;
   window = a.window;
-  planned = a.planned;
   ends = a.ends;
   even = a.even;
   confirmed = refl;
@@ -151,11 +143,7 @@ not_oldest end window now has frame u same e = λ before had heard a.
     let is : acknowledges heard frame (acknowledged heard.end.window heard.end.window.flying frame) ≡ stop heard (unknown u) = ap (acknowledges heard frame) due in
     let b = amid_stop before now had has end heard (unknown u) a in
     let c : Amid before now had has (record end { window = window }) (stop heard (unknown u)) = record {
-      fresh = b.fresh;
-      left = b.left;
-      last = b.last;
       window = same ∙ b.window;
-      planned = b.planned;
       ends = b.ends;
       even = b.even;
       confirmed = b.confirmed;
@@ -212,11 +200,7 @@ amid_acked before now had has more old new heard frame step digest s oldest popp
     ap (λ z. map digest_in (heard.states ++ z)) first.front ∙ map-append digest_in heard.states (first.state ∷ []) ∙ ap (λ z. map digest_in heard.states ++ z ∷ []) first.is in
     let joined = taken_of-append heard.taken (record { frame = frame; step = step }) (map digest_in heard.states) digest (length-map heard.states digest_in ∙ a.paired) in
     record {
-      fresh = s.spent ∙ a.fresh;
-      left = a.left ∙ ap (λ z. drop heard.end.last z.steps) (sym s.script);
-      last = s.last ∙ a.last;
       window = refl;
-      planned = s.planner ∙ a.planned;
       ends = sym first.rest;
       even = omega (arith, first.count, a.even, oldest.fewer, ap (λ z. length z.flying) a.window);
       confirmed = s.confirmed ∙ a.confirmed;

@@ -1,6 +1,8 @@
 -- What a server's end makes of its client's messages, one after another.
-use Rattle.std.proofs.Common.{◌≡◌, ◌<◌, ℕ, false, List, [], ◌++◌, length, Option, Some, None, Result, Ok, Err, refl, sym, ap, ◌∙◌, subst, arith}
-use Rattle.std.proofs.lemmas.List.{append-nil}
+use Rattle.std.proofs.Common.{◌≡◌, ◌<◌, ◌≤◌, ℕ, false, List, [], ◌++◌, length, take, drop, Option, Some, None, Result, Ok, Err, refl, sym, ap, ◌∙◌, subst, append_assoc, length-append, arith}
+use Rattle.std.specs.Int.{w32}
+use Rattle.std.proofs.lemmas.List.{append-nil, take-append-drop, take_all, drop_all, length-take-le}
+use Rattle.std.proofs.Math.Seq.{drop-append_seam}
 use Rattle.std.specs.Prelude.{is_some}
 use Rattle.gfx_base.specs.Results.{and_then}
 use Rattle.gfx_base.specs.declared.answer.Cause.{Cause}
@@ -8,19 +10,20 @@ use Rattle.gfx_base.specs.declared.answer.Cause.TheVariants as cause
 use Rattle.gfx_base.specs.declared.refusal.Refusal.{Refusal}
 use Rattle.gfx_base.specs.declared.refusal.Refusal.TheVariants.{ChannelLength}
 use Rattle.gfx_caps.specs.Reading.{client_of}
-use Rattle.gfx_planner.specs.Planned.{PutsFront}
-use Rattle.gfx_schedule.proofs.Listening.{hears-append, hears_short, hears_bad, hears_whole, hears_stopped}
+use Rattle.gfx_schedule.proofs.Listening.{hears-append, hears-nil, hears_short, hears_bad, hears_whole, hears_stopped}
 use Rattle.gfx_schedule.specs.Hearing.{Heard, listening, stop, told, hears}
 use Rattle.gfx_schedule.specs.ServerEnd.{Stop, ServerEnd as EndOfSchedule}
 use Rattle.gfx_schedule.specs.ServerEnd.{Refused as refuses, Unknown as unknown}
 use Rattle.gfx_schedule.specs.Words.{holding as with_held}
 use Rattle.gfx_script.specs.Scripted.{Script}
-use Rattle.gfx_segment.specs.Framing.{Front, Whole, Short, Bad, front, Splitter, holding, fed, next, after_next, next_of, answer_of, behind, Answers}
-use Rattle.gfx_segment.proofs.FrontLemmas.{front-nil, length-after}
-use Rattle.gfx_session.proofs.Growing.{grows}
-use Rattle.gfx_session.specs.Kept.{Stands}
+use Rattle.gfx_base.specs.declared.TheConstants.{MOST_MESSAGE}
+use Rattle.gfx_base.specs.Field.{number_at}
+use Rattle.gfx_base.proofs.FieldLemmas.{number_at-append}
+use Rattle.gfx_segment.specs.Framing.{Front, Whole, Short, Bad, front, front_of, Splitter, holding, fed, next, after_next, next_of, answer_of, behind, Answers}
+use Rattle.gfx_segment.proofs.FrontLemmas.{front-nil, front_at, front_whole, length-after, whole_at}
+use Rattle.gfx_session.specs.Kept.{ListensAs}
 use Rattle.gfx_session.specs.Listening.{Amid, Beside, Obeys, Hears, fault_of}
-use Rattle.gfx_session.specs.Serving.{Tells}
+use Rattle.gfx_session.specs.Serving.{AnswersWhole, Tells}
 use Rattle.gfx_session.specs.declared.server_end.ServerEnd.{ServerEnd}
 use Rattle.gfx_session.specs.declared.server_end.ServerFault.{ServerFault}
 use Rattle.gfx_session.specs.declared.server_end.ServerFault.TheVariants.{Refused, Ack, Memory, Closed}
@@ -86,6 +89,10 @@ pub record Midway (script : Script) (at : EndOfSchedule) (piece before now : Lis
   pub goes_on : heard.end.stopped ≡ None
   pub unrefused : end.splitter.refusal ≡ None
   pub same : hears script (listening at) piece ≡ hears script (with_held heard []) end.splitter.rest
+  -- and these bytes were a whole number of messages
+  pub taken : List ℕ
+  pub cut : at.heard ++ piece ≡ taken ++ end.splitter.rest
+  pub told : hears script (with_held (listening at) []) taken ≡ with_held heard []
 
 none_stopped : (stopped : Option Stop) → false ≡ is_some stopped → stopped ≡ None
 none_stopped None e = refl
@@ -96,7 +103,7 @@ begun_at script at piece on short =
     let first : hears script (with_held (listening at) []) at.heard ≡ listening at = hears_short script (with_held (listening at) []) at.heard on short in
     ap (λ z. hears script z piece) (sym first) ∙ sym (hears-append script (with_held (listening at) []) at.heard piece)
 
-pub begins : (old : ServerEnd) (splitter : Splitter) (at : EndOfSchedule) (piece before : List ℕ) (had : List Taken) → old.closed ≡ false → splitter ≡ fed old.splitter piece → Stands old at
+pub begins : (old : ServerEnd) (splitter : Splitter) (at : EndOfSchedule) (piece before : List ℕ) (had : List Taken) → old.closed ≡ false → splitter ≡ fed old.splitter piece → ListensAs old at
     → Midway old.script at piece before before had had (record old { splitter = splitter })
 begins old splitter at piece before had opened is s =
     let on = none_stopped at.stopped (sym opened ∙ s.closed) in
@@ -104,11 +111,7 @@ begins old splitter at piece before had opened is s =
     record {
       heard = listening at;
       amid = record {
-        fresh = s.fresh;
-        left = s.left;
-        last = s.last;
         window = s.window;
-        planned = s.planned;
         ends = s.ends;
         even = s.even;
         confirmed = s.confirmed;
@@ -119,16 +122,15 @@ begins old splitter at piece before had opened is s =
       goes_on = on;
       unrefused = ap (λ z. z.refusal) held;
       same = begun_at old.script at piece on (s.short on) ∙ ap (λ z. hears old.script (with_held (listening at) []) z.rest) (sym held);
+      taken = [];
+      cut = ap (λ z. z.rest) (sym held);
+      told = hears-nil old.script (with_held (listening at) []);
     }
 
 -- what is held is no matter
 amid_held : (before now : List ℕ) (had has : List Taken) (end : ServerEnd) (splitter : Splitter) (heard : Heard) (bytes : List ℕ) → Amid before now had has end heard → Amid before now had has (record end { splitter = splitter }) (with_held heard bytes)
 amid_held before now had has end splitter heard bytes a = record {
-  fresh = a.fresh;
-  left = a.left;
-  last = a.last;
   window = a.window;
-  planned = a.planned;
   ends = a.ends;
   even = a.even;
   confirmed = a.confirmed;
@@ -139,11 +141,7 @@ amid_held before now had has end splitter heard bytes a = record {
 
 amid_stop : (before now : List ℕ) (had has : List Taken) (end : ServerEnd) (splitter : Splitter) (heard : Heard) (why : Stop) → Amid before now had has end heard → Amid before now had has (record end { splitter = splitter }) (stop heard why)
 amid_stop before now had has end splitter heard why a = record {
-  fresh = a.fresh;
-  left = a.left;
-  last = a.last;
   window = a.window;
-  planned = a.planned;
   ends = a.ends;
   even = a.even;
   confirmed = a.confirmed;
@@ -165,10 +163,14 @@ waits script at piece before now had has end splitter m e =
     subst (HasWaited before now had has (record end { splitter = splitter })) (sym is) (amid_held before now had has end splitter m.heard rest m.amid, m.goes_on, found.1, found.0)
 
 -- without memory
-lacks : (script : Script) (at : EndOfSchedule) (piece before now later : List ℕ) (had has : List Taken) (end : ServerEnd) → Midway script at piece before now had has end → later ≡ now → PutsFront before later (hears script (listening at) piece).out
-lacks script at piece before now later had has end m e =
-    let g = grows script (with_held m.heard []) end.splitter.rest in
-    record { part = m.heard.out; rest = g.more; cut = ap (λ z. z.out) m.same ∙ g.is; gained = e ∙ m.amid.out }
+lacks : (script : Script) (at : EndOfSchedule) (piece before now later : List ℕ) (had has : List Taken) (end : ServerEnd) → Midway script at piece before now had has end → later ≡ now → AnswersWhole script at piece before later
+lacks script at piece before now later had has end m e = record {
+  taken = m.taken;
+  rest = end.splitter.rest;
+  cut = m.cut;
+  whole = ap (λ z. z.end.heard) m.told;
+  gained = e ∙ m.amid.out ∙ ap (λ z. before ++ z.out) (sym m.told);
+}
 
 -- a fault of the splitter
 abbrev HasStopped : ServerFault → List ℕ → List ℕ → List Taken → List Taken → ServerEnd → Heard → Type 0
@@ -182,10 +184,50 @@ refuses_length script at piece before now had has end splitter r m e =
     let is : hears script (listening at) piece ≡ stop (with_held m.heard []) (refuses ChannelLength) = m.same ∙ hears_bad script (with_held m.heard []) rest m.goes_on front-nil found.0 in
     subst (HasStopped (Refused r) before now had has (record end { splitter = splitter })) (sym is) (amid_stop before now had has end splitter m.heard (refuses ChannelLength) m.amid, ap (λ z. Some (refuses z)) (sym found.1))
 
-pub splitter_fails : (old end : ServerEnd) (splitter : Splitter) (piece before now : List ℕ) (had has : List Taken) (fault : Cause Refusal) → ((at : EndOfSchedule) → Stands old at → Midway old.script at piece before now had has end)
+pub splitter_fails : (old end : ServerEnd) (splitter : Splitter) (piece before now : List ℕ) (had has : List Taken) (fault : Cause Refusal) → ((at : EndOfSchedule) → ListensAs old at → Midway old.script at piece before now had has end)
     → Answers (Err fault) end.splitter splitter (next Ok end.splitter) (after_next Ok end.splitter) → Hears (Err (fault_of fault)) old (record end { splitter = splitter }) before now had has piece
 splitter_fails old end splitter piece before now had has cause.Memory m e = λ at s. lacks old.script at piece before now now had has end (m at s) refl
 splitter_fails old end splitter piece before now had has (cause.Refused r) m e = λ at s. refuses_length old.script at piece before now had has end splitter r (m at s) e.0
+
+-- the piece was not even held
+pub untold : (script : Script) (at : EndOfSchedule) (piece before : List ℕ) → AnswersWhole script at piece before before
+untold script at piece before =
+    let none = hears-nil script (with_held (listening at) []) in
+    record {
+      taken = [];
+      rest = at.heard ++ piece;
+      cut = refl;
+      whole = ap (λ z. z.end.heard) none;
+      gained = sym (append-nil before) ∙ ap (λ z. before ++ z.out) (sym none);
+    }
+
+-- the bytes of a whole message, before those behind it
+record Wire (bytes message after : List ℕ) : Type 0 where
+  wire : List ℕ
+  cut : bytes ≡ wire ++ after
+  whole : front wire ≡ Whole message []
+
+wire_of : (bytes message after : List ℕ) → front bytes ≡ Whole message after → Wire bytes message after
+wire_of bytes message after found =
+    let f = front_whole bytes message after found in
+    let long : 4 ≤ length bytes = f.begins.long in
+    let first : length (take 4 bytes) ≡ 4 = length-take-le 4 bytes long in
+    let wire : List ℕ = take 4 bytes ++ message in
+    let cut : bytes ≡ wire ++ after =
+    sym (take-append-drop 4 bytes) ∙ ap (λ z. take 4 bytes ++ z) (sym (take-append-drop f.size (drop 4 bytes)))
+    ∙ (λ i. take 4 bytes ++ (f.cut.message i ++ f.cut.after i)) ∙ sym (append_assoc (take 4 bytes) message after) in
+    let behind : drop 4 wire ≡ message = ap (λ n. drop n wire) (sym first) ∙ drop-append_seam (take 4 bytes) message in
+    let count : length message ≡ f.size = ap length (sym f.cut.message) ∙ length-take-le f.size (drop 4 bytes) f.cut.within in
+    let enough : 4 ≤ length wire = omega (arith, first, length-append (take 4 bytes) message) in
+    let spells : number_at w32 wire 0 ≡ f.size = sym (number_at-append w32 wire after 0 enough) ∙ ap (λ z. number_at w32 z 0) (sym cut) ∙ f.begins.spells in
+    let given : front wire ≡ Whole (take f.size message) (drop f.size message) =
+    front_at f.size wire (record { long = enough; spells = spells }) ∙ ap (λ z. front_of MOST_MESSAGE (Some f.size) z) behind ∙ whole_at MOST_MESSAGE f.size message f.cut.fits (omega (arith, count)) in
+    record {
+      wire = wire;
+      cut = cut;
+      whole = given ∙ (λ i. Whole (take (sym count i) message) (drop (sym count i) message))
+          ∙ (λ i. Whole (take_all (length message) message (omega arith) i) (drop_all (length message) message (omega arith) i));
+    }
 
 -- with a message in hand
 record Opened (script : Script) (at : EndOfSchedule) (piece before now : List ℕ) (had has : List Taken) (end : ServerEnd) (message : List ℕ) : Type 0 where
@@ -195,17 +237,28 @@ record Opened (script : Script) (at : EndOfSchedule) (piece before now : List �
   pub none : heard.end.heard ≡ []
   pub unrefused : end.splitter.refusal ≡ None
   pub same : hears script (listening at) piece ≡ hears script (told script heard (client_of message)) end.splitter.rest
+  pub taken : List ℕ
+  pub cut : at.heard ++ piece ≡ taken ++ end.splitter.rest
+  pub took : hears script (with_held (listening at) []) taken ≡ told script heard (client_of message)
 
 opens : (script : Script) (at : EndOfSchedule) (piece before now : List ℕ) (had has : List Taken) (end : ServerEnd) (splitter : Splitter) (message : List ℕ) → Midway script at piece before now had has end → One end.splitter splitter message
     → Opened script at piece before now had has (record end { splitter = splitter }) message
-opens script at piece before now had has end splitter message m o = record {
-  heard = with_held m.heard [];
-  amid = amid_held before now had has end splitter m.heard [] m.amid;
-  goes_on = m.goes_on;
-  none = refl;
-  unrefused = ap (λ z. z.refusal) o.is;
-  same = m.same ∙ hears_whole script (with_held m.heard []) end.splitter.rest message o.after m.goes_on front-nil o.whole ∙ ap (λ z. hears script (told script (with_held m.heard []) (client_of message)) z.rest) (sym o.is);
-}
+opens script at piece before now had has end splitter message m o =
+    let none : Heard = with_held m.heard [] in
+    let first = wire_of end.splitter.rest message o.after o.whole in
+    let one : hears script none first.wire ≡ told script none (client_of message) =
+    hears_whole script none first.wire message [] m.goes_on front-nil first.whole ∙ hears-nil script (told script none (client_of message)) in
+    record {
+      heard = none;
+      amid = amid_held before now had has end splitter m.heard [] m.amid;
+      goes_on = m.goes_on;
+      none = refl;
+      unrefused = ap (λ z. z.refusal) o.is;
+      same = m.same ∙ hears_whole script none end.splitter.rest message o.after m.goes_on front-nil o.whole ∙ ap (λ z. hears script (told script none (client_of message)) z.rest) (sym o.is);
+      taken = m.taken ++ first.wire;
+      cut = m.cut ∙ ap (λ z. m.taken ++ z) first.cut ∙ sym (append_assoc m.taken first.wire o.after) ∙ ap (λ z. (m.taken ++ first.wire) ++ z.rest) (sym o.is);
+      took = hears-append script (with_held (listening at) []) m.taken first.wire ∙ ap (λ z. hears script z first.wire) m.told ∙ one;
+    }
 
 -- it is done
 goes : (script : Script) (at : EndOfSchedule) (piece before now later : List ℕ) (had has more : List Taken) (end new : ServerEnd) (message : List ℕ) → Opened script at piece before now had has end message → new.splitter ≡ end.splitter
@@ -221,6 +274,9 @@ goes script at piece before now later had has more end new message o kept obeys 
       goes_on = done.1 ∙ o.goes_on;
       unrefused = ap (λ z. z.refusal) kept ∙ o.unrefused;
       same = o.same ∙ ap (λ z. hears script z end.splitter.rest) is ∙ ap (λ z. hears script (with_held after []) z.rest) (sym kept);
+      taken = o.taken;
+      cut = o.cut ∙ ap (λ z. o.taken ++ z.rest) (sym kept);
+      told = o.took ∙ is;
     }
 
 -- or not
@@ -237,7 +293,7 @@ as_said : (result : Result (Unit {0}) ServerFault) (old new : ServerEnd) (now la
 as_said result old new now later has more script same text message e f obeys =
     subst (λ z. Obeys result old new now later has more (λ heard. told z heard (client_of message))) e (subst (λ z. Obeys result old new now later has more (λ heard. told script heard (client_of z))) f obeys)
 
-pub message_fails : (old end new : ServerEnd) (splitter : Splitter) (piece before now later : List ℕ) (had has more : List Taken) (text message : List ℕ) (fault : ServerFault) → ((at : EndOfSchedule) → Stands old at → Midway old.script at piece before now had has end)
+pub message_fails : (old end new : ServerEnd) (splitter : Splitter) (piece before now later : List ℕ) (had has more : List Taken) (text message : List ℕ) (fault : ServerFault) → ((at : EndOfSchedule) → ListensAs old at → Midway old.script at piece before now had has end)
     → One end.splitter splitter message → end.script ≡ old.script → text ≡ message → Obeys (Err fault) (record end { splitter = splitter }) new now later has more (λ heard. told end.script heard (client_of text)) → Hears (Err fault) old new before later had more piece
 message_fails old end new splitter piece before now later had has more text message Memory m one e f obeys = λ at s. lacks old.script at piece before now later had has end (m at s) obeys
 message_fails old end new splitter piece before now later had has more text message Closed m one e f obeys = obeys
@@ -250,9 +306,9 @@ message_fails old end new splitter piece before now later had has more text mess
     let done = as_said (Err (Ack u)) (record end { splitter = splitter }) new now later has more end.script old.script text message e f obeys before had o.heard o.amid in
     halts old.script at piece before now later had has more (record end { splitter = splitter }) new message (Ack u) (unknown u) o done.0 done.1 done.1
 
-pub message_done : (old end new : ServerEnd) (splitter : Splitter) (piece before now later : List ℕ) (had has more : List Taken) (text message : List ℕ) → ((at : EndOfSchedule) → Stands old at → Midway old.script at piece before now had has end)
+pub message_done : (old end new : ServerEnd) (splitter : Splitter) (piece before now later : List ℕ) (had has more : List Taken) (text message : List ℕ) → ((at : EndOfSchedule) → ListensAs old at → Midway old.script at piece before now had has end)
     → One end.splitter splitter message → end.script ≡ old.script → text ≡ message → new.splitter ≡ splitter → Obeys (Ok tt) (record end { splitter = splitter }) new now later has more (λ heard. told end.script heard (client_of text))
-    → (at : EndOfSchedule) → Stands old at → Midway old.script at piece before later had more new
+    → (at : EndOfSchedule) → ListensAs old at → Midway old.script at piece before later had more new
 message_done old end new splitter piece before now later had has more text message m one e f kept obeys = λ at s.
     goes old.script at piece before now later had has more (record end { splitter = splitter }) new message (opens old.script at piece before now had has end splitter message (m at s) one) kept
     (as_said (Ok tt) (record end { splitter = splitter }) new now later has more end.script old.script text message e f obeys)

@@ -15,6 +15,7 @@ use Rattle.gfx_planner.proofs.Lists.{all_both, all_front, all_behind}
 use Rattle.gfx_planner.proofs.Streams.{bare, first_held, stands_at_start}
 use Rattle.gfx_schedule.specs.Leaving.{step_of}
 use Rattle.gfx_schedule.specs.Plan.{InPlan}
+use Rattle.gfx_schedule.specs.Starts.{from_nothing}
 use Rattle.gfx_schedule.specs.ServerEnd.{ServerEnd as EndOfSchedule, server_at_start, numbered, is_none, due}
 use Rattle.gfx_schedule.proofs.Items.{length-numbered, step_at-middle}
 use Rattle.gfx_schedule.proofs.Planning.{Ahead, ahead, joins}
@@ -82,14 +83,14 @@ are_steps script gone (one ∷ more) left same =
 -- what waits may go as a frame
 pub record May (script : Script) (kinded : List KindedStep) (at : EndOfSchedule) (gone waiting : List KindedStep) (plan : InPlan script kinded at gone waiting) : Type 0 where
   pub may : MayFrame script at.server at.window
-  pub ahead : Ahead script kinded at gone waiting plan.held
+  pub ahead : Ahead (from_nothing script) script kinded at gone waiting plan.held
   pub joins : JoinsFrame script at.server (due script at) ahead.after (want script (gone ++ waiting))
   pub some : 0 < length waiting
 
 may_at : (script : Script) (kinded : List KindedStep) (at : EndOfSchedule) (gone waiting : List KindedStep) (plan : InPlan script kinded at gone waiting) → IsAccepted script → Fits kinded script.steps → is_none at.window.pending ≡ false
     → May script kinded at gone waiting plan
 may_at script kinded at gone waiting plan good fits wait =
-    let a = ahead script kinded at gone waiting good fits plan in
+    let a = ahead (from_nothing script) script kinded at gone waiting good fits plan in
     let some : 0 < length waiting = omega (arith, some_wait at.window.pending wait, ap length plan.pending, length-numbered (length gone + 1) waiting) in
     record {
       may = record {
@@ -99,7 +100,7 @@ may_at script kinded at gone waiting plan good fits wait =
         may = record { numbers = a.numbers; kinds = a.kinds; held = plan.held; holds = plan.holds; after = a.after; checked = a.checked };
       };
       ahead = a;
-      joins = joins script kinded at gone waiting good fits plan a;
+      joins = joins (from_nothing script) script kinded at gone waiting good fits plan a;
       some = some;
     }
 

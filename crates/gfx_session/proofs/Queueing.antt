@@ -103,3 +103,7 @@ queueing_past script last number before left old now q none =
       ap (with_pending now) (sym (append-nil now.pending)) ∙ ap (λ z. with_pending now (now.pending ++ numbered (number + 1) z)) (sym cut) ∙ q.window,
       q.asks,
     )
+
+-- only what waits has changed
+pub queueing_only : (script : Script) (last number : ℕ) (before left : List Chooser) (old now : Window) → Queueing script last number before left old now → now ≡ with_pending old now.pending
+queueing_only script last number before left old now q = ap (λ z. with_pending z now.pending) q.window

@@ -7,9 +7,9 @@ use Rattle.gfx_caps.specs.declared.offer.Offer.{Offer}
 use Rattle.gfx_chooser.specs.Choosing.{Chooser}
 use Rattle.gfx_chooser.specs.Kinded.{Asks}
 use Rattle.gfx_chooser.proofs.Asking.{asks_none, asks_on}
-use Rattle.gfx_client.specs.Client.{cursor_of, closed_by}
+use Rattle.gfx_client.specs.Client.{cursor_of, closed_by, offers_of}
 use Rattle.gfx_client.specs.Replies.{hello, replies}
-use Rattle.gfx_client.specs.Standing.{StandsFor, HasBrought, IsDrained}
+use Rattle.gfx_client.specs.Standing.{StandsFor, HasBroughtFrom, IsDrained}
 use Rattle.gfx_client.specs.declared.client.Client.{Client}
 use Rattle.gfx_client.proofs.Bringing.{brought_drained}
 use Rattle.gfx_schedule.proofs.Turns.{every_schedule}
@@ -27,14 +27,14 @@ use Rattle.gfx_script.specs.Scripted.{Script}
 use Rattle.gfx_script.specs.declared.turn.Turn.{Turn}
 use Rattle.gfx_script.specs.declared.turn.Turn.TheVariants.{Server, Client as ToClient, Answer}
 use Rattle.gfx_state.specs.Cursor.{settled}
-use Rattle.gfx_state.specs.History.{Effect, history, history_of, end_states, ended}
-use Rattle.gfx_state.specs.Run.{Run, begun, run_of}
-use Rattle.gfx_state.specs.State.{State}
+use Rattle.gfx_state.specs.History.{Effect, history, history_from, end_states, ended}
+use Rattle.gfx_state.specs.Run.{Run, begun_from, run_from}
+use Rattle.gfx_state.specs.State.{State, fresh as fresh_state}
 use Rattle.gfx_state.proofs.Coming.{coming_needs}
 use Rattle.gfx_state.proofs.Effects.{history-append}
 use Rattle.gfx_window.specs.Window.{has_room}
 use Rattle.gfx_window.specs.declared.window.Sent.{Sent}
-use Rattle.gfx_session.specs.Kept.{digest_in, InStep, IsServerEnd}
+use Rattle.gfx_session.specs.Kept.{digest_in, InStep, IsServerEnd, PlansAsBefore}
 use Rattle.gfx_session.specs.Kept as kept
 use Rattle.gfx_session.specs.Serving.{Serves, ListensOpen, taken_of}
 use Rattle.gfx_session.specs.Session.{Stands, StandsBy, IsSession, AsksBetween, Turns, Drains, script_of, acked_of}
@@ -43,7 +43,7 @@ use Rattle.gfx_session.specs.declared.server_end.ServerEnd.{ServerEnd}
 use Rattle.gfx_session.specs.declared.server_end.listening.Taken.{Taken}
 use Rattle.gfx_session.specs.declared.session.Session.{Session}
 use Rattle.gfx_session.proofs.ChosenKinds.{IsUnderWayBy, by_choosers, one_more, stands_by, by_any}
-use Rattle.gfx_session.proofs.LastHeard.{hears_last}
+use Rattle.gfx_session.proofs.HeardPlan.{listens_as, stands_again}
 
 -- the server's end has a turn ---------------------------------------------------------------------------------
 
@@ -90,6 +90,7 @@ served old mid cs ds before out turned moved none serves down_is moved_are = (
           record {
             fresh = refl;
             server = does.0;
+            offers = s.offers ∙ ap (λ (z : Script). z.offers) (sym serves.1);
             client = s.client;
             brought = s.brought;
             drained = s.drained;
@@ -109,53 +110,55 @@ drop-taken : {X : Type 0} (most : ℕ) (items : List X) → drop (length (take m
 drop-taken most items = ap (drop (length (take most items))) (sym (take-append-drop most items)) ∙ drop-append_seam (take most items) (drop most items)
 
 -- what a client drew of more bytes is their history
-drew_history : (client : Client) (bytes piece : List ℕ) (more : List Effect) → HasBrought client (bytes ++ piece) (history_of bytes ++ more) → IsDrained client → more ≡ history (run_of bytes) piece
-drew_history client bytes piece more b d =
-    append_cancel_left (history_of bytes) more (history (run_of bytes) piece)
-    (sym (append-nil (history_of bytes ++ more)) ∙ ap (λ z. (history_of bytes ++ more) ++ z) (sym (coming_needs (cursor_of client) d.needs))
-    ∙ sym b.is ∙ history-append begun bytes piece)
+drew_history : (origin : State) (client : Client) (bytes piece : List ℕ) (more : List Effect) → HasBroughtFrom origin client (bytes ++ piece) (history_from origin bytes ++ more) → IsDrained client
+    → more ≡ history (run_from origin bytes) piece
+drew_history origin client bytes piece more b d =
+    append_cancel_left (history_from origin bytes) more (history (run_from origin bytes) piece)
+    (sym (append-nil (history_from origin bytes ++ more)) ∙ ap (λ z. (history_from origin bytes ++ more) ++ z) (sym (coming_needs (cursor_of client) d.needs))
+    ∙ sym b.is ∙ history-append (begun_from origin) bytes piece)
 
-pub client_takes_on : (old mid : Session) (taken : Client) (most : ℕ) (w : World) → TakesBytes old.client taken (take most old.down) → settled (cursor_of mid.client) ≡ settled (cursor_of taken) → IsDrained mid.client
+pub client_takes_on : (old mid : Session) (taken : Client) (most : ℕ) (w : World) → TakesBytes old.client taken (take most old.down) → offers_of mid.client ≡ offers_of taken → settled (cursor_of mid.client) ≡ settled (cursor_of taken) → IsDrained mid.client
     → Draws taken mid.client old.up mid.up old.drawn.items mid.drawn.items → mid.down ≡ drop (length (take most old.down)) old.down → Stands old w
     → Stands (record old { client = mid.client; down = mid.down; up = mid.up; drawn = mid.drawn; spent = false }) (client_takes w (take most w.down) (drop most w.down))
 unfolding client_takes
-client_takes_on old mid taken most w t run drained draws down_is s =
+client_takes_on old mid taken most w t offered run drained draws down_is s =
     let piece : List ℕ = take most old.down in
     let same : piece ≡ take most w.down = ap (take most) s.down in
-    let d = draws (w.taken ++ piece) (history_of w.taken) (t.brought w.taken (history_of w.taken) s.client s.brought) in
-    let more : d.more ≡ history (run_of w.taken) (take most w.down) = drew_history mid.client w.taken piece d.more d.brought drained ∙ ap (history (run_of w.taken)) same in
+    let d = draws w.start (w.taken ++ piece) (history_from w.start w.taken) (t.brought w.start w.taken (history_from w.start w.taken) s.client s.brought) in
+    let more : d.more ≡ history (run_from w.start w.taken) (take most w.down) = drew_history w.start mid.client w.taken piece d.more d.brought drained ∙ ap (history (run_from w.start w.taken)) same in
     record {
       fresh = refl;
       server = s.server;
-      client = record { run = run ∙ (t.stands w.taken s.client).run ∙ ap (λ z. run_of (w.taken ++ z)) same };
-      brought = brought_drained mid.client (w.taken ++ take most w.down) drained;
+      offers = offered ∙ t.offers ∙ s.offers;
+      client = record { run = run ∙ (t.stands w.start w.taken s.client).run ∙ ap (λ z. run_from w.start (w.taken ++ z)) same };
+      brought = brought_drained w.start mid.client (w.taken ++ take most w.down) drained;
       drained = drained;
       down = down_is ∙ drop-taken most old.down ∙ ap (drop most) s.down;
       up = d.replied ∙ (λ i. s.up i ++ replies (more i));
-      drawn = d.shown ∙ (λ i. s.drawn i ++ map digest_in (end_states (more i))) ∙ sym (map-append digest_in w.drawn (ended (run_of w.taken) (take most w.down)));
+      drawn = d.shown ∙ (λ i. s.drawn i ++ map digest_in (end_states (more i))) ∙ sym (map-append digest_in w.drawn (ended (run_from w.start w.taken) (take most w.down)));
       acks = s.acks;
     }
 
-pub drawn_on : (old mid : Session) (taken : Client) (most : ℕ) (moved : Bool) → TakesBytes old.client taken (take most old.down) → settled (cursor_of mid.client) ≡ settled (cursor_of taken) → IsDrained mid.client
+pub drawn_on : (old mid : Session) (taken : Client) (most : ℕ) (moved : Bool) → TakesBytes old.client taken (take most old.down) → offers_of mid.client ≡ offers_of taken → settled (cursor_of mid.client) ≡ settled (cursor_of taken) → IsDrained mid.client
     → Draws taken mid.client old.up mid.up old.drawn.items mid.drawn.items → mid.down ≡ drop (length (take most old.down)) old.down → moved ≡ not (length old.down == 0)
     → Does (Ok moved) old (record old { client = mid.client; down = mid.down; up = mid.up; drawn = mid.drawn; spent = false }) (ToClient most)
 unfolding happens
-drawn_on old mid taken most moved t run drained draws down_is moved_are = (
+drawn_on old mid taken most moved t offered run drained draws down_is moved_are = (
   (
     refl,
     refl,
     λ kinded turns fits s known.
-        (client_takes_on old mid taken most (world (script_of old) kinded turns) t run drained draws down_is s, moved_are ∙ ap (λ z. not (is_none z)) s.down),
+        (client_takes_on old mid taken most (world (script_of old) kinded turns) t offered run drained draws down_is s, moved_are ∙ ap (λ z. not (is_none z)) s.down),
   ),
   refl,
 )
 
 -- the same of a piece that is the front of what is in flight
-pub drew : (old mid : Session) (taken : Client) (most : ℕ) (piece : List ℕ) (moved : Bool) → piece ≡ take most old.down → TakesBytes old.client taken piece → settled (cursor_of mid.client) ≡ settled (cursor_of taken) → IsDrained mid.client
+pub drew : (old mid : Session) (taken : Client) (most : ℕ) (piece : List ℕ) (moved : Bool) → piece ≡ take most old.down → TakesBytes old.client taken piece → offers_of mid.client ≡ offers_of taken → settled (cursor_of mid.client) ≡ settled (cursor_of taken) → IsDrained mid.client
     → Draws taken mid.client old.up mid.up old.drawn.items mid.drawn.items → mid.down ≡ drop (length piece) old.down → moved ≡ not (length old.down == 0)
     → Does (Ok moved) old (record old { client = mid.client; down = mid.down; up = mid.up; drawn = mid.drawn; spent = false }) (ToClient most)
-drew old mid taken most piece moved is t run drained draws down_is moved_are =
-    drawn_on old mid taken most moved (subst (TakesBytes old.client taken) is t) run drained draws (down_is ∙ ap (λ z. drop (length z) old.down) is) moved_are
+drew old mid taken most piece moved is t offered run drained draws down_is moved_are =
+    drawn_on old mid taken most moved (subst (TakesBytes old.client taken) is t) offered run drained draws (down_is ∙ ap (λ z. drop (length z) old.down) is) moved_are
 
 -- it isn't closed, and refuses none of them
 pub will_take : (old : Session) → IsSession old → old.spent ≡ false → closed_by old.client ≡ None
@@ -171,7 +174,7 @@ will_draw old taken most piece is fresh same t =
     let u = is.under_way fresh in
     let w : World = world (script_of old) u.kinded u.turns in
     let goes = (keeps_next (script_of old) u.kinded u.turns (ToClient most) is.server.good u.fits).client_goes_on in
-    ap (λ (z : Run). z.refusal) ((t.stands w.taken u.stands.client).run ∙ ap (λ z. run_of (w.taken ++ z)) (same ∙ ap (take most) u.stands.down)) ∙ goes
+    ap (λ (z : Run). z.refusal) ((t.stands w.start w.taken u.stands.client).run ∙ ap (λ z. run_from w.start (w.taken ++ z)) (same ∙ ap (take most) u.stands.down)) ∙ goes
 
 -- the server's end takes bytes --------------------------------------------------------------------------------
 
@@ -184,13 +187,10 @@ will_hear old most piece is fresh same =
     record {
       at = w.server;
       stands = u.stands.server;
+      listens = listens_as old.server w.server u.stands.server;
       goes_on = (every_schedule script u.kinded u.turns is.server.good u.fits).server_goes_on;
       will = subst (λ z. (hears script (listening w.server) z).end.stopped ≡ None) (sym (same ∙ ap (take most) u.stands.up)) (keeps_next script u.kinded u.turns (Answer most) is.server.good u.fits).server_goes_on;
     }
-
--- no step is queued by it
-heard_last : (old new : ServerEnd) (out : List ℕ) (notes : List Taken) (piece : List ℕ) → WillHear old piece → ListensOpen (Ok tt) old new [] out [] notes piece → new.last ≡ old.last
-heard_last old new out notes piece will listens = (listens will.at will.stands).0.last ∙ hears_last old.script (listening will.at) piece ∙ sym will.stands.last
 
 -- the frames that are noted, with what was drawn
 paired_are : (frames : List Sent) (servers clients : List State) → paired (taken_of frames (map digest_in servers)) (map digest_in clients) ≡ map acked_of (acknowledgements frames servers clients)
@@ -212,15 +212,16 @@ map-dropped (suc count) [] = refl
 map-dropped (suc count) (state ∷ states) = map-dropped count states
 
 pub server_heard_on : (old mid : Session) (out : List ℕ) (notes : List Taken) (most : ℕ) (w : World) → ListensOpen (Ok tt) old.server mid.server [] out [] notes (take most old.up) → mid.up ≡ drop (length (take most old.up)) old.up
-    → mid.down ≡ old.down ++ out → mid.acks ≡ old.acks ++ paired notes old.drawn.items → mid.drawn.items ≡ drop (length notes) old.drawn.items → Stands old w
+    → mid.down ≡ old.down ++ out → mid.acks ≡ old.acks ++ paired notes old.drawn.items → mid.drawn.items ≡ drop (length notes) old.drawn.items → PlansAsBefore old.server mid.server → Stands old w
     → Stands (record old { server = mid.server; down = mid.down; up = mid.up; drawn = mid.drawn; acks = mid.acks; spent = false }) (server_heard w (hears (script_of old) (listening w.server) (take most w.up)) (drop most w.up))
 unfolding server_heard
-server_heard_on old mid out notes most w listens up_is down_is acks_are drawn_are s =
-    let does = subst (λ z. ListensOpen (Ok tt) old.server mid.server [] out [] notes (take most z)) s.up listens w.server s.server in
+server_heard_on old mid out notes most w listens up_is down_is acks_are drawn_are plans s =
+    let does = subst (λ z. ListensOpen (Ok tt) old.server mid.server [] out [] notes (take most z)) s.up listens w.server (listens_as old.server w.server s.server) in
     let count : length notes ≡ length (hears (script_of old) (listening w.server) (take most w.up)).taken = ap length does.3 ∙ length-taken_of _ _ does.4 in
     record {
       fresh = refl;
-      server = does.0;
+      server = stands_again (script_of old) old.server mid.server w.server (take most w.up) s.server plans does.0;
+      offers = s.offers ∙ ap (λ (z : Script). z.offers) (sym plans.script);
       client = s.client;
       brought = s.brought;
       drained = s.drained;
@@ -230,28 +231,28 @@ server_heard_on old mid out notes most w listens up_is down_is acks_are drawn_ar
       acks = acks_are ∙ (λ i. s.acks i ++ paired (does.3 i) (s.drawn i)) ∙ ap (λ z. map acked_of w.acks ++ z) (paired_are _ _ w.drawn) ∙ sym (map-append acked_of w.acks _);
     }
 
-pub heard_on : (old mid : Session) (out : List ℕ) (notes : List Taken) (most : ℕ) (moved : Bool) → WillHear old.server (take most old.up) → ListensOpen (Ok tt) old.server mid.server [] out [] notes (take most old.up) → mid.server.script ≡ old.server.script
+pub heard_on : (old mid : Session) (out : List ℕ) (notes : List Taken) (most : ℕ) (moved : Bool) → WillHear old.server (take most old.up) → ListensOpen (Ok tt) old.server mid.server [] out [] notes (take most old.up) → PlansAsBefore old.server mid.server
     → mid.up ≡ drop (length (take most old.up)) old.up → mid.down ≡ old.down ++ out → mid.acks ≡ old.acks ++ paired notes old.drawn.items → mid.drawn.items ≡ drop (length notes) old.drawn.items → moved ≡ not (length old.up == 0)
     → Does (Ok moved) old (record old { server = mid.server; down = mid.down; up = mid.up; drawn = mid.drawn; acks = mid.acks; spent = false }) (Answer most)
 unfolding happens
-heard_on old mid out notes most moved will listens script_is up_is down_is acks_are drawn_are moved_are = (
+heard_on old mid out notes most moved will listens plans up_is down_is acks_are drawn_are moved_are = (
   (
     refl,
-    script_is,
+    plans.script,
     λ kinded turns fits s known.
-        (server_heard_on old mid out notes most (world (script_of old) kinded turns) listens up_is down_is acks_are drawn_are s, moved_are ∙ ap (λ z. not (is_none z)) s.up),
+        (server_heard_on old mid out notes most (world (script_of old) kinded turns) listens up_is down_is acks_are drawn_are plans s, moved_are ∙ ap (λ z. not (is_none z)) s.up),
   ),
-  heard_last old.server mid.server out notes (take most old.up) will listens,
+  plans.last,
 )
 
 -- the same of a piece that is the front of what is in flight
 pub heard : (old mid : Session) (before out piece : List ℕ) (had notes : List Taken) (most : ℕ) (moved : Bool) → before ≡ [] → had ≡ [] → piece ≡ take most old.up → WillHear old.server piece → ListensOpen (Ok tt) old.server mid.server before out had notes piece
-    → mid.server.script ≡ old.server.script → mid.up ≡ drop (length piece) old.up → mid.down ≡ old.down ++ out → mid.acks ≡ old.acks ++ paired notes old.drawn.items → mid.drawn.items ≡ drop (length notes) old.drawn.items → moved ≡ not (length old.up == 0)
+    → PlansAsBefore old.server mid.server → mid.up ≡ drop (length piece) old.up → mid.down ≡ old.down ++ out → mid.acks ≡ old.acks ++ paired notes old.drawn.items → mid.drawn.items ≡ drop (length notes) old.drawn.items → moved ≡ not (length old.up == 0)
     → Does (Ok moved) old (record old { server = mid.server; down = mid.down; up = mid.up; drawn = mid.drawn; acks = mid.acks; spent = false }) (Answer most)
-heard old mid before out piece had notes most moved none nothing is will listens script_is up_is down_is acks_are drawn_are moved_are =
+heard old mid before out piece had notes most moved none nothing is will listens plans up_is down_is acks_are drawn_are moved_are =
     let here = subst (λ z. ListensOpen (Ok tt) old.server mid.server z out had notes piece) none listens in
     let there = subst (λ z. ListensOpen (Ok tt) old.server mid.server [] out z notes piece) nothing here in
-    heard_on old mid out notes most moved (subst (WillHear old.server) is will) (subst (ListensOpen (Ok tt) old.server mid.server [] out [] notes) is there) script_is (up_is ∙ ap (λ z. drop (length z) old.up) is) down_is acks_are drawn_are
+    heard_on old mid out notes most moved (subst (WillHear old.server) is will) (subst (ListensOpen (Ok tt) old.server mid.server [] out [] notes) is there) plans (up_is ∙ ap (λ z. drop (length z) old.up) is) down_is acks_are drawn_are
     moved_are
 
 -- whether it is ended --------------------------------------------------------------------------------------------
@@ -410,13 +411,14 @@ drains_last start now cs ds law is fresh before = drains start now cs ds 0 law i
 
 -- the start ----------------------------------------------------------------------------------------------------------
 
-pub starts : (session : Session) (script : Script) (kinded : List KindedStep) → session.spent ≡ false → kept.Stands session.server (server_at_start script kinded) → StandsFor session.client [] → IsDrained session.client → session.down ≡ [] → session.up ≡ hello script.offers
+pub starts : (session : Session) (script : Script) (kinded : List KindedStep) → session.spent ≡ false → kept.Stands session.server (server_at_start script kinded) → offers_of session.client ≡ (script_of session).offers → StandsFor session.client [] → IsDrained session.client → session.down ≡ [] → session.up ≡ hello script.offers
     → session.drawn.items ≡ [] → session.acks ≡ [] → Stands session (begin script kinded)
-starts session script kinded fresh server client drained down up drawn acks = record {
+starts session script kinded fresh server offers client drained down up drawn acks = record {
   fresh = fresh;
   server = server;
+  offers = offers;
   client = client;
-  brought = brought_drained session.client [] drained;
+  brought = brought_drained fresh_state session.client [] drained;
   drained = drained;
   down = down;
   up = up;
@@ -446,3 +448,7 @@ last_started server script stands = (stands (map own script.steps) (own_steps_fi
 
 pub starts_up : (up before bytes : List ℕ) (offered had piece offers : List Offer) → up ≡ before ++ bytes → before ≡ [] → bytes ≡ hello offered → offered ≡ had ++ piece → had ≡ [] → piece ≡ offers → up ≡ hello offers
 starts_up up before bytes offered had piece offers put none says are nothing told = put ∙ ap (λ z. z ++ bytes) none ∙ says ∙ ap hello (are ∙ (λ i. nothing i ++ told i))
+
+-- the client was made of the offers of the script
+pub starts_offers : (offered had piece : List Offer) (script kept : Script) → offered ≡ had ++ piece → had ≡ [] → piece ≡ script.offers → kept ≡ script → offered ≡ kept.offers
+starts_offers offered had piece script kept are nothing told same = are ∙ (λ i. nothing i ++ told i) ∙ ap (λ (z : Script). z.offers) (sym same)

@@ -12,6 +12,7 @@ use Rattle.gfx_planner.specs.Planned.{PutsFront, ready}
 use Rattle.gfx_planner.specs.Wire.{Server}
 use Rattle.gfx_planner.proofs.Streams.{bare}
 use Rattle.gfx_schedule.specs.Plan.{InPlan}
+use Rattle.gfx_schedule.specs.Starts.{from_nothing}
 use Rattle.gfx_schedule.specs.ServerEnd.{ServerEnd as EndOfSchedule, first_frame, behind_frame, numbered, queued, is_none, can_send, due, with_sent, sends, bytes_sent, serves, serving, can_serve, has_served}
 use Rattle.gfx_schedule.specs.declared.turned.Turned.{Turned}
 use Rattle.gfx_schedule.specs.declared.turned.Turned.TheVariants.{Moved, Waiting, Ended}
@@ -22,9 +23,9 @@ use Rattle.gfx_script.specs.Script.{IsAccepted}
 use Rattle.gfx_script.specs.Scripted.{Script}
 use Rattle.gfx_script.specs.declared.step.Step.{Step}
 use Rattle.gfx_segment.specs.Framing.{front, holding}
-use Rattle.gfx_session.specs.Frames.{next_steps, QueuesFrame, due_of, can_go, Flies, frame_due, SendsFrame}
+use Rattle.gfx_session.specs.Frames.{next_steps, HearsAsBefore, QueuesFrame, due_of, can_go, Flies, frame_due, SendsFrame}
 use Rattle.gfx_session.specs.Kept.{digest_in, GoesBy, Stands, InStep, IsServerEnd}
-use Rattle.gfx_session.specs.Serving.{Serves, answers}
+use Rattle.gfx_session.specs.Serving.{ListensOn, Serves, answers}
 use Rattle.gfx_session.specs.declared.server_end.ServerEnd.{ServerEnd}
 use Rattle.gfx_session.proofs.Plans.{both_true, none_false, some_is, none_is, within, goes_at, next_id, brings}
 use Rattle.gfx_state.specs.Sending.{sent}
@@ -113,7 +114,7 @@ queued_in_step end number choosers left window was q =
       at = queued is.at;
       gone = is.gone;
       waiting = is.waiting ++ first_frame is.at.left;
-      plan = queues end.script is.kinded is.at is.gone is.waiting is.plan;
+      plan = queues (from_nothing end.script) end.script is.kinded is.at is.gone is.waiting is.plan;
       last = new.0;
       window = new.1;
       planned = is.planned ∙ ap ready (sym (queued_same is.at).server);
@@ -187,7 +188,7 @@ stays mid new true before now good is s =
       gone = is.gone ++ is.waiting;
       waiting = [];
       plan = subst (λ (s : Script). InPlan s is.kinded (with_sent is.at server) (is.gone ++ is.waiting) []) (sym flies.script)
-          (goes mid.script is.kinded is.at is.gone is.waiting is.plan m.ahead m.some m.joins);
+          (goes (from_nothing mid.script) mid.script is.kinded is.at is.gone is.waiting is.plan m.ahead m.some m.joins);
       last = flies.last ∙ is.last;
       window = flies.window ∙ (λ i. with_frame (is.window i) ((is.planned i).server.frames + 1) (is.last i)) ∙ ap (λ n. with_frame is.at.window n is.at.last) (sym m.joins.frames);
       planned = flies.planned ∙ ap ready same;
@@ -292,10 +293,41 @@ turned_is end new number choosers left window went before now is fresh q s kept_
 
 -- without memory ------------------------------------------------------------------------------------------------------
 
+-- only what waits has changed of what a server's end hears its client by
+pub listens_queued : (end mid new : ServerEnd) → mid.window ≡ with_pending end.window mid.window.pending → mid.ends.items ≡ end.ends.items → mid.confirmed ≡ end.confirmed → mid.closed ≡ end.closed → mid.splitter ≡ end.splitter
+    → HearsAsBefore mid new → ListensOn end new
+listens_queued end mid new window ends confirmed closed splitter h = λ at l. record {
+  window = h.window ∙ window ∙ ap (λ z. with_pending end.window z.pending) (sym h.window) ∙ ap (λ z. with_pending z new.window.pending) l.window;
+  ends = h.ends ∙ ends ∙ l.ends;
+  even = l.even;
+  confirmed = h.confirmed ∙ confirmed ∙ l.confirmed;
+  closed = h.closed ∙ closed ∙ l.closed;
+  heard = λ none. h.splitter ∙ splitter ∙ l.heard none;
+  short = l.short;
+}
+
+-- it was spent before
+pub still_spent : (end : ServerEnd) (choosers left : List Chooser) (before : List ℕ) (e : NoMemory) → end.spent ≡ true → Serves (Err e) end end choosers left before before
+still_spent end choosers left before e spent =
+    (spent, refl, λ was. refl, λ at st goes. absurd (let fresh : end.spent ≡ false = st.fresh in cc), listens_queued end end end refl refl refl refl refl record { window = refl; ends = refl; confirmed = refl; closed = refl; splitter = refl })
+
+-- a step wasn't queued
+pub unqueued : (end : ServerEnd) (window : Window) (choosers left : List Chooser) (before : List ℕ) (e : NoMemory) → end.spent ≡ false → window ≡ with_pending end.window window.pending
+    → Serves (Err e) end (record end { window = window; spent = true }) choosers left before before
+unqueued end window choosers left before e fresh only = (
+  refl,
+  refl,
+  λ was. refl,
+  λ at st goes. record { part = []; rest = serving end.script at; cut = refl; gained = sym (append-nil before) },
+  (let next : ServerEnd = record end { window = window; spent = true } in
+      listens_queued end next next only refl refl refl refl record { window = refl; ends = refl; confirmed = refl; closed = refl; splitter = refl }),
+)
+
 -- a front of the frame was
 pub unsent : (end new : ServerEnd) (number : ℕ) (choosers left : List Chooser) (window : Window) (before now : List ℕ) (e f : NoMemory) → IsServerEnd end → end.spent ≡ false
     → QueuesFrame (Ok number) end.script end.last choosers left end.window window → SendsFrame (Err f) (with_queued end number window) new before now → Serves (Err e) end new choosers left before now
-unsent end new number choosers left window before now e f is fresh q s = (s.2, s.1, λ was. absurd cc, λ at st goes. by at st goes)
+unsent end new number choosers left window before now e f is fresh q s =
+    (s.2, s.1, λ was. absurd cc, λ at st goes. by at st goes, listens_queued end (with_queued end number window) new (q.1 ∙ ap (with_pending end.window) (ap (λ (w : Window). w.pending) (sym q.1))) refl refl refl refl s.4)
   where
     mid : ServerEnd
     mid = with_queued end number window

@@ -26,13 +26,14 @@ use Rattle.gfx_window.specs.Window.{sent as with_frame}
 abbrev pub next_steps : Script → List Chooser → ℕ → List KindedStep
 next_steps script choosers last = first_frame (kinded script (last + 1) choosers (drop last script.steps))
 
--- they are queued, and the number of the last of them is answered; the choosers were asked of them alone
+-- they are queued, and the number of the last of them is answered; the choosers were asked of them alone. Without memory
+-- only what waits has changed
 abbrev pub QueuesFrame : Result ℕ NoMemory → Script → ℕ → List Chooser → List Chooser → Window → Window → Type 0
 QueuesFrame (Ok number) script last before after old new =
     (number ≡ last + length (next_steps script before last))
     × (new ≡ with_pending old (old.pending ++ numbered (last + 1) (next_steps script before last)))
     × Asks script last number before after
-QueuesFrame (Err e) script last before after old new = Unit {0}
+QueuesFrame (Err e) script last before after old new = new ≡ with_pending old new.pending
 
 -- the steps of a frame of all that waits
 abbrev pub due_of : Script → Window → List KindedStep
@@ -81,10 +82,18 @@ pub record Flies (old new : ServerEnd) (server : Server) : Type 0 where
 abbrev pub frame_due : ServerEnd → List ℕ
 frame_due end = sent (frame_of end.script end.planner.server (due_of end.script end.window))
 
--- it goes where it can, and whether it did is told; or a front of it is put out
+-- what a server's end hears its client by is as it was
+pub record HearsAsBefore (old new : ServerEnd) : Type 0 where
+  pub window : new.window ≡ old.window
+  pub ends : new.ends.items ≡ old.ends.items
+  pub confirmed : new.confirmed ≡ old.confirmed
+  pub closed : new.closed ≡ old.closed
+  pub splitter : new.splitter ≡ old.splitter
+
+-- it goes where it can, and whether it did is told; or a front of it is put out, and no frame is in flight for it
 abbrev pub SendsFrame : Result Bool NoMemory → ServerEnd → ServerEnd → List ℕ → List ℕ → Type 0
 SendsFrame (Ok true) old new before now =
     (can_go old ≡ true) × Flies old new (after_frame old.script old.planner.server (due_of old.script old.window)) × (now ≡ before ++ frame_due old)
 SendsFrame (Ok false) old new before now = (can_go old ≡ false) × (new ≡ old) × (now ≡ before)
 SendsFrame (Err e) old new before now =
-    (can_go old ≡ true) × (new.script ≡ old.script) × (new.spent ≡ old.spent) × PutsFront before now (frame_due old)
+    (can_go old ≡ true) × (new.script ≡ old.script) × (new.spent ≡ old.spent) × PutsFront before now (frame_due old) × HearsAsBefore old new

@@ -22,6 +22,25 @@ digest_in state = digest_of state.shown.surfaces state.cache.slots state.clear.r
 abbrev pub GoesBy : Script → List Chooser → EndOfSchedule → Type 0
 GoesBy script choosers at = at.left ≡ chosen.kinded script (at.last + 1) choosers (drop at.last script.steps)
 
+-- a server's end, spent or not, hears its client as one of the schedule's does: by the frames in flight, each with the
+-- digest of the state right after it, whether a version is confirmed, and the bytes that aren't a whole message yet
+pub record ListensAs (end : ServerEnd) (at : EndOfSchedule) : Type 0 where
+  pub window : end.window ≡ at.window
+  pub ends : end.ends.items ≡ map digest_in at.ends
+  pub even : length at.ends ≡ length at.window.flying
+  pub confirmed : end.confirmed ≡ at.confirmed
+  pub closed : end.closed ≡ is_some at.stopped
+  pub heard : at.stopped ≡ None → end.splitter ≡ holding at.heard
+  pub short : at.stopped ≡ None → front at.heard ≡ Short
+
+-- what its client's bytes leave as it is: the script, the steps that wait and those that are left, and what was planned
+pub record PlansAsBefore (old new : ServerEnd) : Type 0 where
+  pub script : new.script ≡ old.script
+  pub last : new.last ≡ old.last
+  pub planner : new.planner ≡ old.planner
+  pub spent : new.spent ≡ old.spent
+  pub pending : new.window.pending ≡ old.window.pending
+
 -- a server's end that isn't spent stands for one of the schedule's, whatever kinds the steps that are left go as
 pub record Stands (end : ServerEnd) (at : EndOfSchedule) : Type 0 where
   pub fresh : end.spent ≡ false

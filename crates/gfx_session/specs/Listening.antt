@@ -1,14 +1,13 @@
 -- What a server's end makes of its client's messages, one after another.
-use Rattle.std.specs.Prelude.{◌≡◌, ◌≤◌, ◌+◌, ℕ, false, List, ◌++◌, drop, length, map, None, Result, Ok, Err}
+use Rattle.std.specs.Prelude.{◌≡◌, ◌≤◌, ◌+◌, ℕ, List, ◌++◌, length, map, None, Result, Ok, Err}
 use Rattle.gfx_base.specs.declared.refusal.Refusal.{Refusal}
 use Rattle.gfx_base.specs.declared.answer.Cause.{Cause}
 use Rattle.gfx_base.specs.declared.answer.Cause.TheVariants as cause
-use Rattle.gfx_planner.specs.Planned.{PutsFront, ready}
 use Rattle.gfx_schedule.specs.Hearing.{Heard, listening, hears}
 use Rattle.gfx_schedule.specs.ServerEnd.{ServerEnd as EndOfSchedule}
 use Rattle.gfx_segment.specs.Framing.{Short, front, holding}
-use Rattle.gfx_session.specs.Kept.{digest_in, Stands}
-use Rattle.gfx_session.specs.Serving.{Tells, taken_of}
+use Rattle.gfx_session.specs.Kept.{digest_in, ListensAs}
+use Rattle.gfx_session.specs.Serving.{AnswersWhole, Tells, taken_of}
 use Rattle.gfx_session.specs.declared.server_end.listening.Taken.{Taken}
 use Rattle.gfx_session.specs.declared.server_end.ServerEnd.{ServerEnd}
 use Rattle.gfx_session.specs.declared.server_end.ServerFault.{ServerFault}
@@ -22,11 +21,7 @@ fault_of cause.Memory = Memory
 -- in the midst of its client's messages a server's end stands for the schedule's that has heard so much, but
 -- for the bytes that are held and whether it goes on. So much was put out since, and these frames were noted
 pub record Amid (before now : List ℕ) (had has : List Taken) (end : ServerEnd) (heard : Heard) : Type 0 where
-  pub fresh : end.spent ≡ false
-  pub left : map (λ one. one.step) heard.end.left ≡ drop heard.end.last end.script.steps
-  pub last : end.last ≡ heard.end.last
   pub window : end.window ≡ heard.end.window
-  pub planned : end.planner ≡ ready heard.end.server
   pub ends : end.ends.items ≡ map digest_in heard.end.ends
   pub even : length heard.end.ends ≡ length heard.end.window.flying
   pub confirmed : end.confirmed ≡ heard.end.confirmed
@@ -57,12 +52,12 @@ Obeys (Err fault) old new now later has more due =
 -- what all messages of a piece do
 abbrev pub Hears : Result (Unit {0}) ServerFault → ServerEnd → ServerEnd → List ℕ → List ℕ → List Taken → List Taken → List ℕ → Type 0
 Hears (Ok done) old new before now had has piece =
-    (at : EndOfSchedule) → Stands old at → Amid before now had has new (hears old.script (listening at) piece)
+    (at : EndOfSchedule) → ListensAs old at → Amid before now had has new (hears old.script (listening at) piece)
     × ((hears old.script (listening at) piece).end.stopped ≡ None)
     × (new.splitter ≡ holding (hears old.script (listening at) piece).end.heard) × (front (hears old.script (listening at) piece).end.heard ≡ Short)
 Hears (Err Memory) old new before now had has piece =
-    (at : EndOfSchedule) → Stands old at → PutsFront before now (hears old.script (listening at) piece).out
+    (at : EndOfSchedule) → ListensAs old at → AnswersWhole old.script at piece before now
 Hears (Err Closed) old new before now had has piece = ⊥
 Hears (Err fault) old new before now had has piece =
-    (at : EndOfSchedule) → Stands old at → Amid before now had has new (hears old.script (listening at) piece)
+    (at : EndOfSchedule) → ListensAs old at → Amid before now had has new (hears old.script (listening at) piece)
     × Tells fault (hears old.script (listening at) piece).end.stopped

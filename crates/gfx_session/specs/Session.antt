@@ -3,7 +3,8 @@ use Rattle.std.specs.Prelude.{◌≡◌, true, false, List, [], ◌∷◌, ◌++
 use Rattle.gfx_base.specs.declared.answer.NoMemory.{NoMemory}
 use Rattle.gfx_chooser.specs.Choosing.{Chooser}
 use Rattle.gfx_chooser.specs.Kinded.{Asks}
-use Rattle.gfx_client.specs.Standing.{StandsFor, HasBrought, IsDrained}
+use Rattle.gfx_client.specs.Client.{offers_of}
+use Rattle.gfx_client.specs.Standing.{StandsFrom, HasBroughtFrom, IsDrained}
 use Rattle.gfx_schedule.specs.Schedule.{rounds_for}
 use Rattle.gfx_schedule.specs.World.{World, Acknowledged, world, answer, is_ended, drained}
 use Rattle.gfx_schedule.specs.declared.turned.Turned.{Turned}
@@ -14,7 +15,7 @@ use Rattle.gfx_session.specs.Kept.{digest_in, GoesBy, IsServerEnd}
 use Rattle.gfx_session.specs.Kept as kept
 use Rattle.gfx_session.specs.declared.acked.Acked.{Acked}
 use Rattle.gfx_session.specs.declared.session.Session.{Session}
-use Rattle.gfx_state.specs.History.{history_of}
+use Rattle.gfx_state.specs.History.{history_from}
 
 -- an acknowledgement as it is kept
 abbrev pub acked_of : Acknowledged → Acked
@@ -24,13 +25,14 @@ acked_of ack = record { frame = ack.frame; step = ack.step; client = digest_in a
 abbrev pub script_of : Session → Script
 script_of session = session.server.script
 
--- a session that isn't spent stands for one of the schedule's: its client has taken exactly the bytes that
--- the other's client has, and has drawn all messages that are whole among them
+-- a session that isn't spent stands for one of the schedule's: its client offers what the script says, has taken exactly
+-- the bytes that the other's client has, from the same start on, and has drawn all messages that are whole among them
 pub record Stands (session : Session) (w : World) : Type 0 where
   pub fresh : session.spent ≡ false
   pub server : kept.Stands session.server w.server
-  pub client : StandsFor session.client w.taken
-  pub brought : HasBrought session.client w.taken (history_of w.taken)
+  pub offers : offers_of session.client ≡ (script_of session).offers
+  pub client : StandsFrom w.start session.client w.taken
+  pub brought : HasBroughtFrom w.start session.client w.taken (history_from w.start w.taken)
   pub drained : IsDrained session.client
   pub down : session.down ≡ w.down
   pub up : session.up ≡ w.up

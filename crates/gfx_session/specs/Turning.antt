@@ -2,9 +2,9 @@
 use Rattle.std.specs.Prelude.{◌≡◌, ℕ, Bool, true, false, List, [], ◌∷◌, ◌++◌, map, None, Result, Ok, Err}
 use Rattle.gfx_base.specs.declared.answer.NoMemory.{NoMemory}
 use Rattle.gfx_chooser.specs.Choosing.{Chooser}
-use Rattle.gfx_client.specs.Client.{closed_by}
+use Rattle.gfx_client.specs.Client.{closed_by, offers_of}
 use Rattle.gfx_client.specs.Replies.{replies}
-use Rattle.gfx_client.specs.Standing.{StandsFor, HasBrought}
+use Rattle.gfx_client.specs.Standing.{StandsFrom, HasBroughtFrom}
 use Rattle.gfx_client.specs.declared.client.Client.{Client}
 use Rattle.gfx_schedule.specs.Hearing.{listening, hears}
 use Rattle.gfx_schedule.specs.ServerEnd.{ServerEnd as EndOfSchedule}
@@ -13,6 +13,7 @@ use Rattle.gfx_schedule.specs.declared.turned.Turned.{Turned}
 use Rattle.gfx_schedule.specs.declared.turned.Turned.TheVariants.{Moved}
 use Rattle.gfx_script.specs.Kinds.{KindedStep, Fits}
 use Rattle.gfx_script.specs.declared.turn.Turn.{Turn}
+use Rattle.gfx_state.specs.State.{State}
 use Rattle.gfx_state.specs.History.{Effect, end_states}
 use Rattle.gfx_session.specs.Kept.{digest_in, GoesBy}
 use Rattle.gfx_session.specs.Kept as kept
@@ -66,21 +67,22 @@ GoesRound (Err e) old new choosers left = (new.spent ≡ true) × (script_of new
 -- a client takes bytes
 pub record TakesBytes (old new : Client) (piece : List ℕ) : Type 0 where
   pub not_closed : closed_by new ≡ None
-  pub stands : (bytes : List ℕ) → StandsFor old bytes → StandsFor new (bytes ++ piece)
-  pub brought : (bytes : List ℕ) (all : List Effect) → StandsFor old bytes → HasBrought old bytes all → HasBrought new (bytes ++ piece) all
+  pub offers : offers_of new ≡ offers_of old
+  pub stands : (start : State) (bytes : List ℕ) → StandsFrom start old bytes → StandsFrom start new (bytes ++ piece)
+  pub brought : (start : State) (bytes : List ℕ) (all : List Effect) → StandsFrom start old bytes → HasBroughtFrom start old bytes all → HasBroughtFrom start new (bytes ++ piece) all
 
 -- it has brought these effects about, and then others: what it said of them was put up, and the digests of
 -- its states at the ends of frames were noted
-pub record Drew (client : Client) (bytes : List ℕ) (all : List Effect) (up_before up : List ℕ) (noted_before noted : List (List ℕ)) : Type 0 where
+pub record Drew (start : State) (client : Client) (bytes : List ℕ) (all : List Effect) (up_before up : List ℕ) (noted_before noted : List (List ℕ)) : Type 0 where
   pub more : List Effect
-  pub brought : HasBrought client bytes (all ++ more)
+  pub brought : HasBroughtFrom start client bytes (all ++ more)
   pub replied : up ≡ up_before ++ replies more
   pub shown : noted ≡ noted_before ++ map digest_in (end_states more)
 
 -- so of whatever it had brought about
 abbrev pub Draws : Client → Client → List ℕ → List ℕ → List (List ℕ) → List (List ℕ) → Type 0
 Draws old new up_before up noted_before noted =
-    (bytes : List ℕ) (all : List Effect) → HasBrought old bytes all → Drew new bytes all up_before up noted_before noted
+    (start : State) (bytes : List ℕ) (all : List Effect) → HasBroughtFrom start old bytes all → Drew start new bytes all up_before up noted_before noted
 
 -- the server's end ------------------------------------------------------------------------------------
 
@@ -88,6 +90,7 @@ Draws old new up_before up noted_before noted =
 pub record WillHear (end : ServerEnd) (piece : List ℕ) : Type 0 where
   pub at : EndOfSchedule
   pub stands : kept.Stands end at
+  pub listens : kept.ListensAs end at
   pub goes_on : at.stopped ≡ None
   pub will : (hears end.script (listening at) piece).end.stopped ≡ None
 

@@ -1,10 +1,11 @@
 //! What the client of a session makes of its bytes.
 ghost use Rattle.std.specs.Prelude.{◌≡◌, ℕ, List, None, Ok, OnOk, IfOk};
-ghost use Rattle.gfx_client.specs.Client.{cursor_of, closed_by, StepsOpen};
+ghost use Rattle.gfx_client.specs.Client.{cursor_of, closed_by, offers_of, StepsOpen};
 ghost use Rattle.gfx_client.specs.declared.fault.ClientFault.TheVariants.{Memory};
-ghost use Rattle.gfx_client.specs.Standing.{HasBrought, BringsOpen, IsDrained};
+ghost use Rattle.gfx_client.specs.Standing.{HasBroughtFrom, BringsOpen, IsDrained};
 ghost use Rattle.gfx_state.specs.Cursor.{settled};
 ghost use Rattle.gfx_state.specs.History.{Effect};
+ghost use Rattle.gfx_state.specs.State.{State};
 ghost use Rattle.gfx_session.specs.Drawing.{drawn_by};
 ghost use Rattle.gfx_session.specs.Kept.{digest_in};
 ghost use Rattle.gfx_session.specs.Turning.{TakesBytes, Draws};
@@ -50,6 +51,7 @@ pub fn draw_all(
     ensures run { OnOk result (settled (cursor_of client.new) ≡ settled (cursor_of client.old)) }
     ensures drained { OnOk result (IsDrained client.new) }
     ensures draws { OnOk result (Draws client.old client.new up.old up.new drawn.old.items drawn.new.items) }
+    ensures offers { offers_of client.new ≡ offers_of client.old }
 {
     'steps: loop {
         let stepped = next_step(client)?;
@@ -81,7 +83,8 @@ fn next_step(client: &mut Client) -> Result<Stepped, NoMemory>
     requires open { closed_by client.old ≡ None }
     requires good { (settled (cursor_of client.old)).refusal ≡ None }
     ensures steps { IfOk result (λ stepped. StepsOpen (Ok stepped) client.old client.new) }
-    ensures brings { IfOk result (λ stepped. (bytes : List ℕ) (all : List Effect) → HasBrought client.old bytes all → BringsOpen (Ok stepped) client.new bytes all) }
+    ensures brings { IfOk result (λ stepped. (start : State) (bytes : List ℕ) (all : List Effect) → HasBroughtFrom start client.old bytes all → BringsOpen start (Ok stepped) client.new bytes all) }
+    ensures offers { offers_of client.new ≡ offers_of client.old }
 {
     match client.step() {
         Ok(stepped) => Ok(stepped),

@@ -15,5 +15,6 @@ mod server_end;
 mod session;
 
 pub use acked::{Acked, Acks};
+pub use gfx_schedule::Turned;
 pub use server_end::{ServerEnd, ServerFault};
 pub use session::Session;

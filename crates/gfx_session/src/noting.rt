@@ -1,6 +1,6 @@
 //! The acknowledgements that a session notes.
 ghost use Rattle.std.specs.Prelude.{◌≡◌, ◌++◌, ◌∷◌, [], false, None, length, drop, Ok, OnOk};
-ghost use Rattle.gfx_session.specs.Kept.{IsServerEnd};
+ghost use Rattle.gfx_session.specs.Kept.{IsServerEnd, PlansAsBefore};
 ghost use Rattle.gfx_session.specs.Serving.{ListensOpen};
 ghost use Rattle.gfx_session.specs.declared.server_end.ServerFault.TheVariants.{Memory};
 ghost use Rattle.gfx_session.specs.Turning.{WillHear, paired};
@@ -18,7 +18,7 @@ pub fn hear_bytes(
     taken: &mut Vec<Taken>,
 ) -> Result<(), NoMemory>
     requires { WillHear server.old piece.now }
-    ensures script { server.new.script ≡ server.old.script }
+    ensures plans { PlansAsBefore server.old server.new }
     ensures hears { OnOk result (ListensOpen (Ok tt) server.old server.new out.old out.new taken.old.items taken.new.items piece.now) }
     ensures is { IsServerEnd server.old → IsServerEnd server.new }
 {

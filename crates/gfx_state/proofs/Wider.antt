@@ -23,7 +23,7 @@ use Rattle.gfx_surface_map.specs.Shown.{Shown, with_picture}
 use Rattle.gfx_state.specs.declared.codec.Codec.{Codec}
 use Rattle.gfx_state.specs.declared.codec.Codec.TheVariants.{Uncompressed, ClearCodec}
 use Rattle.gfx_state.specs.State.{State, started, fresh}
-use Rattle.gfx_state.specs.Same.{Same, Wider}
+use Rattle.gfx_state.specs.Same.{Same, StepsAlike, Wider}
 use Rattle.gfx_state.specs.Step.{step, frame_started, frame_ended, showing, surface_created, rects_filled, bytes_painted, stream_painted, painted_by, data_painted, tiles_drawn, tiles_painted, context_deleted, surface_ended, caching, image_in, rect_stored, slot_put, graphics_reset, caps_confirmed}
 use Rattle.gfx_state.specs.Sending.{all_steps, sent, IsCarried, standing, count_after}
 use Rattle.gfx_state.specs.Run.{eats}
@@ -234,14 +234,21 @@ pub step_wider : (s s' t : State) (pdu : Pdu) → step s pdu ≡ Ok s' → Wider
 step_wider s s' t pdu e w =
     (subst (λ z. Follows Wider (step s pdu) (step z pdu)) (wider_limited s t w) (limited_follows s t.cache.small pdu w.only_small)).each s' e
 
-pub all_steps_wider : (s s' t : State) (pdus : List Pdu) → all_steps s pdus ≡ Ok s' → Wider s t → (t' : State) × (all_steps t pdus ≡ Ok t') × Wider s' t'
+-- so with any relation that messages keep
+pub all_steps_alike : (R : State → State → Type 0) → StepsAlike R → (s s' t : State) (pdus : List Pdu) → all_steps s pdus ≡ Ok s' → R s t → (t' : State) × (all_steps t pdus ≡ Ok t') × R s' t'
 unfolding all_steps
-all_steps_wider s s' t [] e w = let same : s ≡ s' = cc in (t, refl, subst (λ z. Wider z t) same w)
-all_steps_wider s s' t (pdu ∷ pdus) e w =
+all_steps_alike R alike s s' t [] e w = let same : s ≡ s' = cc in (t, refl, subst (λ z. R z t) same w)
+all_steps_alike R alike s s' t (pdu ∷ pdus) e w =
     let first = and_then_ok (step s pdu) (λ next. all_steps next pdus) s' e in
-    let one = step_wider s first.0 t pdu first.1 w in
-    let rest = all_steps_wider first.0 s' one.0 pdus first.2 one.2 in
+    let one = alike.steps s first.0 t pdu first.1 w in
+    let rest = all_steps_alike R alike first.0 s' one.0 pdus first.2 one.2 in
     (rest.0, and_then_at (step t pdu) one.0 (λ next. all_steps next pdus) one.1 ∙ rest.1, rest.2)
+
+pub wider_alike : StepsAlike Wider
+wider_alike = record { steps = step_wider; decoded = λ s t w. w.decoded }
+
+pub all_steps_wider : (s s' t : State) (pdus : List Pdu) → all_steps s pdus ≡ Ok s' → Wider s t → (t' : State) × (all_steps t pdus ≡ Ok t') × Wider s' t'
+all_steps_wider s s' t pdus e w = all_steps_alike Wider wider_alike s s' t pdus e w
 
 -- messages that are sent
 pub sent_wider : (s s' t : State) (applied : ℕ) (pdus : List Pdu) → AllByRecursion IsCarried pdus → all_steps s pdus ≡ Ok s' → Wider s t

@@ -7,10 +7,10 @@ use Rattle.gfx_pdu.specs.declared.pdu.Pdu.{Pdu}
 use Rattle.gfx_pdu.specs.declared.pdu.Pdu.TheVariants.{EndFrame}
 use Rattle.gfx_pdu.specs.Spelling.{spelling}
 use Rattle.gfx_segment.specs.Framing.{Front, Whole, Short, Bad, front, payload}
-use Rattle.gfx_state.specs.State.{State}
+use Rattle.gfx_state.specs.State.{State, fresh}
 use Rattle.gfx_state.specs.Step.{step}
 use Rattle.gfx_state.specs.Payload.{messages_of}
-use Rattle.gfx_state.specs.Run.{Run, begun, deliver, eat}
+use Rattle.gfx_state.specs.Run.{Run, begun_from, deliver, eat}
 use Rattle.gfx_state.specs.Cursor.{Cursor, run_at}
 
 -- a message that was applied, its length on the wire (pduLength), and the state right after it
@@ -50,9 +50,13 @@ unfoldable pub history : Run → List ℕ → List Effect
 history run [] = []
 history run (byte ∷ bytes) = brings run byte ++ history (eat run byte) bytes
 
+-- the history of a stream from a start
+abbrev pub history_from : State → List ℕ → List Effect
+history_from start bytes = history (begun_from start) bytes
+
 -- the history of a stream
 abbrev pub history_of : List ℕ → List Effect
-history_of bytes = history begun bytes
+history_of bytes = history_from fresh bytes
 
 -- the messages applied, each with its length on the wire
 abbrev pub applied_in : Run → List ℕ → List (Pdu × ℕ)

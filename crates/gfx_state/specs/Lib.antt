@@ -1,7 +1,7 @@
 pub mod Codecs
 pub mod State
-pub mod Same
 pub mod Step
+pub mod Same
 pub mod Payload
 pub mod Run
 pub mod Cursor

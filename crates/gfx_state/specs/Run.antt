@@ -20,9 +20,13 @@ pub record Run : Type 0 where
   -- why the message after those was refused: nothing is read behind it
   pub refusal : Option Refusal
 
+-- nothing has come yet, from this state on
+abbrev pub begun_from : State → Run
+begun_from start = record { state = start; applied = 0; rest = []; refusal = None }
+
 -- nothing has come yet
 abbrev pub begun : Run
-begun = record { state = fresh; applied = 0; rest = []; refusal = None }
+begun = begun_from fresh
 
 -- the run ends with this refusal
 abbrev pub refuse : Run → Refusal → Run
@@ -70,9 +74,13 @@ eat run byte =
 unfoldable pub eats : Run → List ℕ → Run
 eats run bytes = fold eat run bytes
 
+-- the run of a stream from a start: the state before its first message
+abbrev pub run_from : State → List ℕ → Run
+run_from start bytes = eats (begun_from start) bytes
+
 -- the run of a stream
 abbrev pub run_of : List ℕ → Run
-run_of bytes = eats begun bytes
+run_of bytes = run_from fresh bytes
 
 -- the end of a stream: nothing may be left of a channel message
 unfoldable pub end : Run → Run

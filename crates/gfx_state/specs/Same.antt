@@ -1,6 +1,8 @@
 -- Which states count as the same, and which accept more: this project's own rule.
-use Rattle.std.specs.Prelude.{◌≡◌, true}
+use Rattle.std.specs.Prelude.{◌≡◌, true, Ok}
+use Rattle.gfx_pdu.specs.declared.pdu.Pdu.{Pdu}
 use Rattle.gfx_state.specs.State.{State}
+use Rattle.gfx_state.specs.Step.{step}
 
 -- two states with equal surfaces, equal slots, and equal ClearCodec stores: the rings with their cursors, and the
 -- glyphs. The output and what is mapped to it, the sequence number that is expected, the records of tiles, the open
@@ -20,3 +22,9 @@ pub record Wider (s t : State) : Type 0 where
   pub frame : s.frame ≡ t.frame
   pub decoded : s.decoded ≡ t.decoded
   pub only_small : t.cache.small ≡ true → s.cache.small ≡ true
+
+-- a relation of two states that each message keeps: what the first accepts the second accepts, and it holds of the two
+-- after it. Both have decoded as many frames
+pub record StepsAlike (R : State → State → Type 0) : Type 0 where
+  pub steps : (s after t : State) (pdu : Pdu) → step s pdu ≡ Ok after → R s t → (then : State) × (step t pdu ≡ Ok then) × R after then
+  pub decoded : (s t : State) → R s t → s.decoded ≡ t.decoded

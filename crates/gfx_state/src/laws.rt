@@ -3,7 +3,7 @@ ghost use Rattle.std.specs.List.{AllByRecursion, AllZip};
 ghost use Rattle.gfx_base.specs.declared.refusal.Refusal.{Refusal};
 ghost use Rattle.gfx_pdu.specs.declared.pdu.Pdu.{Pdu};
 ghost use Rattle.gfx_state.specs.State.{State, started, fresh};
-ghost use Rattle.gfx_state.specs.Same.{Same, Wider};
+ghost use Rattle.gfx_state.specs.Same.{Same, Wider, StepsAlike};
 ghost use Rattle.gfx_state.specs.Step.{step};
 ghost use Rattle.gfx_state.specs.Sending.{all_steps, sent, IsCarried, standing, count_after};
 ghost use Rattle.gfx_state.specs.Run.{Run, refuse, eats, run_of};
@@ -52,6 +52,7 @@ pub fn wider_states_accept_alike()
     ensures ends { (s after t : State) (applied : ℕ) (pdus : List Pdu) → AllByRecursion IsCarried pdus → all_steps s pdus ≡ Ok after → Wider s t
         → AllZip Same (ends_of s pdus) (ended (standing t applied) (sent pdus)) }
     ensures same { (s t : State) → Wider s t → Same s t }
+    ensures alike { StepsAlike Wider }
 {}
 
 /// What a stream has brought about, beside the run that it has come to: however it is cut, the history of

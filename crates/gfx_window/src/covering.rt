@@ -44,7 +44,7 @@ pub fn plain_write(script: &Script, item: Queued) -> Option<Write>
             ..
         } => {
             let kind = item.kind?;
-            if kind.is_progressive() {
+            if !kind.is_plain_write() {
                 return None;
             }
             let (width, height) = script.picture_size(*picture)?;
@@ -94,7 +94,7 @@ fn covers(script: &Script, item: Queued, write: Write) -> bool
             let Some(kind) = item.kind else {
                 return false;
             };
-            if kind.is_progressive() {
+            if !kind.is_plain_write() {
                 return false;
             }
             match script.picture_size(*picture) {
@@ -119,7 +119,7 @@ fn stands_aside(script: &Script, item: Queued) -> bool
             let Some(kind) = item.kind else {
                 return false;
             };
-            if kind.is_progressive() {
+            if !kind.is_plain_write() {
                 return false;
             }
             script.picture_size(*picture).is_some()

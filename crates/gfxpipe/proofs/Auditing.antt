@@ -8,7 +8,7 @@ use Rattle.gfx_base.specs.declared.refusal.Refusal.{Refusal}
 use Rattle.gfx_base.proofs.Streams.{Gained-append, Gains-append, Gains_none, FailsAfter-append, FailsAfter_more}
 use Rattle.gfx_client.proofs.NextEffects.{still_coming}
 use Rattle.gfx_client.proofs.Playing.{stopped}
-use Rattle.gfx_client.specs.Client.{cursor_of, closed_by, Steps, StepsOpen, MovesBy, Waits}
+use Rattle.gfx_client.specs.Client.{cursor_of, closed_by, Steps, StepsOpen, MovesBy, Waits, Takes}
 use Rattle.gfx_client.specs.Replies.{stepped_of}
 use Rattle.gfx_client.specs.Standing.{StandsFor, HasBrought}
 use Rattle.gfx_client.specs.declared.client.Client.{Client}
@@ -16,6 +16,9 @@ use Rattle.gfx_client.specs.declared.fault.ClientFault.{ClientFault}
 use Rattle.gfx_client.specs.declared.fault.ClientFault.TheVariants as fault
 use Rattle.gfx_client.specs.declared.stepped.Stepped.{Stepped}
 use Rattle.gfx_client.specs.declared.stepped.Stepped.TheVariants as stepped
+use Rattle.gfx_input.specs.Reading.{TakesPiece}
+use Rattle.gfx_input.specs.declared.fault.TakeFault.{TakeFault}
+use Rattle.gfx_input.specs.declared.fault.TakeFault.TheVariants as broke
 use Rattle.gfx_input.specs.declared.taker.Taken.{Taken}
 use Rattle.gfx_input.specs.declared.taker.Taken.TheVariants as taken
 use Rattle.gfx_pdu.specs.declared.pdu.Pdu.{Pdu}
@@ -24,12 +27,11 @@ use Rattle.gfx_report.specs.Audit.{audit_line}
 use Rattle.gfx_state.specs.History.{Effect, history, history_of}
 use Rattle.gfx_state.specs.Run.{begun, run_of}
 use Rattle.gfx_state.proofs.Coming.{coming_needs, coming_refuses}
-use Rattle.gfx_state.proofs.Effects.{history-append}
-use Rattle.gfxpipe.specs.Audit.{lines, number_after}
-use Rattle.gfxpipe.specs.Auditing.{message_in, due_of, due_lines, StandsAlike, WritesLine, Tells, TellsNext, TellsNone, GoesOnByOne, TellsAll, GoesOnByAll, audit, HasTold, HasHeard, HearsPiece}
+use Rattle.gfx_state.proofs.Effects.{history-nil, history-append}
+use Rattle.gfxpipe.specs.Audit.{lines, number_after, told, HasHeard}
+use Rattle.gfxpipe.specs.Auditing.{message_in, due_of, due_lines, StandsAlike, WritesLine, Tells, TellsNext, TellsNone, GoesOnByOne, TellsAll, GoesOnByAll}
+use Rattle.gfxpipe.specs.Recording.{HasPlayed, HasRefused}
 use Rattle.gfxpipe.specs.declared.audit.Auditor.{Auditor}
-use Rattle.gfxpipe.specs.declared.trouble.Trouble.{Trouble}
-use Rattle.gfxpipe.specs.declared.trouble.Trouble.TheVariants as trouble
 
 -- lines ---------------------------------------------------------------------------------------------------
 
@@ -61,7 +63,7 @@ message_said (EndFrame frame) size decoded = refl
 message_said other size decoded = refl
 
 -- a line was written, or could not be
-told_line : (old new : Auditor) (answer : Result (Option Taken) Trouble) (o : Change) (next : Effect) → due_of old ≡ next ∷ due_of new → new.number ≡ next_count old.number → StandsAlike old.client new.client
+told_line : (old new : Auditor) (answer : Result (Option Taken) TakeFault) (o : Change) (next : Effect) → due_of old ≡ next ∷ due_of new → new.number ≡ next_count old.number → StandsAlike old.client new.client
     → closed_by new.client ≡ None → WritesLine answer o (audit_line (next_count old.number) next.pdu next.size) → GoesOnByOne answer old new o
 told_line old new (Ok None) o next first number alike not_closed wrote = record {
   takes = record { next = next; first = first; number = number; alike = alike; not_closed = not_closed };
@@ -69,15 +71,14 @@ told_line old new (Ok None) o next first number alike not_closed wrote = record 
 }
 told_line old new (Ok (Some taken.More)) o next first number alike not_closed wrote = absurd wrote
 told_line old new (Ok (Some taken.Stopped)) o next first number alike not_closed wrote = absurd wrote
-told_line old new (Err trouble.Write) o next first number alike not_closed wrote = record {
+told_line old new (Err broke.Write) o next first number alike not_closed wrote = record {
   takes = record { next = next; first = first; number = number; alike = alike; not_closed = not_closed };
   fails = subst (λ n. FailsAfter o (audit_line n next.pdu next.size)) (sym number) wrote;
 }
-told_line old new (Err trouble.Read) o next first number alike not_closed wrote = absurd wrote
-told_line old new (Err trouble.Memory) o next first number alike not_closed wrote = absurd wrote
+told_line old new (Err broke.Memory) o next first number alike not_closed wrote = absurd wrote
 
 -- no message was there
-told_none : (old new : Auditor) (answer : Result (Option Taken) Trouble) (o : Change) → closed_by old.client ≡ None → Waits old.client new.client → StandsAlike old.client new.client
+told_none : (old new : Auditor) (answer : Result (Option Taken) TakeFault) (o : Change) → closed_by old.client ≡ None → Waits old.client new.client → StandsAlike old.client new.client
     → Tells None answer old new o → GoesOnByOne answer old new o
 told_none old new answer o none waits alike (is, number, gains) =
     subst (λ z. GoesOnByOne z old new o) (sym is) (
@@ -91,13 +92,13 @@ told_none old new answer o none waits alike (is, number, gains) =
     )
 
 -- a message was applied and told of
-told_message : (old new : Auditor) (said : Stepped) (answer : Result (Option Taken) Trouble) (o : Change) → closed_by old.client ≡ None → MovesBy old.client new.client said → StandsAlike old.client new.client
+told_message : (old new : Auditor) (said : Stepped) (answer : Result (Option Taken) TakeFault) (o : Change) → closed_by old.client ≡ None → MovesBy old.client new.client said → StandsAlike old.client new.client
     → Tells (message_in said) answer old new o → GoesOnByOne answer old new o
 told_message old new said answer o none m alike tells =
     let told = subst (λ z. Tells z answer old new o) (ap message_in m.says ∙ message_said m.pdu m.size (cursor_of new.client).state.decoded) tells in
     told_line old new answer o (record { pdu = m.pdu; size = m.size; state = (cursor_of new.client).state }) m.first told.0 alike (m.moves.closed ∙ none) told.1
 
-told_open : (old new : Auditor) (said : Stepped) (answer : Result (Option Taken) Trouble) (o : Change) → closed_by old.client ≡ None → StepsOpen (Ok said) old.client new.client → StandsAlike old.client new.client
+told_open : (old new : Auditor) (said : Stepped) (answer : Result (Option Taken) TakeFault) (o : Change) → closed_by old.client ≡ None → StepsOpen (Ok said) old.client new.client → StandsAlike old.client new.client
     → Tells (message_in said) answer old new o → GoesOnByOne answer old new o
 told_open old new stepped.Need answer o none s alike tells = told_none old new answer o none s alike tells
 told_open old new (stepped.Applied pdu size) answer o none s alike tells = told_message old new (stepped.Applied pdu size) answer o none s alike tells
@@ -108,7 +109,7 @@ open_step : (closed : Option ClientFault) (result : Result Stepped ClientFault) 
 open_step closed result old new none s = subst (λ (z : Option ClientFault). Steps z result old new) none s
 
 -- whatever a step said was told
-pub told_step : (old mid new : Auditor) (said : Stepped) (answer : Result (Option Taken) Trouble) (o : Change) → closed_by old.client ≡ None → Steps (closed_by old.client) (Ok said) old.client mid.client
+pub told_step : (old mid new : Auditor) (said : Stepped) (answer : Result (Option Taken) TakeFault) (o : Change) → closed_by old.client ≡ None → Steps (closed_by old.client) (Ok said) old.client mid.client
     → StandsAlike old.client mid.client → mid.number ≡ old.number → new.client ≡ mid.client → Tells (message_in said) answer mid new o → GoesOnByOne answer old new o
 told_step old mid new said answer o none s alike same client tells =
     told_open old new said answer o none
@@ -206,9 +207,9 @@ told_end a b d x y z start now new taken.More t (n, alike, rest) =
 told_end a b d x y z start now new taken.Stopped t (n, refuses) =
     (told_all a b d x y z start now new t n, λ bytes stands. refuses bytes (t.alike bytes stands))
 
-pub told_fault : (a b d : ℕ) (x y z : Option (List ℕ)) (start now new : Auditor) (f : Trouble) → Telling start now (change a b x y) → GoesOnByOne (Err f) now new (change b d y z)
+pub told_fault : (a b d : ℕ) (x y z : Option (List ℕ)) (start now new : Auditor) (f : TakeFault) → Telling start now (change a b x y) → GoesOnByOne (Err f) now new (change b d y z)
     → GoesOnByAll (Err f) start new (change a d x z)
-told_fault a b d x y z start now new trouble.Write t n =
+told_fault a b d x y z start now new broke.Write t n =
     let front = lines start.number t.done in
     let line = audit_line new.number n.takes.next.pdu n.takes.next.size in
     let due : due_lines start ≡ (front ++ line) ++ lines (number_after start.number (t.done ++ n.takes.next ∷ [])) (due_of new) =
@@ -217,7 +218,7 @@ told_fault a b d x y z start now new trouble.Write t n =
     ∙ ap (λ w. w ++ lines (number_after start.number (t.done ++ n.takes.next ∷ [])) (due_of new)) (lines_next start now t.done n.takes.next new.number t.number n.takes.number) in
     subst (FailsAfter (change a d x z)) (sym due)
     (FailsAfter_more (change a d x z) (front ++ line) (lines (number_after start.number (t.done ++ n.takes.next ∷ [])) (due_of new)) (FailsAfter-append a b d x y z front line t.gains n.fails))
-told_fault a b d x y z start now new trouble.Memory t n = (
+told_fault a b d x y z start now new broke.Memory t n = (
   n.count ∙ t.gains.count,
   record {
     sent = lines start.number t.done ++ [];
@@ -226,49 +227,66 @@ told_fault a b d x y z start now new trouble.Memory t n = (
     gained = Gained-append x (lines start.number t.done) y [] z t.gains.gained n.gained;
   },
 )
-told_fault a b d x y z start now new trouble.Read t n = absurd n
 
 -- a piece -----------------------------------------------------------------------------------------------------------
 
-pub heard : (a b d : ℕ) (x y z : Option (List ℕ)) (old mid new : Auditor) (bytes all : List ℕ) (answer : Result Taken Trouble) → HasHeard (audit old (change a b x y)) bytes → StandsFor mid.client all
-    → HasBrought mid.client all (history_of bytes) → mid.number ≡ old.number → GoesOnByAll answer mid new (change b d y z) → HearsPiece answer (audit new (change a d x z)) all
-heard a b d x y z old mid new bytes all answer h stands brought same goes = by answer goes
+-- what an auditor was given
+abbrev pub Heard : Auditor → List ℕ → Type 0
+Heard auditor bytes = HasHeard auditor.client auditor.number bytes
+
+abbrev pub Stopped : Auditor → List ℕ → Type 0
+Stopped auditor bytes = HasRefused auditor.client bytes
+
+-- a client that took bytes is open
+pub open_taken : (closed : Option ClientFault) (old new : Client) (piece : List ℕ) → Takes closed (Ok tt) old new piece → closed_by new ≡ None
+open_taken (Some f) old new piece (is, same) = absurd cc
+open_taken None old new piece (at, none) = none
+
+pub heard : (a b d : ℕ) (x y z : Option (List ℕ)) (old mid new : Auditor) (bytes all : List ℕ) (answer : Result Taken TakeFault) → Heard old bytes → Gains (change a b x y) (told bytes) → StandsFor mid.client all
+    → HasBrought mid.client all (history_of bytes) → mid.number ≡ old.number → GoesOnByAll answer mid new (change b d y z) → TakesPiece Heard Stopped (told all) answer new all (change a d x z)
+heard a b d x y z old mid new bytes all answer h wrote stands brought same goes = by answer goes
   where
-    told : number_after 0 (history_of bytes) ≡ mid.number
-    told = sym h.1.number ∙ sym same
+    before : number_after 0 (history_of bytes) ≡ mid.number
+    before = sym h.1 ∙ sym same
 
-    due : lines 0 (history_of all) ≡ lines 0 (history_of bytes) ++ due_lines mid
-    due = ap (lines 0) brought.is ∙ lines-append 0 (history_of bytes) (due_of mid) ∙ ap (λ w. lines 0 (history_of bytes) ++ lines w (due_of mid)) told
+    due : told all ≡ told bytes ++ due_lines mid
+    due = ap (lines 0) brought.is ∙ lines-append 0 (history_of bytes) (due_of mid) ∙ ap (λ w. told bytes ++ lines w (due_of mid)) before
 
-    has_told : TellsAll mid new (change b d y z) → HasTold (audit new (change a d x z)) all
-    has_told t = record {
-      number = t.number ∙ ap (λ w. number_after w (due_of mid)) (sym told) ∙ sym (number-append 0 (history_of bytes) (due_of mid)) ∙ ap (number_after 0) (sym brought.is);
-      gains = subst (Gains (change a d x z)) (sym due) (Gains-append a b d x y z (lines 0 (history_of bytes)) (due_lines mid) h.1.gains t.gains);
-    }
+    number : TellsAll mid new (change b d y z) → new.number ≡ number_after 0 (history_of all)
+    number t = t.number ∙ ap (λ w. number_after w (due_of mid)) (sym before) ∙ sym (number-append 0 (history_of bytes) (due_of mid)) ∙ ap (number_after 0) (sym brought.is)
 
-    by : (given : Result Taken Trouble) → GoesOnByAll given mid new (change b d y z) → HearsPiece given (audit new (change a d x z)) all
-    by (Ok taken.More) (t, alike, rest) = ((alike all stands, rest), has_told t)
-    by (Ok taken.Stopped) (t, refuses) = (refuses all stands, has_told t)
-    by (Err trouble.Write) fails = subst (FailsAfter (change a d x z)) (sym due) (FailsAfter-append a b d x y z (lines 0 (history_of bytes)) (due_lines mid) h.1.gains fails)
-    by (Err trouble.Memory) (count, part) = (
-      count ∙ h.1.gains.count,
+    gains : TellsAll mid new (change b d y z) → Gains (change a d x z) (told all)
+    gains t = subst (Gains (change a d x z)) (sym due) (Gains-append a b d x y z (told bytes) (due_lines mid) wrote t.gains)
+
+    by : (given : Result Taken TakeFault) → GoesOnByAll given mid new (change b d y z) → TakesPiece Heard Stopped (told all) given new all (change a d x z)
+    by (Ok taken.More) (t, alike, rest) = (((alike all stands, rest), number t), gains t)
+    by (Ok taken.Stopped) (t, refuses) = (refuses all stands, gains t)
+    by (Err broke.Write) fails = subst (FailsAfter (change a d x z)) (sym due) (FailsAfter-append a b d x y z (told bytes) (due_lines mid) wrote fails)
+    by (Err broke.Memory) (count, part) = (
+      count ∙ wrote.count,
       record {
-        sent = lines 0 (history_of bytes) ++ part.sent;
+        sent = told bytes ++ part.sent;
         rest = part.rest;
-        cut = due ∙ ap (λ w. lines 0 (history_of bytes) ++ w) part.cut ∙ sym (append_assoc (lines 0 (history_of bytes)) part.sent part.rest);
-        gained = Gained-append x (lines 0 (history_of bytes)) y part.sent z h.1.gains.gained part.gained;
+        cut = due ∙ ap (λ w. told bytes ++ w) part.cut ∙ sym (append_assoc (told bytes) part.sent part.rest);
+        gained = Gained-append x (told bytes) y part.sent z wrote.gained part.gained;
       },
     )
-    by (Err trouble.Read) never = absurd never
 
 -- memory ran out before a piece was taken
-pub not_heard : (a b : ℕ) (x y : Option (List ℕ)) (old new : Auditor) (bytes piece : List ℕ) → HasHeard (audit old (change a b x y)) bytes → HearsPiece (Err trouble.Memory) (audit new (change a b x y)) (bytes ++ piece)
-not_heard a b x y old new bytes piece h = (
-  h.1.gains.count,
+pub not_heard : (c : Change) (new : Auditor) (bytes piece : List ℕ) → Gains c (told bytes) → TakesPiece Heard Stopped (told (bytes ++ piece)) (Err broke.Memory) new (bytes ++ piece) c
+not_heard c new bytes piece wrote = (
+  wrote.count,
   record {
-    sent = lines 0 (history_of bytes);
+    sent = told bytes;
     rest = lines (number_after 0 (history_of bytes)) (history (run_of bytes) piece);
     cut = ap (lines 0) (history-append begun bytes piece) ∙ lines-append 0 (history_of bytes) (history (run_of bytes) piece);
-    gained = h.1.gains.gained;
+    gained = wrote.gained;
   },
 )
+
+-- nothing was heard yet
+pub heard_none : (auditor : Auditor) → HasPlayed auditor.client [] → auditor.number ≡ 0 → Heard auditor []
+heard_none auditor played first = (played, first ∙ ap (number_after 0) (sym (history-nil begun)))
+
+pub told_nothing : told [] ≡ []
+told_nothing = ap (lines 0) (history-nil begun) ∙ lines_nil 0

@@ -12,28 +12,30 @@ use Rattle.gfx_input.specs.declared.fault.InputFault.TheVariants as input
 use Rattle.gfx_input.specs.declared.reading.Read.{Read}
 use Rattle.gfx_input.specs.declared.reading.Read.TheVariants as read
 use Rattle.gfx_input.specs.Reading.{rest_of, Reads, input_of, EndsBy, ReadsInput}
+use Rattle.gfx_input.specs.Taking.{fixed, silent, nowhere}
 use Rattle.gfx_input.proofs.Pieces.{Tells_rest}
-use Rattle.gfx_session.specs.declared.session.Session.{Session}
+use Rattle.gfx_input.proofs.Silent.{never_fails, ends_only}
+use Rattle.gfx_session.specs.declared.session.Session as answered
 use Rattle.gfx_state.specs.Run.{Run, begun}
 use Rattle.gfx_state.specs.State.{State}
 use Rattle.gfx_state.proofs.Runs.{eats-nil}
 use Rattle.gfx_surface_map.specs.Shown.{Shown}
 use Rattle.gfx_words.specs.declared.table.Command.{Command}
-use Rattle.gfx_words.specs.declared.table.Command.TheVariants.{Render, RenderOutput, Encode}
-use Rattle.gfx_words.specs.declared.table.Command.TheVariants as command
+use Rattle.gfx_words.specs.declared.table.Command.TheVariants.{Render, RenderOutput, Audit, Encode, Session, Make, Trial}
 use Rattle.gfxpipe.specs.declared.ending.Ending.{Ending}
 use Rattle.gfxpipe.specs.declared.outcome.Outcome.{Outcome}
 use Rattle.gfxpipe.specs.declared.recording.Player.{Player}
 use Rattle.gfxpipe.specs.declared.render.Dump.{Dump}
 use Rattle.gfxpipe.specs.declared.trouble.Trouble.{Trouble}
 use Rattle.gfxpipe.specs.declared.trouble.Trouble.TheVariants as trouble
-use Rattle.gfxpipe.specs.Did.{IsNotRefused, IsFine, IsReadWhole, IsUnread, WritesOn, Did, DidAll, DidUnread, Answers, Renders, Audits, trouble_of}
+use Rattle.gfxpipe.specs.Did.{IsNotRefused, IsReadWhole, IsUnread, trouble_of}
 use Rattle.gfxpipe.specs.Due.{shown, played, found_in, found_for}
 use Rattle.gfxpipe.specs.Dump.{dump_of, Prints}
 use Rattle.gfxpipe.specs.Outcome.{ended_of, session_of}
-use Rattle.gfxpipe.specs.Leaves.{Leaves}
 use Rattle.gfxpipe.specs.Recording.{ending_by}
-use Rattle.gfxpipe.specs.Run.{Limits, Executes}
+use Rattle.gfxpipe.specs.Rule.{Limits, Source, Nothing, From, Rule, DoesBy}
+use Rattle.gfxpipe.specs.Rules.{rule_of, Renders, Audits}
+use Rattle.gfxpipe.specs.Run.{Executes}
 use Rattle.gfxpipe.proofs.Encoding.{nothing_written}
 use Rattle.gfxpipe.proofs.Encoding.{unasked as no_stream}
 use Rattle.gfxpipe.proofs.Sessions.{unasked as no_session}
@@ -42,81 +44,94 @@ use Rattle.gfxpipe.proofs.Recordings.{Plays, Refuses, told, tells}
 -- nothing was begun -----------------------------------------------------------------------------------
 
 -- the empty front of an input is fine
-fine_none : (command : Command) → IsFine command []
-fine_none Render = ap (λ (z : Run). z.refusal) (eats-nil begun)
-fine_none RenderOutput = ap (λ (z : Run). z.refusal) (eats-nil begun)
-fine_none command.Audit = ap (λ (z : Run). z.refusal) (eats-nil begun)
-fine_none other = tt
+fine_none : IsNotRefused []
+fine_none = ap (λ (z : Run). z.refusal) (eats-nil begun)
 
-reads_none : (command : Command) (limit n : ℕ) (left : Option (List ℕ)) → Reads (IsFine command) limit (change n n left left)
-reads_none command limit n left = record { taken = []; few = omega arith; told = Tells_rest left; early = fine_none command }
+abbrev FineNone : Source → Type 0
+FineNone Nothing = Unit {0}
+FineNone (From input) = input.is_fine []
 
--- nothing was written
-writes_none : (command : Command) (m : ℕ) (held : Option (List ℕ)) (text : List ℕ) → WritesOn command (change m m held held) text
-writes_none Encode m held text = nothing_written text m held
-writes_none command.Audit m held text = nothing_written text m held
-writes_none other m held text = Gains_none m held
+-- a command that has begun nothing has written, answered and asked nothing
+record IsIdle (rule : Rule) : Type 0 where
+  fine : FineNone rule.reads
+  writes : (m : ℕ) (held : Option (List ℕ)) (text : List ℕ) → rule.writes_on (change m m held held) text
+  answers : (choosers : List Chooser) (bytes : List ℕ) → rule.answers (Err trouble.Memory) choosers None bytes
+  leaves : (choosers : List Chooser) (limit m : ℕ) (held : Option (List ℕ)) (bytes : List ℕ) → rule.leaves (Err trouble.Memory) choosers choosers limit bytes (change m m held held)
 
--- no memory is left before anything is read
-not_begun : (command : Command) (choosers : List Chooser) (limit n m : ℕ) (left held : Option (List ℕ)) → Did (Err trouble.Memory) command choosers limit (change n n left left) (change m m held held)
-not_begun command choosers limit n m left held = (reads_none command limit n left, (refl, writes_none command m held _))
-
--- then there is no session
-none_answered : (command : Command) (choosers : List Chooser) (bytes : List ℕ) → Answers command (Err trouble.Memory) choosers None bytes
-none_answered command.Session choosers bytes = refl
-none_answered (command.Trial number) choosers bytes = refl
-none_answered other choosers bytes = refl
-
--- and nothing is asked
-none_asked : (command : Command) (choosers : List Chooser) (limit m : ℕ) (held : Option (List ℕ)) (bytes : List ℕ) → Leaves command (Err trouble.Memory) choosers choosers limit bytes (change m m held held)
-none_asked Encode choosers limit m held bytes = no_stream trouble.Memory (found_in limit bytes) choosers m held
-none_asked command.Session choosers limit m held bytes = no_session trouble.Memory (found_in limit bytes) choosers
-none_asked (command.Trial number) choosers limit m held bytes = no_session trouble.Memory (found_for number) choosers
-none_asked other choosers limit m held bytes = refl
+idle : (command : Command) → IsIdle (rule_of command)
+idle Render = record { fine = fine_none; writes = λ m held text. Gains_none m held; answers = λ choosers bytes. refl; leaves = λ choosers limit m held bytes. refl }
+idle RenderOutput = record { fine = fine_none; writes = λ m held text. Gains_none m held; answers = λ choosers bytes. refl; leaves = λ choosers limit m held bytes. refl }
+idle Audit = record { fine = fine_none; writes = λ m held text. nothing_written text m held; answers = λ choosers bytes. refl; leaves = λ choosers limit m held bytes. refl }
+idle Encode = record {
+  fine = tt;
+  writes = λ m held text. nothing_written text m held;
+  answers = λ choosers bytes. refl;
+  leaves = λ choosers limit m held bytes. no_stream trouble.Memory (found_in limit bytes) choosers m held;
+}
+idle Session = record {
+  fine = tt;
+  writes = λ m held text. Gains_none m held;
+  answers = λ choosers bytes. refl;
+  leaves = λ choosers limit m held bytes. no_session trouble.Memory (found_in limit bytes) choosers;
+}
+idle (Make number) = record { fine = tt; writes = λ m held text. Gains_none m held; answers = λ choosers bytes. refl; leaves = λ choosers limit m held bytes. refl }
+idle (Trial number) = record {
+  fine = tt;
+  writes = λ m held text. Gains_none m held;
+  answers = λ choosers bytes. refl;
+  leaves = λ choosers limit m held bytes. no_session trouble.Memory (found_for number) choosers;
+}
 
 unread : (n : ℕ) (left : Option (List ℕ)) → IsUnread (change n n left left)
 unread n left = record { count = refl; left = Keeps_same left }
 
-none_did : (command : Command) (choosers : List Chooser) (limit n m : ℕ) (left held : Option (List ℕ)) → DidAll (Err trouble.Memory) None command choosers choosers limit (change n n left left) (change m m held held)
-none_did command choosers limit n m left held = (not_begun command choosers limit n m left held, none_answered command choosers _, none_asked command choosers limit m held _)
+reads_none : (is_fine : List ℕ → Type 0) (allowed : List ℕ → ℕ) (n : ℕ) (left : Option (List ℕ)) → is_fine [] → Reads is_fine allowed (change n n left left)
+reads_none is_fine allowed n left fine = record { taken = []; few = omega arith; told = Tells_rest left; early = fine }
 
-none_made : (command : Command) (choosers : List Chooser) (n m : ℕ) (left held : Option (List ℕ)) → DidUnread (Err trouble.Memory) None command choosers choosers (change n n left left) (change m m held held)
-none_made command choosers n m left held =
-    record { unread = unread n left; ends = Gains_none m held; answers = none_answered command choosers []; leaves = none_asked command choosers 0 m held [] }
+-- no memory is left before anything is read
+none_done : (source : Source) (rule : Rule) (choosers : List Chooser) (bounds : Limits) (n m : ℕ) (left held : Option (List ℕ)) → FineNone source → IsIdle rule
+    → DoesBy source (Err trouble.Memory) None rule choosers choosers bounds (change n n left left) (change m m held held)
+none_done Nothing rule choosers bounds n m left held fine idle =
+    record { unread = unread n left; ends = idle.writes m held _; answers = idle.answers choosers []; leaves = idle.leaves choosers 0 m held [] }
+none_done (From input) rule choosers bounds n m left held fine idle = (
+  (reads_none input.is_fine (input.allowed (input.limit bounds)) n left fine, (refl, idle.writes m held _)),
+  idle.answers choosers _,
+  idle.leaves choosers (input.limit bounds) m held _,
+)
 
 pub memory_first : (command : Option Command) (choosers : List Chooser) (bounds : Limits) (n m : ℕ) (left held : Option (List ℕ))
     → Executes (Err trouble.Memory) None command choosers choosers bounds (change n n left left) (change m m held held)
 memory_first None choosers bounds n m left held = ((unread n left, Gains_none m held), refl, refl)
-memory_first (Some (command.Make number)) choosers bounds n m left held = none_made (command.Make number) choosers n m left held
-memory_first (Some (command.Trial number)) choosers bounds n m left held = none_made (command.Trial number) choosers n m left held
-memory_first (Some Render) choosers bounds n m left held = none_did Render choosers bounds.stream n m left held
-memory_first (Some RenderOutput) choosers bounds n m left held = none_did RenderOutput choosers bounds.stream n m left held
-memory_first (Some command.Audit) choosers bounds n m left held = none_did command.Audit choosers bounds.stream n m left held
-memory_first (Some Encode) choosers bounds n m left held = none_did Encode choosers bounds.script n m left held
-memory_first (Some command.Session) choosers bounds n m left held = none_did command.Session choosers bounds.script n m left held
+memory_first (Some command) choosers bounds n m left held = none_done (rule_of command).reads (rule_of command) choosers bounds n m left held (idle command).fine (idle command)
 
--- the words are another spelling of the same command, and the outcome has no session
+-- the words are another spelling of the same command
+pub spelled : (ended : Result Ending Trouble) (session : Option answered.Session) (a b : Option Command) (choosers left : List Chooser) (bounds : Limits) (i o : Change) → a ≡ b → Executes ended session a choosers left bounds i o
+    → Executes ended session b choosers left bounds i o
+spelled ended session a b choosers left bounds i o same done = subst (λ (z : Option Command). Executes ended session z choosers left bounds i o) same done
+
+-- and the outcome has no session
 pub alone : (outcome : Result Outcome Trouble) (ended : Result Ending Trouble) (a b : Option Command) (choosers left : List Chooser) (bounds : Limits) (i o : Change) → a ≡ b → ended_of outcome ≡ ended
     → session_of outcome ≡ None → Executes ended None a choosers left bounds i o → Executes (ended_of outcome) (session_of outcome) b choosers left bounds i o
 alone outcome ended a b choosers left bounds i o same is none done =
     subst (λ (z : Option Command). Executes (ended_of outcome) (session_of outcome) z choosers left bounds i o) same
-    (subst (λ (z : Result Ending Trouble). Executes z (session_of outcome) a choosers left bounds i o) (sym is) (subst (λ (z : Option Session). Executes ended z a choosers left bounds i o) (sym none) done))
+    (subst (λ (z : Result Ending Trouble). Executes z (session_of outcome) a choosers left bounds i o) (sym is) (subst (λ (z : Option answered.Session). Executes ended z a choosers left bounds i o) (sym none) done))
 
 -- a recording ----------------------------------------------------------------------------------------------
 
 -- no client can be made
 pub no_client : (d : Dump) (limit n m : ℕ) (left held : Option (List ℕ)) → Renders (Err trouble.Memory) d limit (change n n left left) (change m m held held)
-no_client d limit n m left held = (reads_none Render limit n left, (refl, Gains_none m held))
+no_client d limit n m left held = (reads_none IsNotRefused (fixed limit) n left fine_none, (refl, Gains_none m held))
 
 -- a recording could not be read
-pub not_played : (f : InputFault) (d : Dump) (limit m : ℕ) (i : Change) (held : Option (List ℕ)) (player : Player) → ReadsInput Plays Refuses IsNotRefused (Err f) limit i player
+pub not_played : (f : InputFault) (d : Dump) (limit m : ℕ) (i : Change) (held : Option (List ℕ)) (player : Player) → ReadsInput Plays Refuses IsNotRefused silent (Err f) (fixed limit) i nowhere player
     → Renders (Err (trouble_of f)) d limit i (change m m held held)
-not_played input.Failed d limit m i held player (reads, falls, rose) = (reads, (falls, rose, Gains_none m held))
-not_played input.Memory d limit m i held player (reads, count) = (reads, (count, Gains_none m held))
+not_played input.Read d limit m i held player (reads, (falls, rose), broke) = (reads, (falls, rose, Gains_none m held))
+not_played input.Write d limit m i held player (reads, count, broke) = absurd (never_fails [] broke.broke)
+not_played input.Memory d limit m i held player (reads, count, broke) = (reads, (count, Gains_none m held))
 
 -- no auditor can be made
 pub no_auditor : (limit n m : ℕ) (left held : Option (List ℕ)) → Audits (Err trouble.Memory) limit (change n n left left) (change m m held held)
-no_auditor limit n m left held = (reads_none command.Audit limit n left, (refl, nothing_written _ m held))
+no_auditor limit n m left held = (reads_none IsNotRefused (fixed limit) n left fine_none, (refl, nothing_written _ m held))
 
 -- a recording that ends well was read to its end
 pub read_whole : (r : Read) (limit : ℕ) (bytes : List ℕ) (i : Change) (player : Player) → EndsBy Plays Refuses r limit bytes (rest_of i.new) player → IsReadWhole (told r player) i
@@ -138,17 +153,19 @@ text_of : (d : Dump) (limit : ℕ) (bytes : List ℕ) (client : Client) (seen : 
 text_of d limit bytes client seen same state = ap (dump_of d) (same ∙ ap (λ (z : State). z.shown) state)
 
 -- a recording was played, and what the client shows was printed
-pub printed : (d : Dump) (r : Read) (limit : ℕ) (i o : Change) (player : Player) (seen : Shown) → ReadsInput Plays Refuses IsNotRefused (Ok r) limit i player → seen ≡ (cursor_of player.client).state.shown
-    → Gains o (dump_of d seen) → Renders (Ok (told r player)) d limit i o
-printed d r limit i o player seen (reads, count, ends) same gains =
+pub printed : (d : Dump) (r : Read) (limit : ℕ) (i o : Change) (player : Player) (seen : Shown) → ReadsInput Plays Refuses IsNotRefused silent (Ok r) (fixed limit) i nowhere player
+    → seen ≡ (cursor_of player.client).state.shown → Gains o (dump_of d seen) → Renders (Ok (told r player)) d limit i o
+printed d r limit i o player seen (reads, count, wrote) same gains =
+    let ends = ends_only Plays Refuses silent nowhere r limit (input_of reads) (rest_of i.new) player wrote in
     let t = tells r limit (input_of reads) (rest_of i.new) player ends in
     (reads, (t.ending, count, read_whole r limit (input_of reads) i player ends, subst (Gains o) (text_of d limit (input_of reads) player.client seen same t.state) gains))
 
 -- a recording was played, and what the client shows could not be printed
-pub not_printed : (t : Trouble) (d : Dump) (r : Read) (limit : ℕ) (i o : Change) (player : Player) (seen : Shown) → ReadsInput Plays Refuses IsNotRefused (Ok r) limit i player → seen ≡ (cursor_of player.client).state.shown
-    → Prints (Err t) o (dump_of d seen) → Renders (Err t) d limit i o
-not_printed trouble.Write d r limit i o player seen (reads, count, ends) same fails =
+pub not_printed : (t : Trouble) (d : Dump) (r : Read) (limit : ℕ) (i o : Change) (player : Player) (seen : Shown) → ReadsInput Plays Refuses IsNotRefused silent (Ok r) (fixed limit) i nowhere player
+    → seen ≡ (cursor_of player.client).state.shown → Prints (Err t) o (dump_of d seen) → Renders (Err t) d limit i o
+not_printed trouble.Write d r limit i o player seen (reads, count, wrote) same fails =
+    let ends = ends_only Plays Refuses silent nowhere r limit (input_of reads) (rest_of i.new) player wrote in
     let t = tells r limit (input_of reads) (rest_of i.new) player ends in
     (reads, (count, subst (FailsAfter o) (text_of d limit (input_of reads) player.client seen same t.state) fails))
-not_printed trouble.Memory d r limit i o player seen (reads, count, ends) same gains = (reads, (count, gains))
+not_printed trouble.Memory d r limit i o player seen (reads, count, wrote) same gains = (reads, (count, gains))
 not_printed trouble.Read d r limit i o player seen reads same never = absurd never

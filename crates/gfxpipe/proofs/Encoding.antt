@@ -5,14 +5,15 @@ use Rattle.gfx_base.proofs.Streams.{Gained_none}
 use Rattle.gfx_chooser.specs.Choosing.{Chooser}
 use Rattle.gfx_input.specs.Reading.{input_of}
 use Rattle.gfx_script.specs.Scripted.{Script}
-use Rattle.gfx_words.specs.declared.table.Command.TheVariants.{Encode}
 use Rattle.gfxpipe.specs.declared.ending.Ending.{Ending}
 use Rattle.gfxpipe.specs.declared.ending.Ending.TheVariants.{Done}
 use Rattle.gfxpipe.specs.declared.trouble.Trouble.{Trouble}
 use Rattle.gfxpipe.specs.declared.trouble.Trouble.TheVariants as trouble
-use Rattle.gfxpipe.specs.Did.{WritesPart, WritesOn, DidAll}
-use Rattle.gfxpipe.specs.Due.{due, found_in, stream_text}
+use Rattle.gfxpipe.specs.Did.{WritesPart}
+use Rattle.gfxpipe.specs.Due.{found_in, stream_text}
 use Rattle.gfxpipe.specs.Leaves.{LeavesStream}
+use Rattle.gfxpipe.specs.Rule.{DidAll}
+use Rattle.gfxpipe.specs.Rules.{encoding, script_input}
 use Rattle.gfxpipe.specs.Scripts.{ReadsScript}
 use Rattle.gfxpipe.specs.Stream.{WritesStream}
 use Rattle.gfxpipe.proofs.Planning.{asks_nothing}
@@ -29,42 +30,42 @@ unasked t (Err ending) choosers m held = refl
 
 -- the script could not be read
 pub not_read : (t : Trouble) (choosers : List Chooser) (limit m : ℕ) (i : Change) (held : Option (List ℕ)) → ReadsScript (Err t) limit i
-    → DidAll (Err t) None Encode choosers choosers limit i (change m m held held)
+    → DidAll (Err t) None encoding script_input choosers choosers limit i (change m m held held)
 not_read trouble.Read choosers limit m i held (reads, falls, rose) =
-    ((reads, ends_unread (WritesOn Encode) (due Encode choosers limit (input_of reads)) i m held falls rose), refl, unasked trouble.Read (found_in limit (input_of reads)) choosers m held)
+    ((reads, ends_unread WritesPart (encoding.due choosers limit (input_of reads)) i m held falls rose), refl, unasked trouble.Read (found_in limit (input_of reads)) choosers m held)
 not_read trouble.Write choosers limit m i held never = absurd never
 not_read trouble.Memory choosers limit m i held (reads, count) =
-    ((reads, (count, nothing_written (due Encode choosers limit (input_of reads)).text m held)), refl, unasked trouble.Memory (found_in limit (input_of reads)) choosers m held)
+    ((reads, (count, nothing_written (encoding.due choosers limit (input_of reads)).text m held)), refl, unasked trouble.Memory (found_in limit (input_of reads)) choosers m held)
 
 -- what was read is no script
 pub no_script : (ending : Ending) (choosers : List Chooser) (limit m : ℕ) (i : Change) (held : Option (List ℕ)) → ReadsScript (Ok (Err ending)) limit i
-    → DidAll (Ok ending) None Encode choosers choosers limit i (change m m held held)
+    → DidAll (Ok ending) None encoding script_input choosers choosers limit i (change m m held held)
 no_script ending choosers limit m i held (reads, count, all, is) = (
-  (reads, ends_none ending (WritesOn Encode) (stream_text choosers) limit m i held (input_of reads) count all is),
+  (reads, ends_none ending WritesPart (stream_text choosers) limit m i held (input_of reads) count all is),
   refl,
   subst (λ z. LeavesStream (Ok ending) z choosers choosers (change m m held held)) (sym is) refl,
 )
 
 -- the stream of a script could not be written
 pub not_streamed : (t : Trouble) (choosers left : List Chooser) (limit : ℕ) (i o : Change) (script : Script) → ReadsScript (Ok (Ok script)) limit i → WritesStream (Err t) script choosers left o
-    → DidAll (Err t) None Encode choosers left limit i o
+    → DidAll (Err t) None encoding script_input choosers left limit i o
 not_streamed trouble.Read choosers left limit i o script reads never = absurd never
 not_streamed trouble.Write choosers left limit i o script (reads, count, all, is) (fails, ahead) = (
-  (reads, ends_broken (WritesOn Encode) (stream_text choosers) limit i o script (input_of reads) count is fails),
+  (reads, ends_broken WritesPart (stream_text choosers) limit i o script (input_of reads) count is fails),
   refl,
   subst (λ z. LeavesStream (Err trouble.Write) z choosers left o) (sym is) ahead,
 )
 not_streamed trouble.Memory choosers left limit i o script (reads, count, all, is) (falls, part, ahead) = (
-  (reads, ends_starved (WritesOn Encode) (stream_text choosers) limit i o script (input_of reads) count is (falls, part)),
+  (reads, ends_starved WritesPart (stream_text choosers) limit i o script (input_of reads) count is (falls, part)),
   refl,
   subst (λ z. LeavesStream (Err trouble.Memory) z choosers left o) (sym is) ahead,
 )
 
 -- it was written
 pub streamed : (choosers left : List Chooser) (limit : ℕ) (i o : Change) (script : Script) → ReadsScript (Ok (Ok script)) limit i → WritesStream (Ok tt) script choosers left o
-    → DidAll (Ok Done) None Encode choosers left limit i o
+    → DidAll (Ok Done) None encoding script_input choosers left limit i o
 streamed choosers left limit i o script (reads, count, all, is) (gains, alike) = (
-  (reads, ends_written (WritesOn Encode) (stream_text choosers) limit i o script (input_of reads) count all is gains),
+  (reads, ends_written WritesPart (stream_text choosers) limit i o script (input_of reads) count all is gains),
   refl,
   subst (λ z. LeavesStream (Ok Done) z choosers left o) (sym is) alike,
 )

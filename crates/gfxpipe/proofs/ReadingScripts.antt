@@ -4,7 +4,11 @@ use Rattle.std.proofs.lemmas.Bool.{le-leb, lt-leb}
 use Rattle.gfx_base.specs.Stream.{Change, change, Gains, FailsAfter, Rose}
 use Rattle.gfx_base.proofs.Streams.{Gains_none}
 use Rattle.gfx_input.specs.declared.reading.Read.TheVariants as read
+use Rattle.gfx_input.specs.declared.fault.InputFault.{InputFault}
+use Rattle.gfx_input.specs.declared.fault.InputFault.TheVariants as input
 use Rattle.gfx_input.specs.Reading.{rest_of, input_of, ReadsInput}
+use Rattle.gfx_input.specs.Taking.{fixed, silent, nowhere}
+use Rattle.gfx_input.proofs.Silent.{never_fails}
 use Rattle.gfx_script.specs.Script.{IsAccepted}
 use Rattle.gfx_script.specs.Scripted.{Script}
 use Rattle.gfx_script_text.specs.Text.{Wrong, script_of}
@@ -13,7 +17,7 @@ use Rattle.gfxpipe.specs.declared.ending.Ending.{Ending}
 use Rattle.gfxpipe.specs.declared.ending.Ending.TheVariants.{Done, TooLong, Faulty}
 use Rattle.gfxpipe.specs.declared.trouble.Trouble.{Trouble}
 use Rattle.gfxpipe.specs.declared.trouble.Trouble.TheVariants as trouble
-use Rattle.gfxpipe.specs.Did.{IsAny, NoFault, IsReadWhole, WritesNothing, Ends}
+use Rattle.gfxpipe.specs.Did.{IsAny, NoFault, IsReadWhole, WritesNothing, Ends, trouble_of}
 use Rattle.gfxpipe.specs.Due.{Due, accepted_or, found_in, scripted}
 use Rattle.gfxpipe.specs.Scripts.{ending_of, ReadsText, ReadsScript}
 
@@ -56,8 +60,14 @@ Holds text bytes = text ≡ bytes
 abbrev pub Never : List ℕ → List ℕ → Type 0
 Never text bytes = ⊥
 
+-- it could not be read
+pub not_read : (f : InputFault) (limit : ℕ) (i : Change) (text : List ℕ) → ReadsInput Holds Never IsAny silent (Err f) (fixed limit) i nowhere text → ReadsScript (Err (trouble_of f)) limit i
+not_read input.Read limit i text (reads, (falls, rose), broke) = (reads, falls, rose)
+not_read input.Write limit i text (reads, count, broke) = absurd (never_fails [] broke.broke)
+not_read input.Memory limit i text (reads, count, broke) = (reads, count)
+
 -- it is over the limit
-pub too_long : (limit : ℕ) (i : Change) (text : List ℕ) → ReadsInput Holds Never IsAny (Ok read.TooLong) limit i text → ReadsScript (Ok (Err TooLong)) limit i
+pub too_long : (limit : ℕ) (i : Change) (text : List ℕ) → ReadsInput Holds Never IsAny silent (Ok read.TooLong) (fixed limit) i nowhere text → ReadsScript (Ok (Err TooLong)) limit i
 too_long limit i text (reads, count, (over, is)) = (reads, count, tt, found_long limit (input_of reads) over)
 
 -- a run that ends by its text has read all of it
@@ -67,9 +77,9 @@ read_to_end (Faulty step kind) i all = all
 read_to_end other i all = tt
 
 -- this is found of it
-pub reads_text : (result : Result (Result Script Ending) Trouble) (limit : ℕ) (i : Change) (text : List ℕ) → ReadsInput Holds Never IsAny (Ok read.Whole) limit i text → ReadsText result text → ReadsScript result limit i
+pub reads_text : (result : Result (Result Script Ending) Trouble) (limit : ℕ) (i : Change) (text : List ℕ) → ReadsInput Holds Never IsAny silent (Ok read.Whole) (fixed limit) i nowhere text → ReadsText result text → ReadsScript result limit i
 reads_text (Ok found) limit i text (reads, count, (within, all, is)) finds =
-    (reads, count, read_to_end (ending_of found) i all, found_short limit (input_of reads) within ∙ ap accepted_or (ap script_of (sym is)) ∙ finds)
+    (reads, count, read_to_end (ending_of found) i all, found_short limit (input_of reads) within ∙ ap accepted_or (ap script_of (sym is.0)) ∙ finds)
 reads_text (Err trouble.Memory) limit i text (reads, count, read) finds = (reads, count)
 reads_text (Err trouble.Read) limit i text reads never = absurd never
 reads_text (Err trouble.Write) limit i text reads never = absurd never

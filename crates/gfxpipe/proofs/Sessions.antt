@@ -21,18 +21,20 @@ use Rattle.gfx_schedule.specs.declared.turned.Turned.{Turned}
 use Rattle.gfx_script.specs.Kinds.{KindedStep, Fits}
 use Rattle.gfx_script.specs.Scripted.{Script}
 use Rattle.gfx_script.specs.declared.turn.Turn.{Turn}
+use Rattle.gfx_script_text.specs.Text.{Wrong, script_of as script_of_text}
 use Rattle.gfx_session.specs.Session.{Stands, StandsBy, IsSession, Turns, Drains, acked_of, script_of}
 use Rattle.gfx_session.specs.declared.acked.Acked.{Acked}
 use Rattle.gfx_session.specs.declared.session.Session.{Session}
-use Rattle.gfx_words.specs.declared.table.Command.TheVariants as command
 use Rattle.gfxpipe.specs.declared.ending.Ending.{Ending}
 use Rattle.gfxpipe.specs.declared.ending.Ending.TheVariants.{Done}
 use Rattle.gfxpipe.specs.declared.trouble.Trouble.{Trouble}
 use Rattle.gfxpipe.specs.declared.trouble.Trouble.TheVariants as trouble
-use Rattle.gfxpipe.specs.Did.{WritesOn, Answers, DidAll}
+use Rattle.gfxpipe.specs.Did.{WritesNothing}
 use Rattle.gfxpipe.specs.Leaves.{LeavesSession}
+use Rattle.gfxpipe.specs.Rule.{DidAll}
+use Rattle.gfxpipe.specs.Rules.{playing, script_input}
 use Rattle.gfxpipe.specs.Scripts.{ReadsScript}
-use Rattle.gfxpipe.specs.Sessions.{IsBegun, whole_session, session_text, acked_line}
+use Rattle.gfxpipe.specs.Sessions.{IsBegun, AnswersOf, whole_session, session_text, acked_line}
 use Rattle.gfxpipe.proofs.Planning.{asked_all}
 use Rattle.gfxpipe.proofs.ReadingScripts.{ends_none, ends_written, ends_broken, found_script, found_never_done}
 
@@ -165,29 +167,29 @@ unasked t (Ok script) choosers = tt
 unasked t (Err ending) choosers = refl
 
 -- what was read is no script
-no_session : (ending : Ending) (choosers : List Chooser) (bytes : List ℕ) → (ending ≡ Done → ⊥) → Answers command.Session (Ok ending) choosers None bytes
-no_session Done choosers bytes never = absurd (never refl)
-no_session other choosers bytes never = refl
+no_session : (ending : Ending) (choosers : List Chooser) (found : Result Script Wrong) → (ending ≡ Done → ⊥) → AnswersOf found (Ok ending) choosers None
+no_session Done choosers found never = absurd (never refl)
+no_session other choosers found never = refl
 
 pub not_accepted : (ending : Ending) (choosers : List Chooser) (limit m : ℕ) (i : Change) (held : Option (List ℕ)) → ReadsScript (Ok (Err ending)) limit i
-    → DidAll (Ok ending) None command.Session choosers choosers limit i (change m m held held)
+    → DidAll (Ok ending) None playing script_input choosers choosers limit i (change m m held held)
 not_accepted ending choosers limit m i held (reads, count, all, is) = (
-  (reads, ends_none ending (WritesOn command.Session) (session_text choosers) limit m i held (input_of reads) count all is),
-  no_session ending choosers (input_of reads) (λ done. found_never_done limit (input_of reads) (is ∙ ap (λ (z : Ending). Err z) done)),
+  (reads, ends_none ending WritesNothing (session_text choosers) limit m i held (input_of reads) count all is),
+  no_session ending choosers (script_of_text (input_of reads)) (λ done. found_never_done limit (input_of reads) (is ∙ ap (λ (z : Ending). Err z) done)),
   subst (λ z. LeavesSession (Ok ending) z choosers choosers) (sym is) refl,
 )
 
 -- no memory was left to play it
 pub not_played : (choosers left : List Chooser) (limit m : ℕ) (i : Change) (held : Option (List ℕ)) (script : Script) → ReadsScript (Ok (Ok script)) limit i
-    → DidAll (Err trouble.Memory) None command.Session choosers left limit i (change m m held held)
+    → DidAll (Err trouble.Memory) None playing script_input choosers left limit i (change m m held held)
 not_played choosers left limit m i held script (reads, count, all, is) =
     ((reads, (count, Gains_none m held)), refl, subst (λ z. LeavesSession (Err trouble.Memory) z choosers left) (sym is) tt)
 
 -- its lines could not be written
 pub not_told : (choosers left : List Chooser) (limit : ℕ) (i o : Change) (script : Script) (session : Session) → ReadsScript (Ok (Ok script)) limit i → Stands session (whole_session choosers script)
-    → FailsAfter o (flat_map acked_line session.acks) → DidAll (Err trouble.Write) None command.Session choosers left limit i o
+    → FailsAfter o (flat_map acked_line session.acks) → DidAll (Err trouble.Write) None playing script_input choosers left limit i o
 not_told choosers left limit i o script session (reads, count, all, is) stands fails = (
-  (reads, ends_broken (WritesOn command.Session) (session_text choosers) limit i o script (input_of reads) count is (subst (FailsAfter o) (lines_are script choosers session stands) fails)),
+  (reads, ends_broken WritesNothing (session_text choosers) limit i o script (input_of reads) count is (subst (FailsAfter o) (lines_are script choosers session stands) fails)),
   refl,
   subst (λ z. LeavesSession (Err trouble.Write) z choosers left) (sym is) tt,
 )
@@ -195,9 +197,9 @@ not_told choosers left limit i o script session (reads, count, all, is) stands f
 -- they were written
 pub told : (choosers left : List Chooser) (limit : ℕ) (i o : Change) (script : Script) (session : Session) → ReadsScript (Ok (Ok script)) limit i → script_of session ≡ script
     → Stands session (whole_session choosers script) → AreAlike left (left_of script choosers) → Gains o (flat_map acked_line session.acks)
-    → DidAll (Ok Done) (Some session) command.Session choosers left limit i o
+    → DidAll (Ok Done) (Some session) playing script_input choosers left limit i o
 told choosers left limit i o script session (reads, count, all, is) same stands alike gains = (
-  (reads, ends_written (WritesOn command.Session) (session_text choosers) limit i o script (input_of reads) count all is (subst (Gains o) (lines_are script choosers session stands) gains)),
+  (reads, ends_written WritesNothing (session_text choosers) limit i o script (input_of reads) count all is (subst (Gains o) (lines_are script choosers session stands) gains)),
   (script, found_script limit (input_of reads) script is, (same, stands)),
   subst (λ z. LeavesSession (Ok Done) z choosers left) (sym is) alike,
 )

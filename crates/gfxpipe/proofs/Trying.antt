@@ -20,7 +20,7 @@ use Rattle.gfx_session.specs.declared.session.Session.{Session}
 use Rattle.gfxpipe.specs.declared.ending.Ending.{Ending}
 use Rattle.gfxpipe.specs.declared.ending.Ending.TheVariants.{Done}
 use Rattle.gfxpipe.specs.declared.trouble.Trouble.TheVariants as trouble
-use Rattle.gfxpipe.specs.Did.{EndsUnread}
+use Rattle.gfxpipe.specs.Did.{EndsUnread, WritesNothing}
 use Rattle.gfxpipe.specs.Due.{accepted_or, found_for, scripted}
 use Rattle.gfxpipe.specs.Leaves.{LeavesSession}
 use Rattle.gfxpipe.specs.Scripts.{ReadsText}
@@ -94,7 +94,7 @@ not_told number choosers left script session o is stands fails = record {
 pub told : (number : ℕ) (choosers left : List Chooser) (script : Script) (session : Session) (o : Change) → found_for number ≡ Ok script → sessions.script_of session ≡ script
     → Stands session (whole_session choosers script) → AreAlike left (left_of script choosers) → Gains o (acks_trial number session.acks) → Tries (Ok Done) (Some session) number choosers left o
 told number choosers left script session o is same stands alike gains = record {
-  ends = subst (λ z. EndsUnread (Ok Done) (scripted (trial_text number choosers) z) o) (sym is) (refl, subst (Gains o) (line_is number choosers script session stands) gains);
+  ends = subst (λ z. EndsUnread (Ok Done) WritesNothing (scripted (trial_text number choosers) z) o) (sym is) (refl, subst (Gains o) (line_is number choosers script session stands) gains);
   answers = (script, only_script (script_of (script_text number)) script is, (same, stands));
   leaves = subst (λ z. LeavesSession (Ok Done) z choosers left) (sym is) alike;
 }

@@ -1,11 +1,13 @@
 -- The text of an audit: a line for each message that is applied, and at the end what a client then holds. This
 -- project's own rule.
-use Rattle.std.specs.Prelude.{ℕ, List, [], ◌∷◌, ◌++◌, fold}
+use Rattle.std.specs.Prelude.{◌≡◌, ℕ, List, [], ◌∷◌, ◌++◌, fold}
 use Rattle.std.specs.FinMap.{len}
 use Rattle.gfx_base.specs.Memory.{next_count}
+use Rattle.gfx_client.specs.declared.client.Client.{Client}
 use Rattle.gfx_report.specs.Audit.{audit_line, audit_end_text}
-use Rattle.gfx_state.specs.History.{Effect}
+use Rattle.gfx_state.specs.History.{Effect, history_of}
 use Rattle.gfx_state.specs.State.{State}
+use Rattle.gfxpipe.specs.Recording.{HasPlayed}
 
 -- the number of the last of these messages, where so many were applied before them
 abbrev pub number_after : ℕ → List Effect → ℕ
@@ -16,6 +18,14 @@ unfoldable pub lines : ℕ → List Effect → List ℕ
 lines applied [] = []
 lines applied (message ∷ more) =
     audit_line (next_count applied) message.pdu message.size ++ lines (next_count applied) more
+
+-- the lines of all messages in these bytes
+abbrev pub told : List ℕ → List ℕ
+told bytes = lines 0 (history_of bytes)
+
+-- a client has played these bytes, and this is the number of its last message
+abbrev pub HasHeard : Client → ℕ → List ℕ → Type 0
+HasHeard client number bytes = HasPlayed client bytes × (number ≡ number_after 0 (history_of bytes))
 
 -- the lines of what a client in this state holds
 abbrev pub held_lines : State → List ℕ

@@ -1,5 +1,4 @@
--- What is due of the input of a command: the text that is written, and how the run ends. This project's
--- own rule.
+-- What is due of an input: the text that is written, and how the run ends. This project's own rule.
 use Rattle.std.specs.Prelude.{ℕ, List, [], length, take, Bool, nat_le, if◌then◌else◌, ◌++◌, Option, Some, None, Result, Ok, Err}
 use Rattle.gfx_base.specs.Memory.{next_count}
 use Rattle.gfx_base.specs.declared.refusal.Refusal.{Refusal}
@@ -9,17 +8,11 @@ use Rattle.gfx_generator.specs.Script.{script_text}
 use Rattle.gfx_planner.specs.Stream.{stream_of}
 use Rattle.gfx_script.specs.Scripted.{Script}
 use Rattle.gfx_script_text.specs.Text.{Wrong, script_of}
-use Rattle.gfx_state.specs.History.{history_of}
 use Rattle.gfx_state.specs.Run.{Run, run_of, end}
 use Rattle.gfx_surface_map.specs.Shown.{Shown}
-use Rattle.gfx_words.specs.declared.table.Command.{Command}
-use Rattle.gfx_words.specs.declared.table.Command.TheVariants as command
 use Rattle.gfxpipe.specs.declared.ending.Ending.{Ending}
 use Rattle.gfxpipe.specs.declared.ending.Ending.TheVariants.{Done, TooLong, Refused, Faulty}
-use Rattle.gfxpipe.specs.declared.render.Dump.TheVariants.{Surfaces, Output}
-use Rattle.gfxpipe.specs.Audit.{lines, held_lines}
-use Rattle.gfxpipe.specs.Dump.{dump_of}
-use Rattle.gfxpipe.specs.Sessions.{session_text, trial_text}
+use Rattle.gfxpipe.specs.Audit.{told, held_lines}
 
 pub record Due : Type 0 where
   pub text : List ℕ
@@ -51,7 +44,7 @@ shown text limit bytes = record {
 
 -- the text of the audit of a recording: a line for each message that is applied, and what is held then
 unfoldable pub audit_text : ℕ → List ℕ → List ℕ
-audit_text limit bytes = lines 0 (history_of (take limit bytes)) ++ held_lines (played limit bytes).state
+audit_text limit bytes = told (take limit bytes) ++ held_lines (played limit bytes).state
 
 -- what is told of a recording
 abbrev pub audited : ℕ → List ℕ → Due
@@ -81,13 +74,3 @@ stream_text choosers script = stream_of script (kinded_steps script choosers)
 -- what the script of a number is found to be
 abbrev pub found_for : ℕ → Result Script Ending
 found_for number = accepted_or (script_of (script_text number))
-
--- what is due of a command's input, of which so many bytes at most are taken, where these choosers are asked
-abbrev pub due : Command → List Chooser → ℕ → List ℕ → Due
-due command.Render choosers limit bytes = shown (dump_of Surfaces) limit bytes
-due command.RenderOutput choosers limit bytes = shown (dump_of Output) limit bytes
-due command.Audit choosers limit bytes = audited limit bytes
-due command.Encode choosers limit bytes = scripted (stream_text choosers) (found_in limit bytes)
-due command.Session choosers limit bytes = scripted (session_text choosers) (found_in limit bytes)
-due (command.Make number) choosers limit bytes = record { text = script_text number; ending = Done }
-due (command.Trial number) choosers limit bytes = scripted (trial_text number choosers) (found_for number)

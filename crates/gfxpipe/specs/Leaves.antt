@@ -6,11 +6,8 @@ use Rattle.gfx_chooser.specs.Kinded.{Asks, kinded_steps, left_of}
 use Rattle.gfx_planner.specs.Stream.{stream_of}
 use Rattle.gfx_schedule.specs.ServerEnd.{first_frame}
 use Rattle.gfx_script.specs.Scripted.{Script}
-use Rattle.gfx_words.specs.declared.table.Command.{Command}
-use Rattle.gfx_words.specs.declared.table.Command.TheVariants as command
 use Rattle.gfxpipe.specs.declared.ending.Ending.{Ending}
 use Rattle.gfxpipe.specs.declared.trouble.Trouble.{Trouble}
-use Rattle.gfxpipe.specs.Due.{found_in, found_for}
 
 -- no chooser was asked of a step beyond the frame behind those that were written whole
 pub record AsksAhead (script : Script) (choosers left : List Chooser) (o : Change) : Type 0 where
@@ -23,7 +20,8 @@ pub record AsksAhead (script : Script) (choosers left : List Chooser) (o : Chang
   pub asks : Asks script 0 asked choosers left
   pub near : asked ≤ written + length (first_frame (drop written (kinded_steps script choosers)))
 
--- what the writer of a stream leaves: all of the script is asked of where it is done
+-- what the writer of a stream leaves, of what was found: all of a script is asked of where it is done, and where
+-- there is none nothing
 abbrev pub LeavesStream : Result Ending Trouble → Result Script Ending → List Chooser → List Chooser → Change → Type 0
 LeavesStream (Ok ending) (Ok script) choosers left o = AreAlike left (left_of script choosers)
 LeavesStream (Err trouble) (Ok script) choosers left o = AsksAhead script choosers left o
@@ -34,10 +32,3 @@ abbrev pub LeavesSession : Result Ending Trouble → Result Script Ending → Li
 LeavesSession (Ok ending) (Ok script) choosers left = AreAlike left (left_of script choosers)
 LeavesSession (Err trouble) (Ok script) choosers left = Unit {0}
 LeavesSession ended (Err other) choosers left = left ≡ choosers
-
--- what a command leaves, of whose input this is read; a script that isn't accepted is asked nothing of
-abbrev pub Leaves : Command → Result Ending Trouble → List Chooser → List Chooser → ℕ → List ℕ → Change → Type 0
-Leaves command.Encode ended choosers left limit bytes o = LeavesStream ended (found_in limit bytes) choosers left o
-Leaves command.Session ended choosers left limit bytes o = LeavesSession ended (found_in limit bytes) choosers left
-Leaves (command.Trial number) ended choosers left limit bytes o = LeavesSession ended (found_for number) choosers left
-Leaves other ended choosers left limit bytes o = left ≡ choosers

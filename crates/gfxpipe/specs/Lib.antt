@@ -4,6 +4,8 @@ pub mod Audit
 pub mod Due
 pub mod Leaves
 pub mod Did
+pub mod Rule
+pub mod Rules
 pub mod Recording
 pub mod Auditing
 pub mod Fronts

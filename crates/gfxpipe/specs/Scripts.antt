@@ -2,6 +2,7 @@
 use Rattle.std.specs.Prelude.{◌≡◌, ℕ, ◌≤◌, List, Result, Ok, Err}
 use Rattle.gfx_base.specs.Stream.{Change, Rose}
 use Rattle.gfx_input.specs.Reading.{Reads, input_of}
+use Rattle.gfx_input.specs.Taking.{fixed}
 use Rattle.gfx_script.specs.Scripted.{Script}
 use Rattle.gfx_script_text.specs.Text.{script_of}
 use Rattle.gfxpipe.specs.declared.ending.Ending.{Ending}
@@ -25,7 +26,7 @@ ReadsText (Err trouble.Write) text = ⊥
 
 -- there is an input, the one that is told where it is told, that is found to be this
 abbrev pub ReadsScript : Result (Result Script Ending) Trouble → ℕ → Change → Type 0
-ReadsScript (Ok found) limit i = (reads : Reads IsAny limit i) × NoFault i × IsReadWhole (ending_of found) i × (found_in limit (input_of reads) ≡ found)
-ReadsScript (Err trouble.Read) limit i = Reads IsAny limit i × (i.before ≤ i.now) × Rose i.before i.now
-ReadsScript (Err trouble.Memory) limit i = Reads IsAny limit i × NoFault i
+ReadsScript (Ok found) limit i = (reads : Reads IsAny (fixed limit) i) × NoFault i × IsReadWhole (ending_of found) i × (found_in limit (input_of reads) ≡ found)
+ReadsScript (Err trouble.Read) limit i = Reads IsAny (fixed limit) i × (i.before ≤ i.now) × Rose i.before i.now
+ReadsScript (Err trouble.Memory) limit i = Reads IsAny (fixed limit) i × NoFault i
 ReadsScript (Err trouble.Write) limit i = ⊥

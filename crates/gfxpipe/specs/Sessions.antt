@@ -1,6 +1,6 @@
 -- The session of a script, from its first turn to its end, and what is printed of it: this project's own
 -- rule.
-use Rattle.std.specs.Prelude.{◌≡◌, ℕ, List, [], length, Option, Some, None}
+use Rattle.std.specs.Prelude.{◌≡◌, ℕ, List, [], length, Option, Some, None, Result, Ok}
 use Rattle.std.specs.List.{flat_map, last_or}
 use Rattle.gfx_chooser.specs.Choosing.{Chooser}
 use Rattle.gfx_chooser.specs.Kinded.{kinded_steps}
@@ -13,6 +13,10 @@ use Rattle.gfx_session.specs.Kept.{digest_in}
 use Rattle.gfx_session.specs.Session.{Stands, script_of}
 use Rattle.gfx_session.specs.declared.acked.Acked.{Acked}
 use Rattle.gfx_session.specs.declared.session.Session.{Session}
+use Rattle.gfx_script_text.specs.Text.{Wrong}
+use Rattle.gfxpipe.specs.declared.ending.Ending.{Ending}
+use Rattle.gfxpipe.specs.declared.ending.Ending.TheVariants.{Done}
+use Rattle.gfxpipe.specs.declared.trouble.Trouble.{Trouble}
 
 -- the session of a script, whose paints that name no kind go as these choosers choose: all its turns, then rounds
 -- until it is ended
@@ -50,3 +54,9 @@ acked_line acked = ack_line acked.frame acked.step acked.client acked.server
 abbrev pub IsWhole : Option Session → List Chooser → Script → Type 0
 IsWhole None choosers script = ⊥
 IsWhole (Some session) choosers script = (script_of session ≡ script) × Stands session (whole_session choosers script)
+
+-- the session that a command answers which plays the script that was found: that of the script where it is done,
+-- else none
+abbrev pub AnswersOf : Result Script Wrong → Result Ending Trouble → List Chooser → Option Session → Type 0
+AnswersOf found (Ok Done) choosers answered = (script : Script) × (found ≡ Ok script) × IsWhole answered choosers script
+AnswersOf found other choosers answered = answered ≡ None

@@ -6,18 +6,16 @@ use Rattle.gfx_chooser.specs.Choosing.{Chooser}
 use Rattle.gfx_report.specs.Texts.{trial_line}
 use Rattle.gfx_session.specs.declared.acked.Acked.{Acked}
 use Rattle.gfx_session.specs.declared.session.Session.{Session}
-use Rattle.gfx_words.specs.declared.table.Command.TheVariants as command
 use Rattle.gfxpipe.specs.declared.ending.Ending.{Ending}
 use Rattle.gfxpipe.specs.declared.trouble.Trouble.{Trouble}
-use Rattle.gfxpipe.specs.Did.{Answers, EndsUnread}
-use Rattle.gfxpipe.specs.Due.{due}
-use Rattle.gfxpipe.specs.Leaves.{Leaves}
+use Rattle.gfxpipe.specs.Did.{EndsUnread}
+use Rattle.gfxpipe.specs.Rules.{trying}
 
 -- how it ended, what session it answered, and what it left of the choosers
 pub record Tries (ended : Result Ending Trouble) (answered : Option Session) (number : ℕ) (choosers left : List Chooser) (o : Change) : Type 0 where
-  pub ends : EndsUnread ended (due (command.Trial number) choosers 0 []) o
-  pub answers : Answers (command.Trial number) ended choosers answered []
-  pub leaves : Leaves (command.Trial number) ended choosers left 0 [] o
+  pub ends : EndsUnread ended (trying number).writes_on ((trying number).due choosers 0 []) o
+  pub answers : (trying number).answers ended choosers answered []
+  pub leaves : (trying number).leaves ended choosers left 0 [] o
 
 -- the line of the last of these acknowledged frames, as a session keeps them
 abbrev pub kept_trial : ℕ → ℕ → Option Acked → List ℕ

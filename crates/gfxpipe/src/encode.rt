@@ -1,9 +1,9 @@
 //! The command `encode`: a script is read whole, and its stream is written.
 ghost use Rattle.std.specs.Prelude.{◌<◌, ◌^◌, None};
 ghost use Rattle.gfx_base.specs.Stream.{change};
-ghost use Rattle.gfx_words.specs.declared.table.Command.TheVariants.{Encode};
 ghost use Rattle.gfx_chooser.specs.Seen.{seen};
-ghost use Rattle.gfxpipe.specs.Did.{DidAll};
+ghost use Rattle.gfxpipe.specs.Rule.{DidAll};
+ghost use Rattle.gfxpipe.specs.Rules.{encoding, script_input};
 
 use crate::ending::Ending;
 use crate::script::read_whole;
@@ -22,7 +22,7 @@ pub fn encode<C: Chooser, I: Source, O: Sink>(
     out: &mut O,
 ) -> Result<Ending, Trouble>
     requires { limit < 2 ^ 63 }
-    ensures { DidAll result None Encode (seen C.reply C.is_spent choosers.old.items) (seen C.reply C.is_spent choosers.new.items) limit
+    ensures { DidAll result None encoding script_input (seen C.reply C.is_spent choosers.old.items) (seen C.reply C.is_spent choosers.new.items) limit
         (change (I.faults input.old) (I.faults input.new) (I.left input.old) (I.left input.new))
         (change (O.faults out.old) (O.faults out.new) (O.held out.old) (O.held out.new)) }
 {

@@ -1,8 +1,7 @@
 //! The command `make`: the script that a number stands for is written.
 ghost use Rattle.gfx_base.specs.Stream.{change};
-ghost use Rattle.gfx_words.specs.declared.table.Command.TheVariants as commands;
 ghost use Rattle.gfxpipe.specs.Did.{EndsUnread};
-ghost use Rattle.gfxpipe.specs.Due.{due};
+ghost use Rattle.gfxpipe.specs.Rules.{making};
 ghost use Rattle.std.specs.Prelude.{[]};
 
 use crate::ending::Ending;
@@ -13,7 +12,7 @@ use std::alloc::Global;
 
 /// Writes the script of a number.
 pub fn make<O: Sink>(alloc: Global, number: u32, out: &mut O) -> Result<Ending, Trouble>
-    ensures { EndsUnread result (due (commands.Make number) [] 0 [])
+    ensures { EndsUnread result (making number).writes_on ((making number).due [] 0 [])
         (change (O.faults out.old) (O.faults out.new) (O.held out.old) (O.held out.new)) }
 {
     let text = make_script(alloc, number)?;

@@ -4,7 +4,8 @@ ghost use Rattle.gfx_base.specs.Stream.{change};
 ghost use Rattle.gfx_words.specs.CommandLine.{accepted};
 ghost use Rattle.gfxpipe.specs.Outcome.{ended_of, session_of};
 ghost use Rattle.gfx_chooser.specs.Seen.{seen};
-ghost use Rattle.gfxpipe.specs.Run.{Executes, Runs, limits};
+ghost use Rattle.gfxpipe.specs.Rule.{limits};
+ghost use Rattle.gfxpipe.specs.Run.{Executes, Runs};
 
 use crate::audit::audit;
 use crate::encode::encode;

@@ -4,11 +4,11 @@ ghost use Rattle.gfx_client.specs.Client.{cursor_of, closed_by, IsAtEnd, end_of}
 ghost use Rattle.gfxpipe.specs.Recording.{ending_by};
 
 use crate::ending::Ending;
-use gfx_base::NoMemory;
+use gfx_base::Sink;
 use gfx_client::{Client, ClientFault};
-use gfx_input::{Read, Taken, Taker};
+use gfx_input::{Read, TakeFault, Taken, Taker};
 
-/// A client that takes bytes until a message is refused.
+/// A client that takes bytes until a message is refused. It writes nothing.
 #[derive(Drop)]
 pub struct Player {
     pub client: Client,
@@ -18,6 +18,7 @@ impl Taker for Player {
     ghost use Rattle.gfx_state.specs.Run.{run_of};
     ghost use Rattle.gfxpipe.specs.Recording.{HasPlayed, HasRefused};
     ghost use Rattle.gfxpipe.specs.Fronts.{fronts_not_refused};
+    ghost use Rattle.gfx_input.specs.Taking.{fixed, silent, stays, settled};
 
     ghost stands = { λ player bytes. HasPlayed player.client bytes };
 
@@ -25,15 +26,27 @@ impl Taker for Player {
 
     ghost is_fine = { λ bytes. (run_of bytes).refusal ≡ None };
 
-    fn give(&mut self, piece: &[u8]) -> Result<Taken, NoMemory> {
+    ghost written = { silent };
+
+    ghost allowed = { fixed };
+
+    fn allowed(&self, limit: usize) -> usize {
+        limit
+    }
+
+    fn give<O: Sink>(&mut self, piece: &[u8], _out: &mut O) -> Result<Taken, TakeFault> {
         match self.client.play(piece) {
             Ok(()) => Ok(Taken::More),
             Err(ClientFault::Refused { .. }) => Ok(Taken::Stopped),
-            Err(_) => Err(NoMemory),
+            Err(_) => Err(TakeFault::Memory),
         }
     }
 
     ghost fronts = { λ player bytes n stands. fronts_not_refused player.client bytes n stands };
+
+    ghost grows = { λ limit _ _. stays limit };
+
+    ghost settles = { λ limit bytes _ all. settled limit bytes all };
 }
 
 /// How a recording ends that was given to this client.

@@ -1,7 +1,7 @@
 //! The command `render`: a recording is played, and what the client then shows is printed.
 ghost use Rattle.std.specs.Prelude.{◌<◌, ◌^◌, []};
 ghost use Rattle.gfx_base.specs.Stream.{change};
-ghost use Rattle.gfxpipe.specs.Did.{Renders};
+ghost use Rattle.gfxpipe.specs.Rules.{Renders};
 ghost use Rattle.gfxpipe.specs.Dump.{dump_of, Prints};
 ghost use Rattle.gfxpipe.specs.Recording.{HasPlayed};
 
@@ -10,7 +10,7 @@ use crate::recording::{Player, ending_of};
 use crate::trouble::Trouble;
 use gfx_base::{Sink, Source};
 use gfx_client::{Client, Offers};
-use gfx_input::read_input;
+use gfx_input::{Nowhere, read_input};
 use gfx_report::{ReportFault, dump_output};
 use gfx_surface_map::SurfaceMap;
 use std::alloc::Global;
@@ -59,7 +59,7 @@ fn play<I: Source, O: Sink>(
         (change (I.faults input.old) (I.faults input.new) (I.left input.old) (I.left input.new))
         (change (O.faults out.old) (O.faults out.new) (O.held out.old) (O.held out.new)) }
 {
-    let read = read_input(input, limit, player)?;
+    let read = read_input(input, limit, player, &mut Nowhere)?;
     let ending = ending_of(read, &player.client);
     print(alloc, dump, player.client.surfaces(), out)?;
     Ok(ending)
@@ -80,7 +80,7 @@ fn print<O: Sink>(
             Ok(()) => Ok(()),
             Err(_) => Err(Trouble::Write),
         },
-        Dump::Output => match dump_output(surfaces, alloc, out) {
+        Dump::Output => match dump_output(alloc, surfaces, out) {
             Ok(()) => Ok(()),
             Err(ReportFault::Failed) => Err(Trouble::Write),
             Err(ReportFault::Memory) => Err(Trouble::Memory),

@@ -6,7 +6,7 @@ ghost use Rattle.gfxpipe.specs.Scripts.{ReadsScript, ReadsText};
 use crate::ending::Ending;
 use crate::trouble::Trouble;
 use gfx_base::{Bytes, Source};
-use gfx_input::{Read, read_input};
+use gfx_input::{Nowhere, Read, read_input};
 use gfx_script::Script;
 use gfx_script_text::{ScriptError, read_script};
 use std::alloc::Global;
@@ -22,7 +22,7 @@ pub fn read_whole<I: Source>(
         (change (I.faults input.old) (I.faults input.new) (I.left input.old) (I.left input.new)) }
 {
     let mut text = Bytes::new(alloc);
-    match read_input(input, limit, &mut text)? {
+    match read_input(input, limit, &mut text, &mut Nowhere)? {
         Read::TooLong => return Ok(Err(Ending::TooLong)),
         Read::Stopped => unreachable!(),
         Read::Whole => {}

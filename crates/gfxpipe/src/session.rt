@@ -9,9 +9,9 @@ ghost use Rattle.gfx_base.specs.Stream.{Writes, change};
 ghost use Rattle.gfx_script.specs.Script.{IsAccepted};
 ghost use Rattle.gfx_session.specs.Session.{IsSession, Stands, script_of};
 ghost use Rattle.gfxpipe.specs.Sessions.{IsBegun};
-ghost use Rattle.gfx_words.specs.declared.table.Command.TheVariants as commands;
-ghost use Rattle.gfxpipe.specs.Did.{DidAll};
 ghost use Rattle.gfxpipe.specs.Outcome.{ended_of, session_of};
+ghost use Rattle.gfxpipe.specs.Rule.{DidAll};
+ghost use Rattle.gfxpipe.specs.Rules.{playing, script_input};
 ghost use Rattle.gfxpipe.specs.Sessions.{acked_line, whole_session};
 
 use crate::ending::Ending;
@@ -34,7 +34,7 @@ pub fn session<C: Chooser, I: Source, O: Sink>(
     out: &mut O,
 ) -> Result<Outcome, Trouble>
     requires { limit < 2 ^ 63 }
-    ensures { DidAll (ended_of result) (session_of result) commands.Session (seen C.reply C.is_spent choosers.old.items) (seen C.reply C.is_spent choosers.new.items) limit
+    ensures { DidAll (ended_of result) (session_of result) playing script_input (seen C.reply C.is_spent choosers.old.items) (seen C.reply C.is_spent choosers.new.items) limit
         (change (I.faults input.old) (I.faults input.new) (I.left input.old) (I.left input.new))
         (change (O.faults out.old) (O.faults out.new) (O.held out.old) (O.held out.new)) }
 {

@@ -30,7 +30,8 @@ impl From<InputFault> for Trouble {
 
     fn from(fault: InputFault) -> Trouble {
         match fault {
-            InputFault::Failed => Trouble::Read,
+            InputFault::Read => Trouble::Read,
+            InputFault::Write => Trouble::Write,
             InputFault::Memory => Trouble::Memory,
         }
     }

@@ -74,12 +74,17 @@ impl ServerEnd {
             return Ok(false);
         }
         let frame = put_frame(&self.script, &self.window, &mut self.planner, out)?;
-        self.window.send(frame, self.last)?;
-        self.ends.push_back(digest(
+        let state = digest(
             self.planner.surfaces(),
             self.planner.cache(),
             self.planner.clear(),
-        ))?;
+        );
+        self.ends.push_back(state)?;
+        if let Err(lack) = self.window.send(frame, self.last) {
+            // No frame is in flight for it, so the client is heard as before.
+            self.ends.pop_back();
+            return Err(lack);
+        }
         Ok(true)
     }
 }

@@ -2,7 +2,6 @@ use Rattle.std.proofs.Common.{◌≡◌, ◌∙◌, Some, None, option_map, sym,
 use Rattle.std.specs.FinMap.{get}
 use Rattle.std.specs.List.{slice_get}
 use Rattle.gfx_base.specs.Format.{byte_of}
-use Rattle.gfx_script.specs.declared.step.Kind.TheVariants.{Raw}
 use Rattle.gfx_planner.proofs.Payloads.{sides}
 use Rattle.gfx_planner.proofs.StepMessages.{no_surface, no_picture, painting_is, painting_fits}
 use Rattle.gfx_planner.proofs.messages.paint_picture.Goals as goal
@@ -10,12 +9,12 @@ use Rattle.gfx_planner.proofs.messages.paint_picture.Goals as goal
 pub unreachable-requires : goal.unreachable-requires
 unreachable-requires c =
     let none : get c.args.state.now.shown.surfaces c.args.id ≡ None = search rules in
-    no_surface c.args.state.now.clear _ (slice_get c.args.script.now.pictures c.args.picture) (Some Raw) None c.args.id c.args.at none c.requires.there
+    no_surface c.args.state.now.clear _ (slice_get c.args.script.now.pictures c.args.picture) None c.args.id c.args.at none c.requires.there
 
 pub unreachable-requires-in_default-picture_size : goal.unreachable-requires-in_default-picture_size
 unreachable-requires-in_default-picture_size c =
     let none : slice_get c.args.script.now.pictures c.args.picture ≡ None = search rules in
-    no_picture c.args.state.now.clear (get c.args.state.now.shown.surfaces c.args.id) _ (Some Raw) None c.args.id c.args.at none c.requires.there
+    no_picture c.args.state.now.clear (get c.args.state.now.shown.surfaces c.args.id) _ None c.args.id c.args.at none c.requires.there
 
 pub overflow_add-result : goal.overflow_add-result
 overflow_add-result c =

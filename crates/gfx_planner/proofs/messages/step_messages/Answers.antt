@@ -1,4 +1,3 @@
-use Rattle.std.proofs.Common.{◌≡◌, true, false}
 use Rattle.gfx_base.specs.Geometry.{width_of, height_of}
 use Rattle.gfx_live.specs.Live.{at_start}
 use Rattle.gfx_slot_plan.specs.Plan.{keeps, slot_of}
@@ -18,12 +17,6 @@ show_key-requires c = is_shown_from (slot_of c.in-Show.key c.args.plan.now.place
 pub forget_key-requires : goal.forget_key-requires
 unfolding made_as
 forget_key-requires c = is_emptied (slot_of c.in-Forget.key c.args.plan.now.places) _ (rw c.in-Forget.is at c.requires.possible)
-
-pub prove-unreachable-requires : goal.prove-unreachable-requires
-prove-unreachable-requires c =
-    let goes = raw_made c.args.script.now c.args.state.now at_start c.args.plan.now c.args.kind c.in-Paint.kind c.in-Paint.glyph c.in-Paint.id c.in-Paint.picture c.in-Paint.at c.args.step.now
-    c.in-Paint.is c.requires.possible c.requires.messages c.requires.apart in
-    absurd (let no : false ≡ true = rw goes.raw at c.if-prove.ensures in cc)
 
 pub paint_picture-requires-clause-there : goal.paint_picture-requires-clause-there
 paint_picture-requires-clause-there c =

@@ -1,4 +1,4 @@
-use Rattle.std.proofs.Common.{Some, ap, ◌∙◌}
+use Rattle.std.proofs.Common.{ap}
 use Rattle.std.specs.Option.{option_copied}
 use Rattle.gfx_report.proofs.Counts.{seen_some}
 use Rattle.gfx_report.proofs.DecoderBytes.{index_taken}

@@ -8,4 +8,4 @@ pub only_memory-requires : goal.only_memory-requires
 only_memory-requires c = memory_alone c.in-Err.fault c.args.client.now c.step.new.self c.requires.open c.requires.good c.in-Err.ensures.steps
 
 pub returns-in-Ok-clause-brings : goal.returns-in-Ok-clause-brings
-returns-in-Ok-clause-brings c = λ bytes all b. subst (λ (z : Option ClientFault). Brings z (Ok c.in-Ok.stepped) c.step.new.self bytes all) c.requires.open (c.in-Ok.ensures.brings bytes all b)
+returns-in-Ok-clause-brings c = λ origin bytes all b. subst (λ (z : Option ClientFault). Brings origin z (Ok c.in-Ok.stepped) c.step.new.self bytes all) c.requires.open (c.in-Ok.ensures.brings origin bytes all b)

@@ -1,4 +1,4 @@
-use Rattle.gfx_state.proofs.Wider.{started_fresh, step_wider, all_steps_wider, sent_wider, ended_wider, Wider_same}
+use Rattle.gfx_state.proofs.Wider.{started_fresh, step_wider, all_steps_wider, sent_wider, ended_wider, Wider_same, wider_alike}
 use Rattle.gfx_state.proofs.laws.wider_states_accept_alike.Goals as goal
 
 pub returns-clause-start : goal.returns-clause-start
@@ -18,3 +18,6 @@ returns-clause-ends c = ended_wider
 
 pub returns-clause-same : goal.returns-clause-same
 returns-clause-same c = Wider_same
+
+pub returns-clause-alike : goal.returns-clause-alike
+returns-clause-alike c = wider_alike

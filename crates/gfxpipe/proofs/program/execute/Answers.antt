@@ -1,8 +1,9 @@
 use Rattle.std.proofs.Common.{Some, map, sym, ap, ◌∙◌, refl}
 use Rattle.gfx_words.specs.CommandLine.{accepted}
-use Rattle.gfx_words.specs.declared.table.Command.TheVariants.{Render, RenderOutput, Audit, Encode}
-use Rattle.gfxpipe.specs.Run.{limits}
-use Rattle.gfxpipe.proofs.Commands.{memory_first, alone}
+use Rattle.gfx_words.specs.declared.table.Command.TheVariants.{Render, RenderOutput, Audit, Encode, Session}
+use Rattle.gfxpipe.specs.Outcome.{ended_of, session_of}
+use Rattle.gfxpipe.specs.Rule.{limits}
+use Rattle.gfxpipe.proofs.Commands.{memory_first, spelled, alone}
 use Rattle.gfxpipe.proofs.program.execute.Goals as goal
 
 pub returns-in-Ok-Some-Render : goal.returns-in-Ok-Some-Render
@@ -24,6 +25,11 @@ pub returns-in-Ok-Some-Encode : goal.returns-in-Ok-Some-Encode
 returns-in-Ok-Some-Encode g c =
     let words = ap (λ z. Some z) (sym c.in-Ok-Some-Encode.field-0-0-is) ∙ sym c.in-Ok-Some-Encode.field-0-is ∙ c.in-Ok-Some-Encode.ensures in
     alone c.alone-in-Ok-Some-Encode.result c.encode.result (Some Encode) _ _ _ (limits c.args.stream c.args.script) _ _ words c.alone-in-Ok-Some-Encode.ensures.ended c.alone-in-Ok-Some-Encode.ensures.session c.encode.ensures
+
+pub returns-in-Ok-Some-Session : goal.returns-in-Ok-Some-Session
+returns-in-Ok-Some-Session g c =
+    let words = ap (λ z. Some z) (sym c.in-Ok-Some-Session.field-0-0-is) ∙ sym c.in-Ok-Some-Session.field-0-is ∙ c.in-Ok-Some-Session.ensures in
+    spelled (ended_of c.session.result) (session_of c.session.result) (Some Session) _ _ _ (limits c.args.stream c.args.script) _ _ words c.session.ensures
 
 pub returns-in-Err : goal.returns-in-Err
 returns-in-Err g c = memory_first (accepted (map (λ word. word.now) c.args.words.now)) _ (limits c.args.stream c.args.script) _ _ _ _

@@ -12,7 +12,7 @@ pub returns-in-Ok-clause-exact : goal.returns-in-Ok-clause-exact
 returns-in-Ok-clause-exact c = end_ok c.args.self.now c.in_default.is (c.requires c.in_default.is) (sym c.in-Ok.ensures)
 
 pub returns-in-Ok-clause-ends : goal.returns-in-Ok-clause-ends
-returns-in-Ok-clause-ends c = λ bytes s.
+returns-in-Ok-clause-ends c = λ origin bytes s.
     end_ok c.args.self.now c.in_default.is (c.requires c.in_default.is) (sym c.in-Ok.ensures)
     ∙ end_is (closed_by c.args.self.now) c.args.self.now bytes c.requires s
 
@@ -20,6 +20,6 @@ pub returns-in-Err-clause-exact : goal.returns-in-Err-clause-exact
 returns-in-Err-clause-exact c = end_refused c.args.self.now _ _ c.in_default.is (c.requires c.in_default.is) (sym c.in-Err.ensures) c.saturating_add.ensures
 
 pub returns-in-Err-clause-ends : goal.returns-in-Err-clause-ends
-returns-in-Err-clause-ends c = λ bytes s.
+returns-in-Err-clause-ends c = λ origin bytes s.
     end_refused c.args.self.now _ _ c.in_default.is (c.requires c.in_default.is) (sym c.in-Err.ensures) c.saturating_add.ensures
     ∙ end_is (closed_by c.args.self.now) c.args.self.now bytes c.requires s

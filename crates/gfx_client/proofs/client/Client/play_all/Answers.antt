@@ -4,12 +4,12 @@ use Rattle.gfx_client.proofs.Playing.{drained, goes_on, stopped}
 use Rattle.gfx_client.proofs.client.Client.play_all.Goals as goal
 
 pub returns-in_err-step-clause-plays : goal.returns-in_err-step-clause-plays
-returns-in_err-step-clause-plays c = λ bytes s.
+returns-in_err-step-clause-plays c = λ origin bytes s.
     let p = err_from_is_err_and c.from_residual.result c.from_residual.ensures.1 in
     rw (p.1, p.2) (stopped c.args.self.now c.steps.self c.step.new.self c.in_err-step.field-0.0 bytes c.steps.invariant.0 c.steps.invariant.1 c.in_err-step.ensures.steps s)
 
 pub returns-then-needs_more-clause-plays : goal.returns-then-needs_more-clause-plays
-returns-then-needs_more-clause-plays c = λ bytes s. drained c.args.self.now c.steps.self c.step.new.self bytes c.steps.invariant.0 c.steps.invariant.1 (rw (c.if-needs_more.ensures.0 refl) at c.in_ok-step.ensures.steps) s
+returns-then-needs_more-clause-plays c = λ origin bytes s. drained c.args.self.now c.steps.self c.step.new.self bytes c.steps.invariant.0 c.steps.invariant.1 (rw (c.if-needs_more.ensures.0 refl) at c.in_ok-step.ensures.steps) s
 
 pub steps-smaller : goal.steps-smaller
 steps-smaller c = (goes_on c.args.self.now c.steps.self c.step.new.self c.in_ok-step.field-0 c.if-needs_more.ensures.1 c.steps.invariant.0 c.steps.invariant.1 c.in_ok-step.ensures.steps).lighter

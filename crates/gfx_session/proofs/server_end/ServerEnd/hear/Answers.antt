@@ -1,7 +1,12 @@
 use Rattle.std.proofs.Common.{length, refl, ap, ◌∙◌, arith}
 use Rattle.std.proofs.lemmas.Result.{err_from_is_err_and}
-use Rattle.gfx_session.proofs.Midway.{begins, splitter_fails, waits, one, message_fails, message_done, beside_on, beside_start}
+use Rattle.gfx_session.proofs.Midway.{begins, untold, splitter_fails, waits, one, message_fails, message_done, beside_on, beside_start}
 use Rattle.gfx_session.proofs.server_end.ServerEnd.hear.Goals as goal
+
+pub returns-in_err-feed-clause-hears : goal.returns-in_err-feed-clause-hears
+returns-in_err-feed-clause-hears c =
+    let p = err_from_is_err_and c.from_residual.result c.from_residual.ensures.1 in
+    rw (p.1, p.2) (λ at s. untold c.args.self.now.script at c.args.piece.now c.args.out.now)
 
 pub messages-init : goal.messages-init
 messages-init c =

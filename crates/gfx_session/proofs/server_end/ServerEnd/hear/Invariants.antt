@@ -1,13 +1,13 @@
 use Rattle.std.proofs.Common.{◌≡◌, length}
 use Rattle.gfx_schedule.specs.ServerEnd.{ServerEnd as EndOfSchedule}
-use Rattle.gfx_session.specs.Kept.{Stands}
+use Rattle.gfx_session.specs.Kept.{ListensAs}
 use Rattle.gfx_session.specs.Listening.{Beside}
 use Rattle.gfx_session.proofs.Midway.{Midway}
 use Rattle.gfx_session.proofs.server_end.ServerEnd.hear.Given as goal
 
 abbrev pub invariant-messages : goal.invariant-messages
 invariant-messages l =
-    ((at : EndOfSchedule) → Stands l.fn.self at → Midway l.fn.self.script at l.fn.piece l.fn.out l.out l.fn.taken.items l.taken.items l.self)
+    ((at : EndOfSchedule) → ListensAs l.fn.self at → Midway l.fn.self.script at l.fn.piece l.fn.out l.out l.fn.taken.items l.taken.items l.self)
     × Beside l.fn.self l.self l.fn.taken.items l.taken.items × (l.self.closed ≡ l.fn.self.closed)
 
 abbrev pub decreases-messages : goal.decreases-messages

@@ -1,13 +1,21 @@
-use Rattle.std.proofs.Common.{◌∙◌, sym}
+use Rattle.std.proofs.Common.{◌∙◌, sym, []}
 use Rattle.std.proofs.lemmas.Result.{err_from_is_err_and}
 use Rattle.gfx_chooser.specs.Seen.{seen}
 use Rattle.gfx_session.proofs.Plans.{may_frame}
-use Rattle.gfx_session.proofs.Turning.{with_queued, queued_in_step, ended_turn, turn, turned_is, same_script, unsent}
+use Rattle.gfx_session.proofs.Turning.{with_queued, queued_in_step, ended_turn, turn, turned_is, same_script, still_spent, unqueued, unsent}
 use Rattle.gfx_session.proofs.server_end.ServerEnd.serve.Goals as goal
+
+pub returns-then-self-clause-serves : goal.returns-then-self-clause-serves
+returns-then-self-clause-serves g c = still_spent c.args.self.now _ [] c.args.out.now _ c.if-self.true
 
 pub returns-then-has_served-clause-serves : goal.returns-then-has_served-clause-serves
 returns-then-has_served-clause-serves g c =
     ended_turn c.args.self.now (seen g.C.Chooser.reply g.C.Chooser.is_spent c.args.choosers.now.items) c.args.out.now c.if-self.false (sym c.has_served.ensures ∙ c.if-has_served.true)
+
+pub returns-in_err-last-clause-serves : goal.returns-in_err-last-clause-serves
+returns-in_err-last-clause-serves g c =
+    let p = err_from_is_err_and c.from_residual.result c.from_residual.ensures.1 in
+    rw p.1 (unqueued c.args.self.now c.queue_frame.new.window _ [] c.args.out.now p.0 c.if-self.false c.in_err-last.ensures)
 
 pub send_frame-requires-clause-may : goal.send_frame-requires-clause-may
 send_frame-requires-clause-may g c =

@@ -1,0 +1,11 @@
+pub mod Numbers
+pub mod KeyLemmas
+pub mod KeptLemmas
+pub mod TakingLemmas
+pub mod WritingLemmas
+pub mod FileLemmas
+pub mod MessageLemmas
+pub mod AgreementLemmas
+pub mod IndexLemmas
+pub mod ChosenLemmas
+pub mod OwnLemmas

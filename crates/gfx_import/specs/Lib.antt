@@ -1,0 +1,11 @@
+pub mod Entries
+pub mod Inside
+pub mod File
+pub mod Indexing
+pub mod Taking
+pub mod Offered
+pub mod Imported
+pub mod Agreed
+pub mod Chosen
+pub mod Messages
+pub mod Laws

@@ -1,0 +1,10 @@
+//! Tests of kept files and of their exchange through the public calls: worked examples, files that break a rule, and
+//! lists that end at each of the limits. The library crate has no tests of its own.
+#![tactic(auto)]
+
+#[cfg(test)]
+mod exchange;
+#[cfg(test)]
+mod files;
+#[cfg(test)]
+mod making;

@@ -266,7 +266,7 @@ else
 fi
 
 # Words.
-usage="2 usage: gfxpipe encode | render [--output] | audit | session | make N | trial N"
+usage="2 usage: gfxpipe encode | render [--output] | audit | session | make N | trial N | fragment | join"
 for words in "render --wide" "" "renders" "render 1 2" "audit --output" "audit 1" "--help" $'\xff' $'render \xff'; do
     # shellcheck disable=SC2086
     "$program" $words < "$examples/fill.bin" > "$work/out" 2> "$work/err"
@@ -283,13 +283,20 @@ example fill "0 "
 example desktop "0 "
 example pictures "0 "
 example text "0 "
+example video "0 "
 example outside "1 message 4: 14 RectOutside"
+"$program" join < "$examples/fill-fragments.bin" > "$work/out" 2> "$work/err"
+report "fill as fragments, joined" "same" "$(cmp -s "$work/out" "$examples/fill.bin" && echo same)"
+"$program" fragment < "$examples/fill.bin" > "$work/out" 2> "$work/err"
+report "fill, cut into fragments" "same" "$(cmp -s "$work/out" "$examples/fill-fragments.bin" && echo same)"
 "$program" render --output < "$examples/output.bin" > "$work/out" 2> "$work/err"
 report "the example output" "0 " "$(ended $?)"
 report "the example output, the output" "same" "$(cmp -s "$work/out" "$examples/output.txt" && echo same)"
 report "the recording of a real server" "cd0976e038ed9c2cac37714d1eec4f5a36ba689aa7fb5ce8e61ebe6710708b53  -" \
     "$(xz -dc "$examples/gnome.bin.xz" | "$program" render | sha256sum)"
-for name in fill desktop output pictures text passes; do
+report "the recording of one that sends video" "607b775ca821336eb577e3be27f0ca59a95f6c5ac8f77d3752096666a51d9314  -" \
+    "$(xz -dc "$examples/freerdp-video.bin.xz" | "$program" render | sha256sum)"
+for name in fill desktop output pictures text passes video; do
     "$program" encode < "$examples/$name.toml" > "$work/out" 2> "$work/err"
     report "the script $name" "0 " "$(ended $?)"
     report "the script $name, its stream" "same" "$(cmp -s "$work/out" "$examples/$name.bin" && echo same)"
@@ -381,7 +388,7 @@ if [ -n "$reference" ]; then
         answer "$way" "$seed" "$@"
         cmp -s "$work/out" "$work/wanted" && cmp -s "$work/err" "$work/wanted.err" || different="$different $seed"
     }
-    built="surface delete reset map fill copy paint kinds=raw,residual,bands,palette,plain,progressive,auto improve difference glyph argb keep show forget clients"
+    built="surface delete reset map fill copy paint kinds=raw,residual,bands,palette,plain,progressive,auto,video improve difference glyph argb keep show forget clients thin"
     for way in whole cut pieces; do
         for words in "render" "render --output" "audit"; do
             different=

@@ -196,7 +196,7 @@ PYTHON
 report "the pages' links lead somewhere, and their versions are that of VERSION" "" "$(cat "$work/out")"
 
 # ---- stream
-for example in fill desktop output outside passes pictures text; do
+for example in fill desktop output outside passes pictures text video; do
     "$program" audit < "$examples/$example.bin" 2> "$work/wanted.err" | grep '^[0-9]' > "$work/wanted"
     "$tools/stream" json "$examples/$example.bin" 2> "$work/err" > "$work/json"
     python3 -c '
@@ -223,6 +223,8 @@ report "stream stats, the first line" \
 report "stream stats, the codec" "progressive 70 704,085 3,129,344" \
     "$(sed -n '/^progressive/s/  */ /gp' "$work/out")"
 report "stream stats, the tiles" "tiles of progressive messages: 764 simple" "$(grep ^tiles "$work/out")"
+report "stream stats of freerdp-video, the codec" "rfx-video 94 6,439,211 28,876,800" \
+    "$("$tools/stream" stats "$examples/freerdp-video.bin.xz" | sed -n '/^rfx-video/s/  */ /gp')"
 report "stream frames of gnome" "72" "$("$tools/stream" frames "$work/gnome.bin" | wc -l)"
 report "stream frames, a line" "2 2 5 583 3 2041 - 1 progressive" \
     "$("$tools/stream" frames "$examples/passes.bin" | sed -n '3s/  */ /gp' | sed 's/^ //')"
@@ -281,6 +283,8 @@ for example in "$examples"/*.toml; do
 done
 report "check-script, what is good" "good: 1 picture, 7 steps, 3 frames, 0 turns" \
     "$("$tools/check-script" "$examples/passes.toml")"
+report "check-script, what is good of video" "good: 2 pictures, 5 steps, 2 frames, 0 turns" \
+    "$("$tools/check-script" "$examples/video.toml")"
 rows=0
 while IFS= read -r row; do
     case $row in '' | '#'*) continue ;; esac
@@ -403,6 +407,10 @@ for input in passes.toml passes.bin; do
     done
     rm -rf "$work/passes"
 done
+"$tools/frames" "$examples/video.toml" "$work/whole" 2> "$work/err"
+report "frames of video.toml" "0 $work/whole: 2 pictures of surface 1" "$(ended $?)"
+dump_of "surface 1 100x72 xrgb" "$work/whole/frame-0002.png" > "$work/out"
+report "frames of video.toml, the last" "same" "$(same "$work/out" "$examples/video.txt")"
 rewritten joined "$tools" "$examples/passes.bin" > "$work/joined.bin"
 "$tools/frames" "$work/joined.bin" "$work/passes" 2> "$work/err"
 dump_of "surface 1 80x48 xrgb" "$work/passes/frame-0002.png" > "$work/out"

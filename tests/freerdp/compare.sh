@@ -3,12 +3,12 @@
 #
 #     tests/freerdp/compare.sh PROGRAM [SEEDS..]
 #
-# The streams are those of examples/, one in which the rings of ClearCodec's bands go round, one with more
-# tiles than a message takes, and three for each seed: what PROGRAM makes of a script by chance, what it
-# makes of one with pictures in passes (script.py), and what another server might send (foreign.py). Without
-# SEEDS they are 1 to 300. In pictures in passes bytes of colour may be 1 apart, since FreeRDP rounds
-# otherwise. There is a line for each difference, and at the end some with the counts; the exit number is 1
-# where there was a difference.
+# The streams are those of examples/, one in which the rings of ClearCodec's bands go round, two with more
+# tiles than a message takes, and four for each seed: what PROGRAM makes of a script by chance, what it makes
+# of one with pictures in passes and of one with RemoteFX video (script.py), and what another server might
+# send (foreign.py). Without SEEDS they are 1 to 300. In pictures in passes and in video bytes of colour may
+# be 1 apart, since FreeRDP rounds otherwise. There is a line for each difference, and at the end some with
+# the counts; the exit number is 1 where there was a difference.
 set -u
 if [ $# -lt 1 ]; then
     sed -n '4s/^# *//p' "$0" >&2
@@ -73,10 +73,13 @@ sums() {
 
 for example in ../../examples/*.bin; do
     cp "$example" "$work/stream"
-    compare "$(basename "$example")" 0
+    case $example in */video.bin) apart=1 ;; *) apart=0 ;; esac
+    compare "$(basename "$example")" $apart
 done
-xz -dc ../../examples/gnome.bin.xz > "$work/stream"
-compare "gnome.bin" 1
+for name in gnome freerdp-video; do
+    xz -dc "../../examples/$name.bin.xz" > "$work/stream"
+    compare "$name.bin" 1
+done
 for example in ../../examples/*.toml; do
     cp "$example" "$work/script"
     [ -e "${example%.toml}.bin" ] || compare_script "$(basename "$example")" 0
@@ -85,16 +88,20 @@ done
 compare_script "rings" 0
 ./script.py many > "$work/script"
 compare_script "many" 1
+./script.py paint video text 1920 1080 > "$work/script"
+compare_script "many of video" 1
 for seed in "$@"; do
     ./script.py "$seed" > "$work/script"
     compare_script "script $seed" 0
     ./script.py passes "$seed" > "$work/script"
     compare_script "passes $seed" 1
+    ./script.py video "$seed" > "$work/script"
+    compare_script "video $seed" 1
     ./foreign.py "$seed" > "$work/stream"
     compare "foreign $seed" 0
 done
 
 sums "$work/counts"
-[ ! -e "$work/off" ] || echo "in passes: $(sums "$work/off")"
+[ ! -e "$work/off" ] || echo "in passes and in video: $(sums "$work/off")"
 echo "$streams streams, $differences differences"
 [ "$differences" -eq 0 ]

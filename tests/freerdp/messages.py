@@ -1,6 +1,6 @@
 """Bytes of the server's messages (docs/FORMATS.md), of ClearCodec streams (docs/CLEAR.md and the pages that
-it names) and of RemoteFX Progressive (docs/PROGRESSIVE.md), for streams that this project's own server
-wouldn't send. A colour is three bytes B, G, R."""
+it names), of RemoteFX Progressive (docs/PROGRESSIVE.md) and of RemoteFX video (docs/VIDEO.md), for streams
+that this project's own server wouldn't send. A colour is three bytes B, G, R."""
 import struct
 
 XRGB, ARGB = 0x20, 0x21
@@ -164,3 +164,39 @@ def rlgr(*places):
         at = place + 1
     bits += "0" * (-len(bits) % 8)
     return bytes(int(bits[i:i + 8], 2) for i in range(0, len(bits), 8))
+
+
+# ---- RemoteFX video: docs/VIDEO.md; `sync` and `block` are those above
+
+
+def video(rectangle, *blocks, number=1, form=XRGB):
+    """For a rectangle: left, top, right, bottom."""
+    data = b"".join(blocks)
+    return message(1, struct.pack("<HHB4HI", number, 3, form, *rectangle, len(data)) + data)
+
+
+def headers(width, height):
+    """Versions, one channel and context; with sync what a server has to send once."""
+    return (block(0xCCC1, struct.pack("<BBH", 1, 1, 0x0100)) + block(0xCCC2, struct.pack("<BBHH", 1, 0, width, height))
+            + block(0xCCC3, struct.pack("<BBBHH", 1, 0xFF, 0, 64, 0x222A)))
+
+
+VIDEO_BEGIN = block(0xCCC4, struct.pack("<BBIH", 1, 0, 0, 1))
+VIDEO_END = block(0xCCC5, b"\1\0")
+
+
+def video_region(*rectangles):
+    """The rectangles are x, y, width, height, from the message's corner."""
+    return block(0xCCC6, struct.pack("<BBBH", 1, 0, 1, len(rectangles))
+                 + b"".join(struct.pack("<4H", *rectangle) for rectangle in rectangles) + struct.pack("<HH", 0xCAC1, 1))
+
+
+def tile_set(*tiles, properties=0x4455, bases=(BASE,), count=None):
+    data = b"".join(tiles)
+    return block(0xCCC7, struct.pack("<BBHHHBBHI", 1, 0, 0xCAC2, 0, properties, len(bases), 64,
+                                     len(tiles) if count is None else count, len(data)) + b"".join(bases) + data)
+
+
+def whole(y, cell=(0, 0), base=0):
+    """A tile whose Y has these data; Cb and Cr are zeros."""
+    return block(0xCAC3, struct.pack("<3B5H", base, 0, 0, *cell, len(y), 1, 1) + y + b"\0\0")

@@ -2,7 +2,8 @@
  *
  * Surfaces and cache slots are plain memory here, and what needs no codec is done by a few lines of our
  * own: fills, copies, the cache, uncompressed pixels. FreeRDP reads the channel messages (zgfx) and
- * decodes ClearCodec and RemoteFX Progressive. Its pixels are left exactly as it writes them.
+ * decodes ClearCodec, RemoteFX Progressive and RemoteFX video. Its pixels are left exactly as it writes
+ * them.
  *
  * Our own lines check what they need for themselves, and not all that the profile refuses. FreeRDP 2.11
  * doesn't check all that it needs (docs/INTEROP.md), so hostile streams aren't for this program. */
@@ -21,7 +22,7 @@ struct bytes {
 };
 
 /* What a message of pixels consists of. A ClearCodec stream with more than one part is MIXED. */
-enum kind { RAW, RESIDUAL, BANDS, PLAIN, PALETTE, GLYPH_SHOWN, MIXED, PROGRESSIVE, KINDS };
+enum kind { RAW, RESIDUAL, BANDS, PLAIN, PALETTE, GLYPH_SHOWN, MIXED, PROGRESSIVE, VIDEO, KINDS };
 extern const char *const kind_names[KINDS];
 
 /* What was decoded of a kind: how many streams of how many bytes and pixels, and the processor time
@@ -32,8 +33,9 @@ struct work {
     double seconds;
 };
 
-/* What a tile of RemoteFX Progressive is: DIFFERENCE is a first one that goes on the tile before. */
-enum tile { FIRST, DIFFERENCE, UPGRADE, TILES };
+/* What a tile of RemoteFX Progressive is: DIFFERENCE is a first one that goes on the tile before. A tile of
+ * RemoteFX video is WHOLE. */
+enum tile { FIRST, DIFFERENCE, UPGRADE, WHOLE, TILES };
 extern const char *const tile_names[TILES];
 
 struct screen;

@@ -22,7 +22,7 @@ COMPONENTS = ("y", "cb", "cr")
 VERSIONS = ("8", "8.1", "10")  # ascending
 FORMATS = ("xrgb", "argb")
 CLEAR_KINDS = ("residual", "bands", "palette", "plain")
-KINDS = ("raw", *CLEAR_KINDS, "progressive", "auto")
+KINDS = ("raw", *CLEAR_KINDS, "progressive", "auto", "video")
 HEXADECIMAL = "0123456789abcdefABCDEF"
 
 
@@ -214,10 +214,13 @@ TO = Whole("to", 0, MOST_NUMBER)
 RECT = rectangle("rect")
 POINTS = Several("points", point("points"), "point")
 TOP = (Whole("window", 1, MOST_WINDOW, True), Tables("client", True), Inner("progressive", True),
-       Tables("picture", True), Tables("step", True), Tables("turn", True))
+       Inner("video", True), Tables("picture", True), Tables("step", True), Tables("turn", True))
 CLIENT = (Word("version", VERSIONS), Flag("small", True))
+# Further keys of an offer; version 10 is for no thin client.
+THIN = (Flag("thin", True),)
 BASES = tuple(Numbers(key, BANDS, LEAST_BASE, MOST_BITS, True) for key in COMPONENTS)
 PROGRESSIVE = (Word("transform", ("plain", "reduced"), True), *BASES, Tables("level", True), Flag("difference", True))
+VIDEO = (Word("entropy", ("rlgr1", "rlgr3"), True),)
 LEVEL = tuple(Numbers(key, BANDS, 0, MOST_LEFT_OUT) for key in COMPONENTS)
 SIDES = (Whole("width", 1, MOST_NUMBER), Whole("height", 1, MOST_NUMBER))
 # Further keys of a picture, by its pattern.

@@ -1,7 +1,7 @@
 """Which messages the program refuses, by what the messages before them left (docs/FORMATS.md, "What messages do").
 
-What only the decoding of pixels finds isn't seen here: the refusals 24 to 49, but for the structure of progressive
-blocks."""
+What only the decoding of pixels finds isn't seen here: the refusals 24 to 49 and 53, but for the structure of
+progressive blocks."""
 
 from .recording import FORMATS
 
@@ -12,10 +12,11 @@ CELL_SIDE = 64
 MOST_OUTPUT_SIDE = 32766
 MOST_SLOTS, MOST_SMALL_SLOTS = 25600, 4096
 MOST_BYTES, MOST_SMALL_BYTES = 104857600, 16777216
-SMALL_CACHE = 0x02
+# The flags that choose the small limits: THINCLIENT and SMALL_CACHE.
+BINDS_SMALL = 0x01 | 0x02
 VERSIONS_TAKEN = (0x00080004, 0x00080105, 0x000A0002)
 # The codecs that are taken in WireToSurface1 and WireToSurface2.
-CODECS_1, CODECS_2 = (0x0, 0x8), (0x9,)
+CODECS_1, CODECS_2 = (0x0, 0x3, 0x8), (0x9,)
 
 
 def cells(width, height):
@@ -171,7 +172,7 @@ class Judge:
     def judge_CapsConfirm(self, says):
         if says["version"] not in VERSIONS_TAKEN or says["flags"] is None:
             return "CapsVersion"
-        self.small = bool(says["flags"] & SMALL_CACHE)
+        self.small = bool(says["flags"] & BINDS_SMALL)
 
     def judge_DeleteEncodingContext(self, says):
         return self.absent(says["surface"])

@@ -52,25 +52,20 @@ fn offer(alloc: Global, sets: &mut CapsSets, version: u32, flags: &[u8]) -> Resu
     Ok(())
 }
 
-/// What is chosen of two sets.
-fn chosen_of(
-    alloc: Global,
-    first: (u32, &[u8]),
-    second: (u32, &[u8]),
-) -> Result<Result<Chosen, Refusal>, Fail> {
+/// What is chosen of these sets.
+fn chosen_of(alloc: Global, offered: &[(u32, &[u8])]) -> Result<Result<Chosen, Refusal>, Fail> {
     let mut sets = CapsSets::new(alloc);
-    offer(alloc, &mut sets, first.0, first.1)?;
-    offer(alloc, &mut sets, second.0, second.1)?;
+    for (version, flags) in offered {
+        offer(alloc, &mut sets, *version, flags)?;
+    }
     Ok(choose_version(&sets))
 }
 
 #[test]
 fn versions(rt: HostRuntime) -> Result<(), Fail> {
-    let alloc = rt.alloc();
     let chosen = chosen_of(
-        alloc,
-        (VERSION_8, b"\x02\0\0\0"),
-        (VERSION_10, b"\x22\0\0\0"),
+        rt.alloc(),
+        &[(VERSION_8, b"\x02\0\0\0"), (VERSION_10, b"\x22\0\0\0")],
     )?;
     let expected = Chosen {
         version: VERSION_10,
@@ -82,36 +77,57 @@ fn versions(rt: HostRuntime) -> Result<(), Fail> {
 }
 
 #[test]
+fn thin_version(rt: HostRuntime) -> Result<(), Fail> {
+    let chosen = chosen_of(rt.alloc(), &[(VERSION_8, b"\x01\0\0\0")])?;
+    let expected = Chosen {
+        version: VERSION_8,
+        flags: 1,
+    };
+    assert_eq!(rt; chosen, Ok(expected));
+    assert!(rt; small_cache(expected));
+    Ok(())
+}
+
+#[test]
 fn the_highest_version_that_qualifies(rt: HostRuntime) -> Result<(), Fail> {
-    let alloc = rt.alloc();
-    // Of version 10 the flag of AVC is kept, and the first set counts.
-    let first = chosen_of(
-        alloc,
-        (VERSION_10, b"\xf0\0\0\0"),
-        (VERSION_10, b"\x02\0\0\0"),
+    let table: [(&[(u32, &[u8])], u32, u32); 4] = [
+        // Of version 10 the flag of AVC is kept, and the first set counts.
+        (
+            &[(VERSION_10, b"\xf0\0\0\0"), (VERSION_10, b"\x02\0\0\0")],
+            VERSION_10,
+            0x20,
+        ),
+        // Version 10 is for no thin client; of version 8.1 the flags of the small cache and of thin clients are kept.
+        (
+            &[(VERSION_10, b"\x23\0\0\0"), (VERSION_8_1, b"\x12\0\0\0")],
+            VERSION_8_1,
+            2,
+        ),
+        (
+            &[(VERSION_10, b"\x01\0\0\0"), (VERSION_8_1, b"\xff\0\0\0")],
+            VERSION_8_1,
+            3,
+        ),
+        // A thin client's set of a higher version goes before one of a lower.
+        (
+            &[(VERSION_8, b"\0\0\0\0"), (VERSION_8_1, b"\x01\0\0\0")],
+            VERSION_8_1,
+            1,
+        ),
+    ];
+    for (offered, version, flags) in table {
+        let chosen = chosen_of(rt.alloc(), offered)?;
+        assert_eq!(rt; chosen, Ok(Chosen { version, flags }));
+    }
+    // No set qualifies without a word of flags, of another version, or for a thin client of version 10.
+    let none = chosen_of(
+        rt.alloc(),
+        &[
+            (VERSION_8, b"\0\0\0"),
+            (0x000A_0100, b"\0\0\0\0"),
+            (VERSION_10, b"\x01\0\0\0"),
+        ],
     )?;
-    assert_eq!(rt;
-        first,
-        Ok(Chosen {
-            version: VERSION_10,
-            flags: 0x20
-        })
-    );
-    // A set for a thin client is none that qualifies; of version 8.1 only the small cache is kept.
-    let thin = chosen_of(
-        alloc,
-        (VERSION_10, b"\x01\0\0\0"),
-        (VERSION_8_1, b"\x12\0\0\0"),
-    )?;
-    assert_eq!(rt;
-        thin,
-        Ok(Chosen {
-            version: VERSION_8_1,
-            flags: 2
-        })
-    );
-    // Nor is one without a word of flags, or of another version.
-    let none = chosen_of(alloc, (VERSION_8, b"\0\0\0"), (0x000A_0100, b"\0\0\0\0"))?;
     assert_eq!(rt; none, Err(Refusal::CapsVersion));
     Ok(())
 }

@@ -1,6 +1,6 @@
 //! A client that is given frames, what it says to the server, and one at the limit of surfaces.
 use gfx_base::{Bytes, NoMemory, Refusal};
-use gfx_caps::VERSION_10;
+use gfx_caps::{VERSION_8_1, VERSION_10};
 use gfx_client::{Client, ClientFault, Offer, Offers, Stepped};
 use std::alloc::Global;
 use std::test::Fail;
@@ -121,13 +121,15 @@ const HELLO: [u8; 26] = [
     0x16, 0, 0, 0, 0x12, 0, 0, 0, 0x16, 0, 0, 0, 1, 0, 2, 0, 0xa, 0, 4, 0, 0, 0, 0x22, 0, 0, 0,
 ];
 
+/// CapsAdvertise of version 8.1 for a thin client.
+const THIN_HELLO: [u8; 26] = [
+    0x16, 0, 0, 0, 0x12, 0, 0, 0, 0x16, 0, 0, 0, 1, 0, 5, 1, 8, 0, 4, 0, 0, 0, 1, 0, 0, 0,
+];
+
 /// What a client with one offer says first.
-fn hello_of(alloc: Global) -> Result<Bytes, Fail> {
+fn hello_of(alloc: Global, offer: Offer) -> Result<Bytes, Fail> {
     let mut offers = Offers::new(alloc);
-    offers.push(Offer {
-        version: VERSION_10,
-        small: true,
-    })?;
+    offers.push(offer)?;
     let client = Client::new(alloc, offers)?;
     let hello = client.hello();
     client.let_go();
@@ -136,8 +138,20 @@ fn hello_of(alloc: Global) -> Result<Bytes, Fail> {
 
 #[test]
 fn a_client_offers_its_versions(rt: HostRuntime) -> Result<(), Fail> {
-    let hello = hello_of(rt.alloc())?;
-    assert_eq!(rt; hello.as_slice(), HELLO.as_slice());
+    let small = Offer {
+        version: VERSION_10,
+        small: true,
+        thin: false,
+    };
+    let thin = Offer {
+        version: VERSION_8_1,
+        small: false,
+        thin: true,
+    };
+    for (offer, bytes) in [(small, &HELLO), (thin, &THIN_HELLO)] {
+        let hello = hello_of(rt.alloc(), offer)?;
+        assert_eq!(rt; hello.as_slice(), bytes.as_slice());
+    }
     Ok(())
 }
 

@@ -1,6 +1,6 @@
-//! What scripts say of their sessions: the window, what the client offers, and the turns.
+//! What scripts say of their sessions: the window, what the client offers, how video paints are coded, and the turns.
 use gfx_caps::{Offer, VERSION_8, VERSION_8_1, VERSION_10};
-use gfx_script::{Script, ScriptKind, Turn};
+use gfx_script::{Entropy, Script, ScriptKind, Turn};
 use gfx_script_text::{ScriptError, read_script};
 use std::test::Fail;
 
@@ -9,19 +9,24 @@ struct Case {
     script: &'static str,
     window: u8,
     small: bool,
+    thin: bool,
+    entropy: Entropy,
     offers: &'static [Offer],
     turns: &'static [Turn],
 }
 
-const CASES: [Case; 3] = [
+const CASES: [Case; 4] = [
     // Nothing is said.
     Case {
         script: "",
         window: 2,
         small: false,
+        thin: false,
+        entropy: Entropy::One,
         offers: &[Offer {
             version: VERSION_10,
             small: false,
+            thin: false,
         }],
         turns: &[],
     },
@@ -34,18 +39,23 @@ turn = [{ end = "server" }, { end = "client", take = 1 }, { end = "answer", take
 "#,
         window: 64,
         small: false,
+        thin: false,
+        entropy: Entropy::One,
         offers: &[
             Offer {
                 version: VERSION_8,
                 small: true,
+                thin: false,
             },
             Offer {
                 version: VERSION_8_1,
                 small: false,
+                thin: false,
             },
             Offer {
                 version: VERSION_8_1,
                 small: true,
+                thin: false,
             },
         ],
         turns: &[Turn::Server, Turn::Client(1), Turn::Answer(4294967295)],
@@ -59,10 +69,37 @@ turn = []
 "#,
         window: 1,
         small: true,
+        thin: false,
+        entropy: Entropy::One,
         offers: &[Offer {
             version: VERSION_10,
             small: true,
+            thin: false,
         }],
+        turns: &[],
+    },
+    // A thin client, which the small limits bind too.
+    Case {
+        script: r#"
+client = [{ version = "8", thin = false }, { version = "8.1", thin = true }]
+video = { entropy = "rlgr3" }
+"#,
+        window: 2,
+        small: true,
+        thin: true,
+        entropy: Entropy::Three,
+        offers: &[
+            Offer {
+                version: VERSION_8,
+                small: false,
+                thin: false,
+            },
+            Offer {
+                version: VERSION_8_1,
+                small: false,
+                thin: true,
+            },
+        ],
         turns: &[],
     },
 ];
@@ -83,6 +120,10 @@ fn what_scripts_say_of_their_sessions(rt: HostRuntime) -> Result<(), Fail> {
             (script.window(), script.small()),
             (case.window, case.small)
         );
+        assert_eq!(rt;
+            (script.thin(), script.entropy()),
+            (case.thin, case.entropy)
+        );
         assert!(rt; script.offers().as_slice() == case.offers);
         for at in 0..4 {
             assert_eq!(rt; script.turn(at), turn_at(case.turns, at));
@@ -92,12 +133,17 @@ fn what_scripts_say_of_their_sessions(rt: HostRuntime) -> Result<(), Fail> {
 }
 
 /// Scripts with one fault or more, and the kind of the first one. None of them is told of a step.
-const FAULTS: [(&str, ScriptKind); 10] = [
+const FAULTS: [(&str, ScriptKind); 12] = [
     ("window = \"2\"", ScriptKind::Key),
     ("window = 65", ScriptKind::Range),
     ("window = 0\nclient = 1", ScriptKind::Key),
     ("client = [{ small = true }]", ScriptKind::Key),
     ("window = 1\nclient = []", ScriptKind::Range),
+    (
+        "client = [{ version = \"10\", thin = false }]\nturn = 1",
+        ScriptKind::Key,
+    ),
+    ("video = { entropy = 3 }", ScriptKind::Key),
     ("turn = [{ end = \"server\", take = 1 }]", ScriptKind::Key),
     ("turn = [{ end = \"client\" }]", ScriptKind::Key),
     ("turn = [{ end = \"answer\", take = 0 }]", ScriptKind::Range),

@@ -48,6 +48,7 @@ fn connect(alloc: Global) -> anyhow::Result<Client> {
     let offer = Offer {
         version: VERSION_10,
         small: false,
+        thin: false,
     };
     offers.push(offer).ok().context("no memory is left")?;
     Client::new(alloc, offers).ok().context("no memory is left")

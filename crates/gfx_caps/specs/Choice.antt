@@ -1,6 +1,6 @@
 -- Which version a server confirms ([MS-RDPEGFX] 2.2.2.18 and 2.2.2.19). That it is the first set of the
 -- highest version is this project's own rule.
-use Rattle.std.specs.Prelude.{ℕ, ◌/◌, ◌%◌, ◌+◌, ◌==◌, Bool, ◌&&◌, not, bit_and, List, length, Option, Result, if◌then◌else◌}
+use Rattle.std.specs.Prelude.{ℕ, ◌/◌, ◌%◌, ◌+◌, ◌==◌, Bool, ◌&&◌, ◌||◌, not, bit_and, List, length, Option, Result, if◌then◌else◌}
 use Rattle.std.specs.List.{find}
 use Rattle.std.specs.Option.{option_map, option_or, ok_or}
 use Rattle.std.specs.Int.{w32}
@@ -19,14 +19,22 @@ has_flag flags flag = flags / flag % 2 == 1
 abbrev pub flags_of : CapsSet → ℕ
 flags_of set = number_at w32 set.body 0
 
--- the set offers this version, and not for a thin client
+-- a client that is thin, or one that isn't, may have this version: version 10 is for no thin client
+abbrev pub allows : ℕ → Bool → Bool
+allows version thin = not (version == VERSION_10 && thin)
+
+-- the set offers this version with a word of flags, and for a thin client only where the version allows it
 abbrev pub qualifies : ℕ → CapsSet → Bool
 qualifies version set =
-    set.version == version && length set.body == FLAGS_SIZE && not (has_flag (flags_of set) THIN_CLIENT)
+    set.version == version && length set.body == FLAGS_SIZE && allows version (has_flag (flags_of set) THIN_CLIENT)
 
 -- the flags that are kept of a version
 abbrev pub kept_flags : ℕ → ℕ
-kept_flags version = if version == VERSION_10 then SMALL_CACHE + AVC_DISABLED else SMALL_CACHE
+kept_flags version = if version == VERSION_10 then SMALL_CACHE + AVC_DISABLED else SMALL_CACHE + THIN_CLIENT
+
+-- flags bind the client to the small limits on bitmaps: they ask for the small cache, or the client is thin
+abbrev pub binds_small : ℕ → Bool
+binds_small flags = has_flag flags SMALL_CACHE || has_flag flags THIN_CLIENT
 
 -- what is confirmed of a set
 abbrev pub confirmed : ℕ → CapsSet → Chosen

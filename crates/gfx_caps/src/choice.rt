@@ -1,7 +1,7 @@
 //! The choice of a version among those that a client offers.
 
 ghost use Rattle.std.specs.Prelude.{◌≡◌, ◌<◌, IsTrue, length};
-ghost use Rattle.gfx_caps.specs.Choice.{has_flag, qualifies, kept_flags, flags_of, confirmed, first_of, choice};
+ghost use Rattle.gfx_caps.specs.Choice.{has_flag, allows, qualifies, kept_flags, binds_small, flags_of, confirmed, first_of, choice};
 
 use crate::sets::{CapsSet, CapsSets};
 use crate::versions::{
@@ -17,7 +17,7 @@ pub struct Chosen {
 }
 
 /// The first set of the highest version that qualifies: version 8, 8.1 or 10 with a word of flags, and
-/// not for a thin client. CapsVersion exactly where no set does.
+/// version 10 not for a thin client. CapsVersion exactly where no set does.
 #[tactic(auto, unfolding(crate::specs::Choice::choice))]
 pub fn choose_version(sets: &CapsSets) -> Result<Chosen, Refusal>
     ensures { result ≡ choice sets.now }
@@ -34,11 +34,20 @@ pub fn choose_version(sets: &CapsSets) -> Result<Chosen, Refusal>
     first_of(offered, VERSION_8).ok_or(Refusal::CapsVersion)
 }
 
-/// Whether the client that offered it has the small cache of bitmaps.
+/// Whether the small limits on bitmaps bind the client that offered it: it asked for the small cache, or it is
+/// thin.
 pub fn small_cache(chosen: Chosen) -> bool
-    ensures { result ≡ has_flag chosen.flags SMALL_CACHE }
+    ensures { result ≡ binds_small chosen.flags }
 {
-    has_flag(chosen.flags, SMALL_CACHE)
+    binds_small(chosen.flags)
+}
+
+/// Whether flags bind a client to the small limits on bitmaps ([MS-RDPEGFX] 2.2.3.1): RDPGFX_CAPS_FLAG_SMALL_CACHE
+/// or RDPGFX_CAPS_FLAG_THINCLIENT is set.
+pub fn binds_small(flags: u32) -> bool
+    ensures { result ≡ binds_small flags }
+{
+    has_flag(flags, SMALL_CACHE) || has_flag(flags, THIN_CLIENT)
 }
 
 /// The first set that qualifies with this version, as it is confirmed.
@@ -58,11 +67,21 @@ fn confirmed(set: &CapsSet, version: u32) -> Chosen
     Chosen { version, flags }
 }
 
-/// Whether a set offers this version, and not for a thin client.
+/// Whether a set offers this version with a word of flags, and for a thin client only where the version allows
+/// it.
 fn qualifies(set: &CapsSet, version: u32) -> bool
     ensures { result ≡ qualifies version set.now }
 {
-    set.version == version && set.body.len() == FLAGS_SIZE && !has_flag(flags_of(set), THIN_CLIENT)
+    set.version == version
+        && set.body.len() == FLAGS_SIZE
+        && allows(version, has_flag(flags_of(set), THIN_CLIENT))
+}
+
+/// Whether a client that is thin, or one that isn't, may have this version: version 10 is for no thin client.
+pub fn allows(version: u32, thin: bool) -> bool
+    ensures { result ≡ allows version thin }
+{
+    !(version == VERSION_10 && thin)
 }
 
 /// The flags that are kept of a version.
@@ -72,7 +91,7 @@ fn kept_flags(version: u32) -> u32
     if version == VERSION_10 {
         SMALL_CACHE + AVC_DISABLED
     } else {
-        SMALL_CACHE
+        SMALL_CACHE + THIN_CLIENT
     }
 }
 

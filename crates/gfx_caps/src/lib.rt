@@ -18,10 +18,10 @@ mod sets;
 mod versions;
 mod writing;
 
-pub use choice::{Chosen, choose_version, has_flag, small_cache};
+pub use choice::{Chosen, binds_small, choose_version, has_flag, small_cache};
 pub use client_id::ClientId;
 pub use message::ClientPdu;
-pub use offer::{MOST_OFFERS, Offer, Offers, advertise, offers_small};
+pub use offer::{MOST_OFFERS, Offer, Offers, advertise, offers_small, offers_thin};
 pub use promises::{
     what_is_read_from_a_client_is_spelled, what_is_spelled_for_a_client_is_read,
     what_is_written_for_a_client_is_spelled,

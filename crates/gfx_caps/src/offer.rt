@@ -1,12 +1,14 @@
-//! What a client offers: versions of the profile, each with or without the small cache.
+//! What a client offers: versions of the profile, each with or without the small cache, and as a thin client or
+//! not.
 
 ghost use Rattle.std.specs.Prelude.{◌≡◌, ◌==◌, IfOk};
 ghost use Rattle.std.specs.List.{find};
-ghost use Rattle.gfx_caps.specs.Offers.{flags_offered, set_offered, advertised, small_of, offer_of, best_offer};
+ghost use Rattle.gfx_caps.specs.Offers.{flags_offered, set_offered, advertised, small_of, thin_of, offers_version, offer_of, best_offer};
 
+use crate::choice::{allows, binds_small};
 use crate::message::ClientPdu;
 use crate::sets::{CapsSet, CapsSets};
-use crate::versions::{AVC_DISABLED, SMALL_CACHE, VERSION_8, VERSION_8_1, VERSION_10};
+use crate::versions::{AVC_DISABLED, SMALL_CACHE, THIN_CLIENT, VERSION_8, VERSION_8_1, VERSION_10};
 use gfx_base::{Bytes, Items, NoMemory};
 use gfx_layout::Part;
 use std::alloc::Global;
@@ -22,6 +24,8 @@ pub struct Offer {
     pub version: u32,
     /// Whether the client asks for the small cache (SMALLCACHE).
     pub small: bool,
+    /// Whether the client is thin (THINCLIENT): the small limits bind it too, and no version 10 is confirmed to it.
+    pub thin: bool,
 }
 
 /// Offers, in the order of the message.
@@ -55,21 +59,32 @@ fn flags_offered(offer: Offer) -> u32
     ensures { result ≡ flags_offered offer }
 {
     let small = if offer.small { SMALL_CACHE } else { 0 };
+    let thin = if offer.thin { THIN_CLIENT } else { 0 };
     let no_avc = if offer.version == VERSION_10 {
         AVC_DISABLED
     } else {
         0
     };
-    small + no_avc
+    small + thin + no_avc
 }
 
-/// Whether the version that a server chooses of these offers has the small cache. It takes no memory.
-#[tactic(auto, unfolding(crate::specs::Offers::best_offer))]
+/// Whether the version that a server chooses of these offers binds the client to the small limits on bitmaps. It
+/// takes no memory.
 pub fn offers_small(offers: &[Offer]) -> bool
     ensures { result ≡ small_of offers.now }
 {
     match best_offer(offers) {
-        Some(offer) => offer.small,
+        Some(offer) => binds_small(flags_offered(offer)),
+        None => false,
+    }
+}
+
+/// Whether the version that a server chooses of these offers is that of a thin client. It takes no memory.
+pub fn offers_thin(offers: &[Offer]) -> bool
+    ensures { result ≡ thin_of offers.now }
+{
+    match best_offer(offers) {
+        Some(offer) => offer.thin,
         None => false,
     }
 }
@@ -95,9 +110,16 @@ fn offer_of(offers: &[Offer], version: u32) -> Option<Offer>
     ensures { result ≡ offer_of version offers.now }
 {
     'offers: for offer in offers {
-        if offer.version == version {
+        if offers_version(*offer, version) {
             return Some(*offer);
         }
     }
     None
+}
+
+/// Whether an offer is of this version, and for a thin client only where the version allows it.
+fn offers_version(offer: Offer, version: u32) -> bool
+    ensures { result ≡ offers_version version offer }
+{
+    offer.version == version && allows(version, offer.thin)
 }

@@ -1,5 +1,6 @@
 pub mod Nearest
 pub mod Painted
+mod VideoPainted
 pub mod Raising
 pub mod Staying
 pub mod Delivering

@@ -1,6 +1,7 @@
 -- A paint in passes shows its picture.
 use Rattle.std.proofs.Common.{◌≡◌, ◌∙◌, ◌-◌, ◌*◌, ◌/◌, ◌%◌, ◌<◌, ℕ, Bool, true, List, Option, Some, inl, inr, refl, ap, arith}
 use Rattle.std.specs.FinMap.{get, insert}
+use Rattle.std.specs.List.{slice_get}
 use Rattle.gfx_base.specs.declared.geometry.Point.{Point}
 use Rattle.gfx_base.specs.declared.pixel.Pixel.{Pixel}
 use Rattle.gfx_base.specs.Cells.{cell}
@@ -17,14 +18,16 @@ use Rattle.gfx_quant.specs.declared.quant.Component.TheVariants.{Y, Cb, Cr}
 use Rattle.gfx_quant.specs.declared.setting.Setting.{Setting}
 use Rattle.gfx_script.specs.declared.picture.Picture.{Picture as Source}
 use Rattle.gfx_script.specs.Scripted.{Script}
+use Rattle.gfx_script.specs.Ways.{is_in_passes, way_of}
 use Rattle.gfx_script.specs.Writes.{place_of}
 use Rattle.gfx_surface.specs.Picture.{Picture, pixel_at}
 use Rattle.gfx_tile_make.specs.Levels.{shown_at}
 use Rattle.gfx_tile_make.specs.Quantised.{quantised_plane}
 use Rattle.gfx_tile_make.specs.Source.{Source as Tile, difference_of, planes_of, source_of}
 use Rattle.gfx_tile_state.specs.Passes.{blank}
-use Rattle.gfx_planner.specs.Want.{Wanted, drawn_on, wanted_as, with_painting, with_tiles}
+use Rattle.gfx_planner.specs.Want.{Wanted, drawn_on, wanted_as, with_tiles}
 use Rattle.gfx_planner.proofs.LiveShown.{tile-kept}
+use Rattle.gfx_planner.proofs.Ways.{painted_in_passes}
 use Rattle.gfx_planner.proofs.TilesAccepted.{surface_here}
 use Rattle.gfx_laws.specs.PassesShown.{GoesOnAny, IsOfTile, IsTileOf, PaintsInPassesShowTheirSource}
 use Rattle.gfx_laws.proofs.Nearest.{cell-nearest, has-height, has-width}
@@ -32,12 +35,12 @@ use Rattle.gfx_laws.proofs.Nearest.{cell-nearest, has-height, has-width}
 -- ---- a tile
 
 -- a tile of pixels goes on nothing
-plain-values : (setting : Setting) (pixels : List Pixel) (component : Component) → (planes_of (source_of setting pixels) component).own ≡ quantised_plane setting component pixels
+pub plain-values : (setting : Setting) (pixels : List Pixel) (component : Component) → (planes_of (source_of setting pixels) component).own ≡ quantised_plane setting component pixels
 plain-values setting pixels Y = refl
 plain-values setting pixels Cb = refl
 plain-values setting pixels Cr = refl
 
-plain-kept : (setting : Setting) (pixels : List Pixel) (component : Component) → (planes_of (source_of setting pixels) component).kept ≡ blank
+pub plain-kept : (setting : Setting) (pixels : List Pixel) (component : Component) → (planes_of (source_of setting pixels) component).kept ≡ blank
 plain-kept setting pixels Y = refl
 plain-kept setting pixels Cb = refl
 plain-kept setting pixels Cr = refl
@@ -104,10 +107,11 @@ surfaces-after script wanted o id at source surface drawn there =
     ∙ ap (λ z. (drawn_on wanted.shown id z (after_showing id (painted_sends script wanted.passes.live id source (place_of source at)))).surfaces) there
 
 pub paints-show : PaintsInPassesShowTheirSource
-unfolding wanted_as with_painting
-paints-show script wanted named id number at glyph source surface drawn there = record {
+unfolding wanted_as
+paints-show script wanted kind named id number at glyph source surface goes drawn there = record {
   picture = after;
-  there = ap (λ m. get m id) (surfaces-after script wanted _ id at source surface drawn there) ∙ surface_here wanted.shown.surfaces id after id refl;
+  there = ap (λ (w : Wanted). get w.shown.surfaces id) (painted_in_passes script wanted (Some (way_of script.thin kind)) (slice_get script.pictures number) id at (ap is_in_passes goes))
+      ∙ ap (λ m. get m id) (surfaces-after script wanted (slice_get script.pictures number) id at source surface drawn there) ∙ surface_here wanted.shown.surfaces id after id refl;
   width_stays = shape.width;
   height_stays = shape.height;
   inside = λ x y column row hit. pixel-is script wanted.passes.live id source at surface x y column row hit;

@@ -1,4 +1,5 @@
 pub mod PassesShown
+pub mod VideoShown
 pub mod Raised
 pub mod Stays
 pub mod Delivered

@@ -12,11 +12,12 @@ use Rattle.gfx_quant.specs.declared.quant.Component.{Component}
 use Rattle.gfx_quant.specs.declared.setting.Setting.{Setting}
 use Rattle.gfx_script.specs.declared.picture.Picture.{Picture as Source}
 use Rattle.gfx_script.specs.declared.step.Kind.{Kind}
-use Rattle.gfx_script.specs.declared.step.Kind.TheVariants.{Progressive}
 use Rattle.gfx_script.specs.declared.step.Step.TheVariants.{Paint}
 use Rattle.gfx_script.specs.Kinds.{as_kind}
 use Rattle.gfx_script.specs.Patterns.{pixel_of}
 use Rattle.gfx_script.specs.Scripted.{Script}
+use Rattle.gfx_script.specs.Ways.{way_of}
+use Rattle.gfx_script.specs.declared.way.Way.TheVariants.{InPasses}
 use Rattle.gfx_script.specs.Writes.{place_of}
 use Rattle.gfx_surface.specs.Picture.{Picture, no_pixel, pixel_at}
 use Rattle.gfx_surface_map.specs.Surfaces.{Surfaces}
@@ -71,6 +72,6 @@ pub record ShowsTiles (script : Script) (wanted : Wanted) (id : ℕ) (source : S
 -- so right after a paint in passes
 abbrev pub PaintsInPassesShowTheirSource : Type 0
 PaintsInPassesShowTheirSource =
-    (script : Script) (wanted : Wanted) (named : Option Kind) (id number : ℕ) (at : Point) (glyph : Option ℕ) (source : Source) (surface : Picture)
-    → slice_get script.pictures number ≡ Some source → get wanted.shown.surfaces id ≡ Some surface
-    → ShowsTiles script wanted id source at surface (wanted_after script wanted (as_kind (Some Progressive) (Paint id number at named glyph))).shown.surfaces
+    (script : Script) (wanted : Wanted) (kind : Kind) (named : Option Kind) (id number : ℕ) (at : Point) (glyph : Option ℕ) (source : Source) (surface : Picture)
+    → way_of script.thin kind ≡ InPasses → slice_get script.pictures number ≡ Some source → get wanted.shown.surfaces id ≡ Some surface
+    → ShowsTiles script wanted id source at surface (wanted_after script wanted (as_kind (Some kind) (Paint id number at named glyph))).shown.surfaces

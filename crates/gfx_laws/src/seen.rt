@@ -2,11 +2,19 @@
 ghost use Rattle.gfx_laws.specs.PassesShown.{PaintsInPassesShowTheirSource};
 ghost use Rattle.gfx_laws.specs.Raised.{ImprovementsRaiseLiveTiles};
 ghost use Rattle.gfx_laws.specs.Stays.{PixelsStayUntilWritten};
+ghost use Rattle.gfx_laws.specs.VideoShown.{VideoPaintsShowTheirSource};
 
 /// Right after a paint in passes each pixel of its place is its cell's tile at the first level, whose values are the
 /// quantised pixels of the picture, the nearest ones outside of it; all other pixels are as they were.
 pub fn paints_in_passes_show_their_source()
     ensures { PaintsInPassesShowTheirSource }
+{}
+
+/// Right after a paint that goes as video each pixel of its place is that of the tile of its square, counted from the
+/// paint's corner, whose values are the quantised pixels of the picture, the nearest ones outside of it, and which goes
+/// on nothing; all other pixels are as they were.
+pub fn video_paints_show_their_source()
+    ensures { VideoPaintsShowTheirSource }
 {}
 
 /// An improvement raises each live tile of its surface that is below the last level, and no other; it changes no

@@ -3,7 +3,6 @@ use Rattle.std.proofs.Common.{◌≡◌, ◌∙◌, ap, sym, refl, Bool, true, f
 use Rattle.std.proofs.lemmas.Bool.{cases_lt, eqb-true}
 use Rattle.std.proofs.lemmas.List.{take_all, drop_all}
 use Rattle.std.specs.Prelude.{◌==◌, fold}
-use Rattle.gfx_prog_encode.specs.declared.send.TileSend.{TileSend}
 use Rattle.gfx_live.specs.Live.{following, groups_of, in_groups, number_after, numbered}
 
 -- groups are the same by any bound that is large enough
@@ -28,20 +27,20 @@ first_group (x ∷ xs) some =
     ap (λ groups. take 256 (x ∷ xs) ∷ groups) (same_groups (length xs) (length (drop 256 (x ∷ xs))) (drop 256 (x ∷ xs)) (omega arith) (omega arith))
 
 -- these were written of the messages that are due, those of the rest are to come
-pub record Writing (write : List TileSend → ℕ → List ℕ) (sends : List TileSend) (first : ℕ) (rest : List TileSend) (next : ℕ) (all : List (List ℕ)) : Type 0 where
+pub record Writing {X : Type 0} (write : List X → ℕ → List ℕ) (sends : List X) (first : ℕ) (rest : List X) (next : ℕ) (all : List (List ℕ)) : Type 0 where
   pub due : numbered write (in_groups sends) first ≡ all ++ numbered write (in_groups rest) next
   pub number : number_after sends first ≡ number_after rest next
 
 -- none yet
-pub none_written : (write : List TileSend → ℕ → List ℕ) (sends : List TileSend) (first : ℕ) (all : List (List ℕ)) → all ≡ [] → Writing write sends first sends first all
+pub none_written : {X : Type 0} (write : List X → ℕ → List ℕ) (sends : List X) (first : ℕ) (all : List (List ℕ)) → all ≡ [] → Writing write sends first sends first all
 none_written write sends first all none = record { due = ap (λ a. a ++ numbered write (in_groups sends) first) (sym none); number = refl }
 
 -- one more
-pub one_written : (write : List TileSend → ℕ → List ℕ) (sends : List TileSend) (first : ℕ) (rest : List TileSend) (next : ℕ) (all more : List (List ℕ)) (group others : List TileSend) (message : List ℕ)
+pub one_written : {X : Type 0} (write : List X → ℕ → List ℕ) (sends : List X) (first : ℕ) (rest : List X) (next : ℕ) (all more : List (List ℕ)) (group others : List X) (message : List ℕ)
     → 0 < length rest → group ≡ take 256 rest → others ≡ drop 256 rest → message ≡ write group next → more ≡ all ++ message ∷ []
     → Writing write sends first rest next all → Writing write sends first others (following next) more
 unfolding numbered
-one_written write sends first rest next all more group others message some taken left is put before = record {
+one_written {X} write sends first rest next all more group others message some taken left is put before = record {
   due =
       before.due
       ∙ ap (λ groups. all ++ numbered write groups next) (first_group rest some)
@@ -51,12 +50,12 @@ one_written write sends first rest next all more group others message some taken
       ∙ ap (λ a. a ++ numbered write (in_groups others) (following next)) (sym put);
   number =
       before.number
-      ∙ ap (λ groups. fold (λ number (group : List TileSend). following number) next groups) (first_group rest some)
+      ∙ ap (λ groups. fold (λ number (group : List X). following number) next groups) (first_group rest some)
       ∙ ap (λ xs. number_after xs (following next)) (sym left);
 }
 
 -- all
-pub all_written : (write : List TileSend → ℕ → List ℕ) (sends : List TileSend) (first : ℕ) (rest : List TileSend) (next : ℕ) (all : List (List ℕ)) → length rest ≡ 0
+pub all_written : {X : Type 0} (write : List X → ℕ → List ℕ) (sends : List X) (first : ℕ) (rest : List X) (next : ℕ) (all : List (List ℕ)) → length rest ≡ 0
     → Writing write sends first rest next all → (all ≡ numbered write (in_groups sends) first) × (next ≡ number_after sends first)
 unfolding numbered groups_of
 all_written write sends first [] next all none before = (sym (before.due ∙ end all), sym before.number)
@@ -67,14 +66,14 @@ all_written write sends first [] next all none before = (sym (before.due ∙ end
 all_written write sends first (send ∷ rest) next all none before = absurd (omega arith)
 
 -- as many as a message takes, or all there are
-pub take_most : (n : ℕ) (sends : List TileSend) → n ≡ min (length sends) 256 → take n sends ≡ take 256 sends
+pub take_most : {X : Type 0} (n : ℕ) (sends : List X) → n ≡ min (length sends) 256 → take n sends ≡ take 256 sends
 take_most n sends is = by (cases_lt 256 (length sends))
   where
     by : ((256 < length sends) ⊎ (length sends ≤ 256)) → take n sends ≡ take 256 sends
     by (inr few) = take_all n sends (omega arith) ∙ sym (take_all 256 sends few)
     by (inl more) = ap (λ m. take m sends) {x = n} {y = 256} (omega arith)
 
-pub drop_most : (n : ℕ) (sends : List TileSend) → n ≡ min (length sends) 256 → drop n sends ≡ drop 256 sends
+pub drop_most : {X : Type 0} (n : ℕ) (sends : List X) → n ≡ min (length sends) 256 → drop n sends ≡ drop 256 sends
 drop_most n sends is = by (cases_lt 256 (length sends))
   where
     by : ((256 < length sends) ⊎ (length sends ≤ 256)) → drop n sends ≡ drop 256 sends
@@ -82,13 +81,13 @@ drop_most n sends is = by (cases_lt 256 (length sends))
     by (inl more) = ap (λ m. drop m sends) {x = n} {y = 256} (omega arith)
 
 -- the rest is less
-pub fewer_left : (rest others : List TileSend) → 0 < length rest → others ≡ drop 256 rest → length others < length rest
+pub fewer_left : {X : Type 0} (rest others : List X) → 0 < length rest → others ≡ drop 256 rest → length others < length rest
 fewer_left rest others some left = omega (arith, ap length left ∙ length-drop 256 rest)
 
 -- whether there is a rest
-pub some_left : (rest : List TileSend) (test : Bool) → test ≡ (length rest == 0) → test ≡ false → 0 < length rest
+pub some_left : {X : Type 0} (rest : List X) (test : Bool) → test ≡ (length rest == 0) → test ≡ false → 0 < length rest
 some_left [] test is fails = cc
 some_left (send ∷ rest) test is fails = omega arith
 
-pub none_left : (rest : List TileSend) (test : Bool) → test ≡ (length rest == 0) → test ≡ true → length rest ≡ 0
+pub none_left : {X : Type 0} (rest : List X) (test : Bool) → test ≡ (length rest == 0) → test ≡ true → length rest ≡ 0
 none_left rest test is passes = eqb-true (length rest) 0 (sym is ∙ passes)

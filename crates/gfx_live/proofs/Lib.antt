@@ -2,7 +2,7 @@ mod Maps
 mod InPlace
 pub mod Ending
 mod Taking
-mod Groups
+pub mod Groups
 mod Making
 pub mod Ranges
 pub mod Settings

@@ -61,7 +61,7 @@ send_code =
 abbrev pub live_code : Coded Live
 live_code = finmap.code key_code send_code
 
--- live tiles and the number of the next message
+-- live tiles and the numbers of the next messages
 abbrev pub passes_code : Coded Passes
 passes_code =
-    code_by (Live × ℕ) (coded× live_code coded_ℕ) (λ p. (p.live, p.next)) (λ t. record { live = t.0; next = t.1 }) (λ _. refl)
+    code_by (Live × (ℕ × ℕ)) (coded× live_code (coded× coded_ℕ coded_ℕ)) (λ p. (p.live, (p.next, p.videos))) (λ t. record { live = t.0; next = t.1.0; videos = t.1.1 }) (λ _. refl)

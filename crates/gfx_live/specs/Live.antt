@@ -26,14 +26,15 @@ use Rattle.gfx_live.specs.Tiles.{cell_pixels, gone_on}
 abbrev pub Live : Type 0
 Live = FinMap key_cmp TileSend
 
--- and the number of the next progressive message
+-- and the numbers of the next progressive message and of the next message of RemoteFX video
 pub record Passes : Type 0 where
   pub live : Live
   pub next : ℕ
+  pub videos : ℕ
 
 -- nothing was painted yet
 abbrev pub at_start : Passes
-at_start = record { live = finmap.empty; next = 0 }
+at_start = record { live = finmap.empty; next = 0; videos = 0 }
 
 -- ---- what is sent
 
@@ -92,7 +93,7 @@ abbrev pub following : ℕ → ℕ
 following number = (number + 1) % 2 ^ 32
 
 -- the data of messages, one for each group
-unfoldable pub numbered : (List TileSend → ℕ → List ℕ) → List (List TileSend) → ℕ → List (List ℕ)
+unfoldable pub numbered : {X : Type 0} → (List X → ℕ → List ℕ) → List (List X) → ℕ → List (List ℕ)
 numbered write [] next = []
 numbered write (group ∷ groups) next = write group next ∷ numbered write groups (following next)
 
@@ -103,9 +104,9 @@ abbrev pub improve_all : Setting → List TileSend → ℕ → List (List ℕ)
 improve_all setting sends next = numbered (improve_data setting) (in_groups sends) next
 
 -- the number of the message behind those of so many groups
-abbrev pub number_after : List TileSend → ℕ → ℕ
-number_after sends next = fold (λ number group. following number) next (in_groups sends)
+abbrev pub number_after : {X : Type 0} → List X → ℕ → ℕ
+number_after xs next = fold (λ number group. following number) next (in_groups xs)
 
 -- after tiles were sent
 abbrev pub passes_after : ℕ → List TileSend → Passes → Passes
-passes_after id sends passes = record { live = after_sends id sends passes.live; next = number_after sends passes.next }
+passes_after id sends passes = record passes { live = after_sends id sends passes.live; next = number_after sends passes.next }

@@ -12,3 +12,4 @@ mod passes;
 mod tiles;
 
 pub use passes::Passes;
+pub use tiles::cell_pixels;

@@ -17,11 +17,13 @@ use gfx_script::Script;
 use std::alloc::Global;
 use std::marker::Model;
 
-/// The live tiles, each by its cell, as it was sent last, and the number of the next progressive message.
+/// The live tiles, each by its cell, as it was sent last, and the numbers of the next progressive message and of the
+/// next message of RemoteFX video.
 #[derive(Drop)]
 pub struct Passes {
     live: LiveTiles,
     next: u32,
+    videos: u32,
 }
 
 impl Model for Passes {
@@ -32,7 +34,7 @@ impl Model for Passes {
 
     ghost coded = { passes_code };
 
-    ghost view = { λ passes. record { live = passes.live; next = passes.next } };
+    ghost view = { λ passes. record { live = passes.live; next = passes.next; videos = passes.videos } };
 }
 
 impl Passes {
@@ -43,6 +45,7 @@ impl Passes {
         Passes {
             live: LiveTiles::new(alloc),
             next: 0,
+            videos: 0,
         }
     }
 
@@ -103,6 +106,20 @@ impl Passes {
         ensures { self.new ≡ record self.old { live = without_surface self.old.live id } }
     {
         self.live.drop_surface(id);
+    }
+
+    /// The number of the next message of RemoteFX video, counted from 0 by 32 bits.
+    pub fn videos(&self) -> u32
+        ensures { result ≡ self.now.videos }
+    {
+        self.videos
+    }
+
+    /// Notes the number of the next message of RemoteFX video.
+    pub fn count_videos(&mut self, next: u32)
+        ensures { self.new ≡ record self.old { videos = next } }
+    {
+        self.videos = next;
     }
 
     /// Whether no tile is live.

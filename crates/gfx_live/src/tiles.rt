@@ -69,8 +69,15 @@ fn send_over(
     })
 }
 
-/// The pixels of a cell, of a picture in a rectangle: outside of it those of the nearest place.
-fn cell_pixels(script: &Script, picture: u32, rect: Rect, cell: Cell, pixels: &mut [Pixel; 4096])
+/// The pixels of a cell, row by row, of the picture of this number in a rectangle: outside of it those of the nearest
+/// place.
+pub fn cell_pixels(
+    script: &Script,
+    picture: u32,
+    rect: Rect,
+    cell: Cell,
+    pixels: &mut [Pixel; 4096],
+)
     requires drawn { IsSome (slice_get script.now.pictures picture) }
     requires some { has_pixels rect ≡ true }
     requires across { cell.x ≤ 1023 }

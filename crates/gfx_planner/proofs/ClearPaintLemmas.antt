@@ -15,7 +15,7 @@ use Rattle.gfx_pdu.specs.declared.pdu.Pdu.TheVariants.{WireToSurface1}
 use Rattle.gfx_script.specs.declared.picture.Picture.{Picture as Source}
 use Rattle.gfx_script.specs.declared.step.Kind.{Kind}
 use Rattle.gfx_script.specs.declared.way.Way.{Way}
-use Rattle.gfx_script.specs.declared.way.Way.TheVariants.{Uncompressed, ByLayer, InPasses}
+use Rattle.gfx_script.specs.declared.way.Way.TheVariants.{Uncompressed, ByLayer, InPasses, Video}
 use Rattle.gfx_script.specs.declared.step.Step.{Step}
 use Rattle.gfx_script.specs.declared.step.Step.TheVariants.{Surface, Delete, Reset, Map, Fill, Copy, Keep, Show, Forget, Paint, Improve, Frame}
 use Rattle.gfx_script.specs.Checks.{Held, held_after}
@@ -49,6 +49,7 @@ allowed_paint : (script : Script) (server : Server) (held after : Held) (id numb
 allowed_paint script server held after id number at named glyph None holds fits m = tt
 allowed_paint script server held after id number at named glyph (Some Uncompressed) holds fits m = tt
 allowed_paint script server held after id number at named glyph (Some InPasses) holds fits m = tt
+allowed_paint script server held after id number at named glyph (Some Video) holds fits m = tt
 allowed_paint script server held after id number at named glyph (Some (ByLayer layer)) holds fits m = record {
   surface = m.surface;
   there = m.there;
@@ -60,11 +61,11 @@ allowed_paint script server held after id number at named glyph (Some (ByLayer l
   carried = paint_carried (Some layer) script server id number at glyph m fits;
 }
 
-pub may_paint_clear : (script : Script) (server : Server) (kind : Option Kind) (step : Step) → IsAllowed script server (as_kind kind step) → IfSome (clear_paint_of step kind) (MayPaintClear script server.state)
+pub may_paint_clear : (script : Script) (server : Server) (kind : Option Kind) (step : Step) → IsAllowed script server (as_kind kind step) → IfSome (clear_paint_of script.thin step kind) (MayPaintClear script server.state)
 unfolding held_after
 may_paint_clear script server kind (Paint id number at named glyph) allowed =
     let may = may_paint script server allowed.held allowed.after id number at named glyph (seen script allowed.held server allowed.holds) allowed.numbers.1 allowed.numbers.2 allowed.checked in
-    allowed_paint script server allowed.held allowed.after id number at named glyph (goes_by kind) allowed.holds allowed.numbers.0 may.0
+    allowed_paint script server allowed.held allowed.after id number at named glyph (goes_by script.thin kind) allowed.holds allowed.numbers.0 may.0
 may_paint_clear script server kind (Surface id width height format) allowed = tt
 may_paint_clear script server kind (Delete id) allowed = tt
 may_paint_clear script server kind (Reset width height) allowed = tt
@@ -185,6 +186,7 @@ unfolding paint_made
 by_layer script state passes plan None id number at glyph paint may is = absurd cc
 by_layer script state passes plan (Some Uncompressed) id number at glyph paint may is = absurd cc
 by_layer script state passes plan (Some InPasses) id number at glyph paint may is = absurd cc
+by_layer script state passes plan (Some Video) id number at glyph paint may is = absurd cc
 by_layer script state passes plan (Some (ByLayer layer)) id number at glyph paint may is =
     let made_paint : ClearPaint = record { id = id; picture = number; at = at; layer = layer; glyph = glyph } in
     let same : made_paint ≡ paint = cc in
@@ -194,11 +196,11 @@ by_layer script state passes plan (Some (ByLayer layer)) id number at glyph pain
     ∙ ap (λ (z : ClearPaint). made (paint_message (Some z.layer) state.clear z.glyph may.surface may.picture z.id z.at ∷ []) plan) same
 
 -- a step that is one is made into its message
-pub clear_made : (script : Script) (state : State) (passes : Passes) (plan : Plan) (kind : Option Kind) (step : Step) (paint : ClearPaint) (may : MayPaintClear script state paint) → clear_paint_of step kind ≡ Some paint
+pub clear_made : (script : Script) (state : State) (passes : Passes) (plan : Plan) (kind : Option Kind) (step : Step) (paint : ClearPaint) (may : MayPaintClear script state paint) → clear_paint_of script.thin step kind ≡ Some paint
     → made_as script state passes plan kind step ≡ made (paint_message (Some paint.layer) state.clear paint.glyph may.surface may.picture paint.id paint.at ∷ []) plan
 unfolding made_as
 clear_made script state passes plan kind (Paint id number at named glyph) paint may is =
-    by_layer script state passes plan (goes_by kind) id number at glyph paint may is
+    by_layer script state passes plan (goes_by script.thin kind) id number at glyph paint may is
 clear_made script state passes plan kind (Surface id width height format) paint may is = absurd cc
 clear_made script state passes plan kind (Delete id) paint may is = absurd cc
 clear_made script state passes plan kind (Reset width height) paint may is = absurd cc
@@ -217,7 +219,7 @@ both_done (Ok done) old new plan before now pdus sends = (sends, refl)
 both_done (Err e) old new plan before now pdus sends = sends
 
 pub made_sent : (result : Result (Unit {0}) NoMemory) (script : Script) (old new : State) (passes : Passes) (plan : Plan) (kind : Option Kind) (step : Step) (paint : ClearPaint) (before now : List ℕ) → MayPaintClear script old paint
-    → clear_paint_of step kind ≡ Some paint
+    → clear_paint_of script.thin step kind ≡ Some paint
     → IfSome (get old.shown.surfaces paint.id) (λ surface. IfSome (slice_get script.pictures paint.picture)
     (λ picture. SendsMessages result old new before now (paint_message (Some paint.layer) old.clear paint.glyph surface picture paint.id paint.at ∷ [])))
     → SendsMade result old new plan before now (made_as script old passes plan kind step)

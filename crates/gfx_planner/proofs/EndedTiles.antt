@@ -25,7 +25,7 @@ use Rattle.gfx_slot_plan.specs.Plan.{Plan, slot_of}
 use Rattle.gfx_surface_map.specs.Surfaces.{Surfaces}
 use Rattle.gfx_script.specs.Ways.{goes_by}
 use Rattle.gfx_planner.proofs.Ways.{live_whole}
-use Rattle.gfx_planner.specs.Passes.{FitsAt, ended_by, goes_in_passes, sends_tiles, passes_as}
+use Rattle.gfx_planner.specs.Passes.{FitsAt, ended_by, goes_in_passes, sends_tiles, passes_as, goes_as_video, is_video_paint}
 use Rattle.gfx_planner.specs.Slots.{PlanFitsCache, sides_in}
 use Rattle.gfx_planner.specs.Want.{bitmap_in, sides_kept}
 use Rattle.gfx_planner.proofs.Payloads.{sides}
@@ -140,19 +140,20 @@ module _ (script : Script) (sides_of : ℕ → Option Sides) (surfaces : Surface
   unfolding passes_as writes_by
   show_touched key to points whole is same ends = rw is (ends ∙ ap (λ z. ended_by passes (option_map (λ (sides : Sides). area to (at_each z (sized sides.width sides.height))) (sides_of key))) same)
 
-  pub paint_touched : (id number : ℕ) (at : Point) (named : Option Kind) (glyph : Option ℕ) → step ≡ Paint id number at named glyph → sends_tiles kind step ≡ false
+  pub paint_touched : (id number : ℕ) (at : Point) (named : Option Kind) (glyph : Option ℕ) → step ≡ Paint id number at named glyph → sends_tiles script.thin kind step ≡ false → is_video_paint script.thin kind step ≡ false
       → new ≡ ended_by passes (option_map (λ source. area id (place_of source at ∷ [])) (slice_get script.pictures number)) → new ≡ passes_as script sides_of surfaces passes kind step
   unfolding passes_as writes_by
-  paint_touched id number at named glyph is apart ends =
-      let whole : goes_in_passes (goes_by kind) ≡ false = rw is at apart in
-      rw is (ends ∙ sym (live_whole script passes (goes_by kind) id (slice_get script.pictures number) at _ whole))
+  paint_touched id number at named glyph is apart still ends =
+      let whole : goes_in_passes (goes_by script.thin kind) ≡ false = rw is at apart in
+      let other : goes_as_video (goes_by script.thin kind) ≡ false = rw is at still in
+      rw is (ends ∙ sym (live_whole script passes (goes_by script.thin kind) id (slice_get script.pictures number) at _ whole other))
 
 -- a step of another word ends none
 pub other_touched : (script : Script) (sides_of : ℕ → Option Sides) (surfaces : Surfaces) (passes : Passes) (kind : Option Kind) (step : Step)
     → ((id width height : ℕ) (format : Format) → step ≡ Surface id width height format → ⊥) → ((id : ℕ) → step ≡ Delete id → ⊥)
     → ((id : ℕ) (colour : Pixel) (rects : List Rect) → step ≡ Fill id colour rects → ⊥) → ((from to : ℕ) (rect : Rect) (points : List Point) → step ≡ Copy from to rect points → ⊥)
     → ((key to : ℕ) (points : List Point) → step ≡ Show key to points → ⊥) → ((id number : ℕ) (at : Point) (named : Option Kind) (glyph : Option ℕ) → step ≡ Paint id number at named glyph → ⊥)
-    → sends_tiles kind step ≡ false → passes ≡ passes_as script sides_of surfaces passes kind step
+    → sends_tiles script.thin kind step ≡ false → passes ≡ passes_as script sides_of surfaces passes kind step
 unfolding passes_as ended_by writes_by
 other_touched script sides_of surfaces passes kind (Surface id width height format) surface delete fill copy show paint apart = absurd (surface id width height format refl)
 other_touched script sides_of surfaces passes kind (Delete id) surface delete fill copy show paint apart = absurd (delete id refl)

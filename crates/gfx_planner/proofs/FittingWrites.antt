@@ -85,7 +85,7 @@ painted_fits : (script : Script) (id number : ℕ) (at : Point) (o : Option Sour
     → IfSome (option_map (λ source. area id (place_of source at ∷ [])) o) (λ written. AllByRecursion IsRect written.rects)
 painted_fits script id number at o picture is place = rw is (place, tt)
 
-pub fitting : (script : Script) (server : Server) (kind : Option Kind) (step : Step) → IsAllowed script server (as_kind kind step) → sends_tiles kind step ≡ false
+pub fitting : (script : Script) (server : Server) (kind : Option Kind) (step : Step) → IsAllowed script server (as_kind kind step) → sends_tiles script.thin kind step ≡ false
     → FitsAt script (sides_kept server.plan server.state.cache.slots) step
 unfolding FitsAt writes_by held_after
 fitting script server kind (Surface id width height format) allowed apart = (

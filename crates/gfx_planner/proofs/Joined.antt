@@ -29,15 +29,16 @@ use Rattle.gfx_planner.specs.Agree.{Agree, Holds, IsInFrame}
 use Rattle.gfx_planner.specs.Joined.{all_messages, after_all, frame_of, after_frame, JoinedFramesAreShown}
 use Rattle.gfx_script.specs.Ways.{goes_by}
 use Rattle.gfx_script.specs.declared.way.Way.{Way}
-use Rattle.gfx_script.specs.declared.way.Way.TheVariants.{Uncompressed, ByLayer, InPasses}
+use Rattle.gfx_script.specs.declared.way.Way.TheVariants.{Uncompressed, ByLayer, InPasses, Video}
 use Rattle.gfx_planner.specs.Want.{Wanted, wanted_after}
-use Rattle.gfx_planner.specs.Wire.{Server, alone, painting, painting_in_passes, passes_message, improving, showing_slot, emptying, keeping, made_as, paint_made, pdus_of, messages, frame_start, frame_end, after_put, after_open, after_close}
+use Rattle.gfx_planner.specs.Wire.{Server, alone, painting, painting_in_passes, passes_message, improving, showing_slot, emptying, keeping, made_as, paint_made, pdus_of, messages, frame_start, frame_end, after_put, after_open, after_close, painting_as_video, video_message}
 use Rattle.gfx_planner.proofs.Lists.{all_both}
 use Rattle.gfx_planner.proofs.Effects.{all_steps-none, all_steps-one}
 use Rattle.gfx_planner.proofs.Steps.{step_fine, messages-is, after_put-is}
 use Rattle.gfx_planner.proofs.Streams.{bare, opens_frame, closes_frame, held_through-cons, held_through-nil, both}
 use Rattle.gfx_planner.proofs.SurfaceSteps.{starts, ends}
 use Rattle.gfx_planner.proofs.Whole.{gone}
+use Rattle.gfx_script.specs.Writes.{place_of}
 
 -- no message of a step ends a frame -----------------------------------------------------------------
 
@@ -88,6 +89,18 @@ unfolding improving
 improving_stays script passes None id plan = tt
 improving_stays script passes (Some surface) id plan = passes_stay id surface.format _
 
+video_stays : (id : ℕ) (format : Format) (rect : Rect) (payloads : List (List ℕ)) → AllByRecursion StaysInside (map (video_message id format rect) payloads)
+video_stays id format rect [] = tt
+video_stays id format rect (payload ∷ payloads) = (refl, video_stays id format rect payloads)
+
+-- nor one of video
+video_paint_stays : (script : Script) (number : ℕ) (surface : Option Picture) (picture : Option Source) (id : ℕ) (at : Point) (plan : Plan)
+    → AllByRecursion StaysInside (pdus_of (painting_as_video script number surface picture id at plan))
+unfolding painting_as_video
+video_paint_stays script number (Some surface) (Some picture) id at plan = video_stays id surface.format (place_of picture at) _
+video_paint_stays script number None picture id at plan = tt
+video_paint_stays script number (Some surface) None id at plan = tt
+
 paint_stays : (script : Script) (state : State) (passes : Passes) (plan : Plan) (way : Option Way) (source : Option Source) (glyph : Option ℕ) (id : ℕ) (at : Point)
     → AllByRecursion StaysInside (pdus_of (paint_made script state passes plan way source glyph id at))
 unfolding paint_made
@@ -95,6 +108,7 @@ paint_stays script state passes plan None source glyph id at = tt
 paint_stays script state passes plan (Some Uncompressed) source glyph id at = painting_stays None state.clear (get state.shown.surfaces id) source glyph id at plan
 paint_stays script state passes plan (Some (ByLayer layer)) source glyph id at = painting_stays (Some layer) state.clear (get state.shown.surfaces id) source glyph id at plan
 paint_stays script state passes plan (Some InPasses) source glyph id at = tiles_stay script passes (get state.shown.surfaces id) source id at plan
+paint_stays script state passes plan (Some Video) source glyph id at = video_paint_stays script passes.videos (get state.shown.surfaces id) source id at plan
 
 made_stays : (script : Script) (state : State) (passes : Passes) (plan : Plan) (kind : Option Kind) (step : Step) → AllByRecursion StaysInside (pdus_of (made_as script state passes plan kind step))
 unfolding made_as
@@ -108,7 +122,7 @@ made_stays script state passes plan kind (Keep id key rect) = keeping_stays _ id
 made_stays script state passes plan kind (Show key to points) = showing_stays _ to points _
 made_stays script state passes plan kind (Forget key) = emptying_stays _ _
 made_stays script state passes plan kind (Paint id picture at named glyph) =
-    paint_stays script state passes plan (goes_by kind) (slice_get script.pictures picture) glyph id at
+    paint_stays script state passes plan (goes_by script.thin kind) (slice_get script.pictures picture) glyph id at
 made_stays script state passes plan kind (Improve id) = improving_stays script passes (get state.shown.surfaces id) id plan
 made_stays script state passes plan kind Frame = tt
 

@@ -10,6 +10,8 @@ pub mod SlotLists
 pub mod Slots
 pub mod Seen
 pub mod SurfaceSteps
+pub mod VideoSteps
+pub mod VideoMessages
 pub mod PaintSteps
 pub mod StepMessages
 pub mod BitmapSteps

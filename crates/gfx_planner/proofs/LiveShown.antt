@@ -52,7 +52,7 @@ use Rattle.gfx_planner.specs.Want.{Wanted, drawn_on, nothing_wanted, passes_want
 use Rattle.gfx_planner.specs.Wire.{Server, at_start}
 use Rattle.gfx_planner.specs.Within.{ChangesWithin, IsOutside}
 use Rattle.gfx_script.specs.Ways.{goes_by}
-use Rattle.gfx_planner.proofs.Ways.{live_in_passes, live_whole, painted_in_passes}
+use Rattle.gfx_planner.proofs.Ways.{live_in_passes, live_left, painted_in_passes}
 use Rattle.gfx_planner.proofs.PaintSteps.{MayPaint, may_paint}
 use Rattle.gfx_planner.proofs.Seen.{seen}
 use Rattle.gfx_planner.proofs.Streams.{AreChecked, Stands, along, bare, first_held, goes, held_through-cons, stands_at_start}
@@ -164,7 +164,7 @@ ended-live passes (Some written) key send found =
           (not-second (key.surface == written.surface) (list_any (λ rect. meets rect (cell key.x key.y)) written.rects) left.1 (eq-eqb key.surface written.surface (sym same))),
     )
 
-step-ends : (script : Script) (sides_of : ℕ → Option Sides) (surfaces : Surfaces) (passes : Passes) (kind : Option Kind) (step : Step) → sends_tiles kind step ≡ false
+step-ends : (script : Script) (sides_of : ℕ → Option Sides) (surfaces : Surfaces) (passes : Passes) (kind : Option Kind) (step : Step) → sends_tiles script.thin kind step ≡ false
     → (key : Key) (send : TileSend) → get (passes_as script sides_of surfaces passes kind step).live key ≡ Some send → (get passes.live key ≡ Some send) × Misses (writes_by script sides_of step) key
 unfolding passes_as writes_by
 step-ends script sides_of surfaces passes kind (Delete id) apart key send found = ((retained-live passes.live (λ k. not (k.surface == id)) key send found).0, tt)
@@ -172,7 +172,7 @@ step-ends script sides_of surfaces passes kind (Improve id) apart key send found
 step-ends script sides_of surfaces passes kind (Paint id picture at named glyph) apart key send found =
     let written : Option Area = writes_by script sides_of (Paint id picture at named glyph) in
     ended-live passes written key send
-    (subst (λ (p : Passes). get p.live key ≡ Some send) (live_whole script passes (goes_by kind) id (slice_get script.pictures picture) at written apart) found)
+    (subst (λ (l : Live). get l key ≡ Some send) (live_left script passes (goes_by script.thin kind) id (slice_get script.pictures picture) at written apart).0 found)
 step-ends script sides_of surfaces passes kind step apart key send found = ended-live passes (writes_by script sides_of step) key send found
 
 -- a pixel of a tile lies outside of a rectangle that has nothing of its cell
@@ -231,7 +231,7 @@ has-some picture at drawn = by drawn.width_from drawn.height_from
     by : 1 ≤ picture.width → 1 ≤ picture.height → has_pixels (place_of picture at) ≡ true
     by across down = grind (arith, nat_tests)
 
-in-passes-show : (script : Script) (server : Server) (held after : Held) (wanted : Wanted) (kind : Option Kind) (step : Step) → sends_tiles kind step ≡ true → Holds script held server → Agree server wanted
+in-passes-show : (script : Script) (server : Server) (held after : Held) (wanted : Wanted) (kind : Option Kind) (step : Step) → sends_tiles script.thin kind step ≡ true → Holds script held server → Agree server wanted
     → IsStep step → held_after held step ≡ Ok after → AllShow wanted.passes.live wanted.shown.surfaces
     → AllShow (passes_wanted script wanted kind step).live (wanted_as script wanted kind step).shown.surfaces
 unfolding passes_as wanted_as held_after
@@ -239,8 +239,8 @@ in-passes-show script server held after wanted kind (Paint id number at named gl
     let may : MayPaint script server id number at glyph = (may_paint script server held after id number at named glyph (seen script held server holds) numbers.1 numbers.2 checked).0 in
     let source : Option Source = slice_get script.pictures number in
     let written : Option Area = writes_by script (sides_kept wanted.plan wanted.slots) (Paint id number at named glyph) in
-    subst (λ (p : Passes). AllShow p.live (with_painting script wanted (goes_by kind) source id at).shown.surfaces) (sym (live_in_passes script wanted.passes (goes_by kind) id source at written passes))
-    (subst (λ (w : Wanted). AllShow (painted_passes script wanted.passes id source at).live w.shown.surfaces) (sym (painted_in_passes script wanted (goes_by kind) source id at passes))
+    subst (λ (p : Passes). AllShow p.live (with_painting script wanted (goes_by script.thin kind) source id at).shown.surfaces) (sym (live_in_passes script wanted.passes (goes_by script.thin kind) id source at written passes))
+    (subst (λ (w : Wanted). AllShow (painted_passes script wanted.passes id source at).live w.shown.surfaces) (sym (painted_in_passes script wanted (goes_by script.thin kind) source id at passes))
     (paint-shows script wanted server.state.records id at source may.picture may.surface may.drawn (ap (λ (s : Shown). get s.surfaces id) (sym agree.shown) ∙ may.there) holds.setting may.place may.inside
     (has-some may.picture at may.sides) (tiles-wanted script held server wanted holds agree) shows))
 in-passes-show script server held after wanted kind (Improve id) passes holds agree numbers checked shows =
@@ -250,12 +250,12 @@ in-passes-show script server held after wanted kind step passes holds agree numb
 step-shows : (script : Script) (server : Server) (held after : Held) (wanted : Wanted) (kind : Option Kind) (step : Step) → Holds script held server → Agree server wanted → IsStep step
     → held_after held step ≡ Ok after → AllShow wanted.passes.live wanted.shown.surfaces
     → AllShow (passes_wanted script wanted kind step).live (wanted_as script wanted kind step).shown.surfaces
-step-shows script server held after wanted kind step holds agree numbers checked shows = by (sends_tiles kind step) refl
+step-shows script server held after wanted kind step holds agree numbers checked shows = by (sends_tiles script.thin kind step) refl
   where
     written : Option Area
     written = writes_by script (sides_kept wanted.plan wanted.slots) step
 
-    by : (b : Bool) → sends_tiles kind step ≡ b → AllShow (passes_wanted script wanted kind step).live (wanted_as script wanted kind step).shown.surfaces
+    by : (b : Bool) → sends_tiles script.thin kind step ≡ b → AllShow (passes_wanted script wanted kind step).live (wanted_as script wanted kind step).shown.surfaces
     by true passes = in-passes-show script server held after wanted kind step passes holds agree numbers checked shows
     by false apart =
         missed-show script.setting written wanted.passes.live (passes_wanted script wanted kind step).live server.state.records wanted.shown.surfaces (wanted_as script wanted kind step).shown.surfaces

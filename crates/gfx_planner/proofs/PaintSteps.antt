@@ -1,5 +1,5 @@
 -- The messages of paints are accepted by the server's own state, and show what is wanted.
-use Rattle.std.proofs.Common.{ℕ, ◌≡◌, zero, suc, ◌+◌, ◌*◌, ◌≤◌, ◌<◌, ◌^◌, ◌&&◌, nat_le, Bool, true, false, List, [], ◌∷◌, length, Option, Some, None, option_map, Ok, refl, sym, ap, ◌∙◌, subst, arith}
+use Rattle.std.proofs.Common.{ℕ, ◌≡◌, zero, suc, ◌+◌, ◌*◌, ◌≤◌, ◌<◌, ◌^◌, ◌&&◌, nat_le, Bool, true, false, List, [], ◌∷◌, length, map, Option, Some, None, option_map, Ok, refl, sym, ap, ◌∙◌, subst, arith}
 use Rattle.std.specs.List.{AllByRecursion, slice_get}
 use Rattle.std.specs.Prelude.{IfSome}
 use Rattle.std.proofs.lemmas.Option.{slice_get-map}
@@ -41,17 +41,28 @@ use Rattle.gfx_state.specs.Codecs.{id_of}
 use Rattle.gfx_state.specs.Sending.{IsCarried}
 use Rattle.gfx_planner.specs.Agree.{sides_of, HoldsSurfaces}
 use Rattle.gfx_script.specs.declared.way.Way.{Way}
-use Rattle.gfx_script.specs.Ways.{goes_by, is_in_passes, is_stream, way_of}
-use Rattle.gfx_planner.specs.Passes.{goes_in_passes}
-use Rattle.gfx_planner.specs.Want.{Wanted, drawing, pixels_in, colours_in, with_pixels, wanted_as}
-use Rattle.gfx_planner.specs.Wire.{Server, alone, codec_by, data_by, paint_message, painting, made_as}
+use Rattle.gfx_script.specs.declared.way.Way.TheVariants.{Uncompressed, ByLayer, InPasses, Video}
+use Rattle.gfx_script.specs.Ways.{goes_by, is_in_passes, is_stream, is_video, way_of}
+use Rattle.gfx_video_paint.specs.Shown.{shown_as_video}
+use Rattle.gfx_base.specs.Cells.{has_pixels}
+use Rattle.gfx_slot_plan.specs.Plan.{Plan}
+use Rattle.gfx_video_paint.specs.Inside.{HasSome}
+use Rattle.gfx_video_paint.proofs.Cover.{placed-filled}
+use Rattle.gfx_video_paint.proofs.Groups.{payloads-short, payloads-show}
+use Rattle.gfx_rfx_video.specs.Video.{after_video, in_turn}
+use Rattle.gfx_quant.specs.Setting.{IsSetting}
+use Rattle.gfx_video_paint.specs.Video.{laid, video_payloads}
+use Rattle.gfx_planner.specs.Passes.{goes_as_video, goes_in_passes}
+use Rattle.gfx_planner.specs.Want.{Wanted, drawing, pixels_in, colours_in, with_painting, with_pixels, with_video, wanted_as}
+use Rattle.gfx_planner.specs.Wire.{Server, alone, codec_by, data_by, made, mode_of, paint_message, painting, painting_as_video, made_as, video_message}
 use Rattle.gfx_planner.proofs.Carried.{carried-wire}
 use Rattle.gfx_planner.proofs.Effects.{all_steps-one}
 use Rattle.gfx_planner.proofs.Held.{holds-drawn, sides-stay}
+use Rattle.gfx_planner.proofs.VideoSteps.{video_sides, videos_accepted, videos_carried}
 use Rattle.gfx_planner.proofs.Paints.{length-raw_bytes, length-pixels_in, length-colours_in, clear_by, painted_raw, painted_clear}
 use Rattle.gfx_planner.proofs.SurfaceSteps.{Fine, going, shows, found_there, ok_or_some, drawing_agrees}
 use Rattle.gfx_planner.proofs.Seen.{AgreeSeen as Agree, HoldsSeen as Holds}
-use Rattle.gfx_planner.proofs.Ways.{layer_in, shown_by, made_whole, painted_whole}
+use Rattle.gfx_planner.proofs.Ways.{is_whole, layer_in, shown_by, made_as_video, made_whole, painted_whole}
 
 -- a picture whose sides are held
 source_there : (pictures : List Source) (at : ℕ) (sides : Sides) → slice_get (sides_of_all pictures) at ≡ Some sides
@@ -191,15 +202,84 @@ rings_by : (layer : Option Layer) (clear : ClearState) (glyph : Option ℕ) (pic
 rings_by None clear glyph picture are = are
 rings_by (Some layer) clear glyph picture are = rings_sent clear layer glyph picture.width picture.height (colours_in picture) are
 
+-- as video -----------------------------------------------------------------------------------------------
+
+painting_video_there : (script : Script) (number : ℕ) (surface : Option Picture) (source : Option Source) (a : Picture) (b : Source) (id : ℕ) (at : Point) (plan : Plan) → surface ≡ Some a → source ≡ Some b
+    → painting_as_video script number surface source id at plan
+    ≡ made (map (video_message id a.format (place_of b at)) (video_payloads script.setting (mode_of script.entropy) b number)) plan
+unfolding painting_as_video
+painting_video_there script number surface source a b id at plan there drawn = rw (there, drawn) refl
+
+with_video_there : (script : Script) (wanted : Wanted) (source : Option Source) (b : Source) (id : ℕ) (at : Point) → source ≡ Some b
+    → with_video script wanted source id at ≡ drawing wanted id (shown_as_video script.setting b (place_of b at))
+unfolding with_video
+with_video_there script wanted source b id at drawn = rw drawn refl
+
+pub painted_as_video : (script : Script) (wanted : Wanted) (way : Option Way) (source : Option Source) (id : ℕ) (at : Point) → goes_as_video way ≡ true
+    → with_painting script wanted way source id at ≡ with_video script wanted source id at
+unfolding with_painting
+painted_as_video script wanted None source id at goes = absurd cc
+painted_as_video script wanted (Some Uncompressed) source id at goes = absurd cc
+painted_as_video script wanted (Some (ByLayer layer)) source id at goes = absurd cc
+painted_as_video script wanted (Some InPasses) source id at goes = absurd cc
+painted_as_video script wanted (Some Video) source id at goes = refl
+
+-- a picture has pixels
+some_laid : (picture : Source) → IsDrawn picture → HasSome picture
+some_laid picture drawn = by drawn.width_from drawn.height_from
+  where
+    by : 1 ≤ picture.width → 1 ≤ picture.height → has_pixels (laid picture) ≡ true
+    by across down = grind (arith, nat_tests)
+
+-- the messages of a picture that is there show it
+payloads_show : (script : Script) (picture : Source) (at : Point) (surface : Picture) → IsDrawn picture → (number : ℕ) → IsSetting script.setting
+    → in_turn (after_video (place_of picture at)) (video_payloads script.setting (mode_of script.entropy) picture number) surface ≡ Ok (shown_as_video script.setting picture (place_of picture at) surface)
+payloads_show script picture at surface drawn number setting =
+    payloads-show script.setting (mode_of script.entropy) picture number (place_of picture at) surface setting drawn.width_fits drawn.height_fits (some_laid picture drawn) (placed-filled picture at)
+
+video_fine : (script : Script) (server : Server) (kind : Option Kind) (held after : Held) (id number : ℕ) (at : Point) (named : Option Kind) (glyph : Option ℕ) → goes_as_video (goes_by script.thin kind) ≡ true → IsSetting script.setting → Holds script held server
+    → IsStep (Paint id number at named glyph) → held_after held (Paint id number at named glyph) ≡ Ok after → Fine script server (as_kind kind (Paint id number at named glyph)) after
+unfolding made_as wanted_as held_after
+video_fine script server kind held after id number at named glyph goes setting holds numbers checked =
+    let may = may_paint script server held after id number at named glyph holds numbers.1 numbers.2 checked in
+    let m = may.0 in
+    let rect = place_of m.picture at in
+    let new = shown_as_video script.setting m.picture rect m.surface in
+    let shown = with_picture server.state.shown id new in
+    let payloads = video_payloads script.setting (mode_of script.entropy) m.picture server.passes.videos in
+    let next : State = record server.state { shown = shown } in
+    record {
+      into = record { pdus = map (video_message id m.surface.format rect) payloads; plan = server.plan };
+      is = made_as_video script server.state server.passes server.plan (goes_by script.thin kind) (slice_get script.pictures number) glyph id at goes
+          ∙ painting_video_there script server.passes.videos (get server.state.shown.surfaces id) (slice_get script.pictures number) m.surface m.picture id at server.plan m.there m.drawn;
+      next = next;
+      accepted = videos_accepted id m.surface.format rect payloads server.state m.surface new m.there m.inside (payloads_show script m.picture at m.surface m.sides server.passes.videos setting);
+      carried = videos_carried id m.surface.format rect payloads numbers.0 m.place (payloads-short script.setting (mode_of script.entropy) m.picture server.passes.videos setting);
+      holds = subst (λ h. Holds script h (going server next server.plan)) may.1 record {
+        drawn = holds.drawn;
+        same = holds.same;
+        surfaces = holds-drawn held.sides held.cells server.state.shown.surfaces id m.surface _ holds.surfaces m.there (video_sides script.setting m.picture rect m.surface);
+        bitmaps = holds.bitmaps;
+        rings = holds.rings;
+      };
+      frame = refl;
+      agrees = λ wanted agree.
+          let drawn = subst (Agree (shows server shown)) (sym (with_video_there script wanted (slice_get script.pictures number) m.picture id at m.drawn))
+          (drawing_agrees server wanted id m.surface (shown_as_video script.setting m.picture rect) m.there agree) in
+          subst (Agree (going server next server.plan)) (sym (painted_as_video script wanted (goes_by script.thin kind) (slice_get script.pictures number) id at goes))
+          record { shown = drawn.shown; slots = drawn.slots; plan = drawn.plan };
+      keeps = (sides-stay server.state.shown.surfaces id m.surface _ m.there (video_sides script.setting m.picture rect m.surface), refl);
+    }
+
 -- paints -----------------------------------------------------------------------------------------------
 
-kind_fine : (script : Script) (server : Server) (kind : Kind) (held after : Held) (id number : ℕ) (at : Point) (named : Option Kind) (glyph : Option ℕ) → is_in_passes (way_of false kind) ≡ false → Holds script held server → IsStep (Paint id number at named glyph)
+kind_fine : (script : Script) (server : Server) (kind : Kind) (held after : Held) (id number : ℕ) (at : Point) (named : Option Kind) (glyph : Option ℕ) → is_whole (way_of script.thin kind) ≡ true → Holds script held server → IsStep (Paint id number at named glyph)
     → held_after held (Paint id number at named glyph) ≡ Ok after → Fine script server (as_kind (Some kind) (Paint id number at named glyph)) after
 unfolding made_as wanted_as held_after
 kind_fine script server kind held after id number at named glyph whole holds numbers checked =
     let may = may_paint script server held after id number at named glyph holds numbers.1 numbers.2 checked in
     let m = may.0 in
-    let way : Way = way_of false kind in
+    let way : Way = way_of script.thin kind in
     let layer = layer_in way in
     let rect = place_of m.picture at in
     let shown = with_picture server.state.shown id (overlaid m.surface rect (shown_by layer m.picture)) in
@@ -227,7 +307,13 @@ kind_fine script server kind held after id number at named glyph whole holds num
       keeps = (sides-stay server.state.shown.surfaces id m.surface _ m.there (sides_overlaid m.surface rect (shown_by layer m.picture)), refl);
     }
 
-pub paint_fine : (script : Script) (server : Server) (kind : Option Kind) (held after : Held) (id number : ℕ) (at : Point) (named : Option Kind) (glyph : Option ℕ) → goes_in_passes (goes_by kind) ≡ false → Holds script held server → IsStep (Paint id number at named glyph)
+pub paint_fine : (script : Script) (server : Server) (kind : Option Kind) (held after : Held) (id number : ℕ) (at : Point) (named : Option Kind) (glyph : Option ℕ) → goes_in_passes (goes_by script.thin kind) ≡ false → IsSetting script.setting → Holds script held server → IsStep (Paint id number at named glyph)
     → GoesAs kind (Paint id number at named glyph) → held_after held (Paint id number at named glyph) ≡ Ok after → Fine script server (as_kind kind (Paint id number at named glyph)) after
-paint_fine script server None held after id number at named glyph whole holds numbers goes checked = absurd (let none : false ≡ true = goes.0 in cc)
-paint_fine script server (Some kind) held after id number at named glyph whole holds numbers goes checked = kind_fine script server kind held after id number at named glyph whole holds numbers checked
+paint_fine script server None held after id number at named glyph apart setting holds numbers goes checked = absurd (let none : false ≡ true = goes.0 in cc)
+paint_fine script server (Some kind) held after id number at named glyph apart setting holds numbers goes checked = by (way_of script.thin kind) refl
+  where
+    by : (way : Way) → way_of script.thin kind ≡ way → Fine script server (as_kind (Some kind) (Paint id number at named glyph)) after
+    by Uncompressed is = kind_fine script server kind held after id number at named glyph (ap is_whole is) holds numbers checked
+    by (ByLayer layer) is = kind_fine script server kind held after id number at named glyph (ap is_whole is) holds numbers checked
+    by InPasses is = absurd (let both : true ≡ false = sym (ap is_in_passes is) ∙ apart in cc)
+    by Video is = video_fine script server (Some kind) held after id number at named glyph (ap is_video is) setting holds numbers checked

@@ -28,15 +28,15 @@ use Rattle.gfx_planner.proofs.Ways.{live_in_passes, made_in_passes}
 
 -- what is painted in passes is made as such --------------------------------------------------------------
 
-pub step_in_passes : (script : Script) (state : State) (passes : Passes) (plan : Plan) (kind named : Option Kind) (glyph : Option ℕ) (id number : ℕ) (at : Point) → goes_in_passes (goes_by kind) ≡ true
+pub step_in_passes : (script : Script) (state : State) (passes : Passes) (plan : Plan) (kind named : Option Kind) (glyph : Option ℕ) (id number : ℕ) (at : Point) → goes_in_passes (goes_by script.thin kind) ≡ true
     → made_as script state passes plan kind (Paint id number at named glyph) ≡ painting_in_passes script passes (get state.shown.surfaces id) (slice_get script.pictures number) id at plan
 unfolding made_as
-step_in_passes script state passes plan kind named glyph id number at goes = made_in_passes script state passes plan (goes_by kind) (slice_get script.pictures number) glyph id at goes
+step_in_passes script state passes plan kind named glyph id number at goes = made_in_passes script state passes plan (goes_by script.thin kind) (slice_get script.pictures number) glyph id at goes
 
-pub step_lives : (script : Script) (sides_of : ℕ → Option Sides) (surfaces : Surfaces) (passes : Passes) (kind named : Option Kind) (glyph : Option ℕ) (id number : ℕ) (at : Point) → goes_in_passes (goes_by kind) ≡ true
+pub step_lives : (script : Script) (sides_of : ℕ → Option Sides) (surfaces : Surfaces) (passes : Passes) (kind named : Option Kind) (glyph : Option ℕ) (id number : ℕ) (at : Point) → goes_in_passes (goes_by script.thin kind) ≡ true
     → passes_as script sides_of surfaces passes kind (Paint id number at named glyph) ≡ painted_passes script passes id (slice_get script.pictures number) at
 unfolding passes_as
-step_lives script sides_of surfaces passes kind named glyph id number at goes = live_in_passes script passes (goes_by kind) id (slice_get script.pictures number) at _ goes
+step_lives script sides_of surfaces passes kind named glyph id number at goes = live_in_passes script passes (goes_by script.thin kind) id (slice_get script.pictures number) at _ goes
 
 -- what has to be there is there -----------------------------------------------------------------------
 

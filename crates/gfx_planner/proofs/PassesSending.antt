@@ -28,28 +28,29 @@ use Rattle.gfx_surface_map.specs.Surfaces.{Surfaces}
 use Rattle.gfx_planner.specs.Agree.{IsAllowed}
 use Rattle.gfx_script.specs.Ways.{goes_by}
 use Rattle.gfx_script.specs.declared.way.Way.{Way}
-use Rattle.gfx_script.specs.declared.way.Way.TheVariants.{Uncompressed, ByLayer, InPasses}
-use Rattle.gfx_planner.specs.Passes.{IsPlaced, MayGoInPasses, goes_in_passes, sends_tiles}
+use Rattle.gfx_script.specs.declared.way.Way.TheVariants.{Uncompressed, ByLayer, InPasses, Video}
+use Rattle.gfx_planner.specs.Passes.{IsPlaced, MayGoAsTiles, goes_in_passes, sends_tiles, goes_as_video, is_video_paint}
 use Rattle.gfx_planner.specs.Tiles.{HoldsTiles}
 use Rattle.gfx_planner.specs.Wire.{Server, made_as, paint_made}
 use Rattle.gfx_planner.proofs.PaintSteps.{may_paint}
 use Rattle.gfx_planner.proofs.Seen.{seen}
 
--- what a picture is made into that doesn't go in passes doesn't depend on what is live
-paint_apart : (script : Script) (state : State) (a b : Passes) (plan : Plan) (way : Option Way) (source : Option Source) (glyph : Option ℕ) (id : ℕ) (at : Point) → goes_in_passes way ≡ false
+-- what a picture is made into that goes neither in passes nor as video doesn't depend on what is live
+paint_apart : (script : Script) (state : State) (a b : Passes) (plan : Plan) (way : Option Way) (source : Option Source) (glyph : Option ℕ) (id : ℕ) (at : Point) → goes_in_passes way ≡ false → goes_as_video way ≡ false
     → paint_made script state a plan way source glyph id at ≡ paint_made script state b plan way source glyph id at
 unfolding paint_made
-paint_apart script state a b plan None source glyph id at apart = refl
-paint_apart script state a b plan (Some Uncompressed) source glyph id at apart = refl
-paint_apart script state a b plan (Some (ByLayer layer)) source glyph id at apart = refl
-paint_apart script state a b plan (Some InPasses) source glyph id at apart = absurd cc
+paint_apart script state a b plan None source glyph id at apart still = refl
+paint_apart script state a b plan (Some Uncompressed) source glyph id at apart still = refl
+paint_apart script state a b plan (Some (ByLayer layer)) source glyph id at apart still = refl
+paint_apart script state a b plan (Some InPasses) source glyph id at apart still = absurd cc
+paint_apart script state a b plan (Some Video) source glyph id at apart still = absurd cc
 
--- nor the messages of a step that sends no tiles
-pub made_apart : (script : Script) (state : State) (a b : Passes) (plan : Plan) (kind : Option Kind) (step : Step) → sends_tiles kind step ≡ false → made_as script state a plan kind step ≡ made_as script state b plan kind step
+-- nor the messages of a step that sends no tiles that may be raised, and isn't a paint as video
+pub made_apart : (script : Script) (state : State) (a b : Passes) (plan : Plan) (kind : Option Kind) (step : Step) → sends_tiles script.thin kind step ≡ false → is_video_paint script.thin kind step ≡ false → made_as script state a plan kind step ≡ made_as script state b plan kind step
 unfolding made_as
-made_apart script state a b plan kind (Paint id number at named glyph) apart = paint_apart script state a b plan (goes_by kind) (slice_get script.pictures number) glyph id at apart
-made_apart script state a b plan kind (Improve id) apart = absurd cc
-made_apart script state a b plan kind step apart = refl
+made_apart script state a b plan kind (Paint id number at named glyph) apart still = paint_apart script state a b plan (goes_by script.thin kind) (slice_get script.pictures number) glyph id at apart still
+made_apart script state a b plan kind (Improve id) apart still = absurd cc
+made_apart script state a b plan kind step apart still = refl
 
 -- a picture has pixels wherever it lies
 has_some : (picture : Source) (at : Point) → IsDrawn picture → has_pixels (place_of picture at) ≡ true
@@ -79,8 +80,8 @@ is_placed script server kind (Paint id number at named glyph) allowed =
     placed_there script number at (slice_get script.pictures number) m.picture m.drawn m.place m.sides
 is_placed script server kind step allowed = tt
 
--- and so may go in passes
-pub may_go : (script : Script) (server : Server) (kind : Option Kind) (step : Step) → IsAllowed script server (as_kind kind step) → MayGoInPasses script server.passes step
+-- and so may go as tiles
+pub may_go : (script : Script) (server : Server) (kind : Option Kind) (step : Step) → IsAllowed script server (as_kind kind step) → MayGoAsTiles script server.passes step
 may_go script server kind step allowed = record {
   accepted = allowed.holds.setting.accepted;
   by = live_by script.setting server.passes.live server.state.records server.state.shown.surfaces allowed.holds.tiles;

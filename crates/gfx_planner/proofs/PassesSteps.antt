@@ -136,7 +136,7 @@ passes_there : (script : Script) (passes : Passes) (source : Option Source) (b :
 unfolding painted_passes
 passes_there script passes source b id at drawn = rw drawn refl
 
-paint_sends : (script : Script) (server : Server) (kind : Option Kind) (held : Held) (id number : ℕ) (at : Point) (named : Option Kind) (glyph : Option ℕ) → goes_in_passes (goes_by kind) ≡ true → Holds script held server
+paint_sends : (script : Script) (server : Server) (kind : Option Kind) (held : Held) (id number : ℕ) (at : Point) (named : Option Kind) (glyph : Option ℕ) → goes_in_passes (goes_by script.thin kind) ≡ true → Holds script held server
     → id < 2 ^ 16 → MayPaint script server id number at glyph → Sends script server (as_kind kind (Paint id number at named glyph)) id
 unfolding made_as wanted_as passes_as
 paint_sends script server kind held id number at named glyph goes holds fits may =
@@ -154,12 +154,12 @@ paint_sends script server kind held id number at named glyph goes holds fits may
       taken = taken;
       short = paints_short script.setting may.surface.width may.surface.height holds.setting narrow.0 narrow.1 sends server.passes.next
           (recursion_from_All (WasSent script.setting may.surface.width may.surface.height) sends taken.sent);
-      is = made_in_passes script server.state server.passes server.plan (goes_by kind) (slice_get script.pictures number) glyph id at goes
+      is = made_in_passes script server.state server.passes server.plan (goes_by script.thin kind) (slice_get script.pictures number) glyph id at goes
           ∙ painting_there script server.passes server (get server.state.shown.surfaces id) (slice_get script.pictures number) may.surface may.picture id at may.there may.drawn;
-      passes = live_in_passes script server.passes (goes_by kind) id (slice_get script.pictures number) at (writes_by script (sides_kept server.plan server.state.cache.slots) (Paint id number at named glyph)) goes
+      passes = live_in_passes script server.passes (goes_by script.thin kind) id (slice_get script.pictures number) at (writes_by script (sides_kept server.plan server.state.cache.slots) (Paint id number at named glyph)) goes
           ∙ passes_there script server.passes (slice_get script.pictures number) may.picture id at may.drawn;
       draws = λ wanted agree.
-          painted_in_passes script wanted (goes_by kind) (slice_get script.pictures number) id at goes
+          painted_in_passes script wanted (goes_by script.thin kind) (slice_get script.pictures number) id at goes
           ∙ with_tiles_there script wanted (slice_get script.pictures number) may.picture id at may.drawn
           ∙ ap (λ (p : Passes). drawing wanted id (after_showing id (painted_sends script p.live id may.picture (place_of may.picture at)))) (sym agree.passes);
     }
@@ -210,7 +210,7 @@ some_surface (Some surface) e = (surface, refl)
 
 -- ---- both
 
-in_passes : (script : Script) (server : Server) (kind : Option Kind) (held after : Held) (step : Step) → sends_tiles kind step ≡ true → Holds script held server → IsStep step
+in_passes : (script : Script) (server : Server) (kind : Option Kind) (held after : Held) (step : Step) → sends_tiles script.thin kind step ≡ true → Holds script held server → IsStep step
     → held_after held step ≡ Ok after → FineStep script server (as_kind kind step) after
 unfolding held_after surface_mapped
 in_passes script server kind held after (Paint id number at named glyph) passes holds numbers checked =
@@ -226,6 +226,6 @@ in_passes script server kind held after (Improve id) passes holds numbers checke
     (sends_fine script server (as_kind kind (Improve id)) held id holds (improve_sends script server kind held id found.0 holds numbers found.1))
 in_passes script server kind held after step passes holds numbers checked = absurd cc
 
-pub passes_fine : (script : Script) (server : Server) (kind : Option Kind) (held after : Held) (step : Step) → sends_tiles kind step ≡ true → Holds script held server → IsStep step → GoesAs kind step
+pub passes_fine : (script : Script) (server : Server) (kind : Option Kind) (held after : Held) (step : Step) → sends_tiles script.thin kind step ≡ true → Holds script held server → IsStep step → GoesAs kind step
     → held_after held step ≡ Ok after → FineStep script server (as_kind kind step) after
 passes_fine script server kind held after step passes holds numbers goes checked = in_passes script server kind held after step passes holds numbers checked

@@ -1,5 +1,5 @@
 -- A paint by ClearCodec shows its source.
-use Rattle.std.proofs.Common.{ℕ, ◌≡◌, ◌+◌, ◌-◌, ◌*◌, ◌<◌, ◌≤◌, true, false, cond, map, length, get_or, Option, Some, refl, sym, ap, ◌∙◌, subst, arith, mul-le-mul_left}
+use Rattle.std.proofs.Common.{ℕ, ◌≡◌, ◌+◌, ◌-◌, ◌*◌, ◌<◌, ◌≤◌, true, cond, map, length, get_or, Option, Some, refl, sym, ap, ◌∙◌, subst, arith, mul-le-mul_left}
 use Rattle.std.specs.Prelude.{if◌then◌else◌}
 use Rattle.std.specs.Cmp.{nat_cmp_total}
 use Rattle.std.specs.FinMap.{get, get-insert}
@@ -17,7 +17,7 @@ use Rattle.gfx_surface.specs.Picture.{Picture, shade, pixel_at, overlaid, in_rec
 use Rattle.gfx_surface.proofs.PictureLemmas.{pixel_at-drawn}
 use Rattle.gfx_script.specs.declared.picture.Picture.{Picture as Source}
 use Rattle.gfx_script.specs.declared.way.Way.{Way}
-use Rattle.gfx_script.specs.declared.way.Way.TheVariants.{Uncompressed, ByLayer, InPasses}
+use Rattle.gfx_script.specs.declared.way.Way.TheVariants.{Uncompressed, ByLayer, InPasses, Video}
 use Rattle.gfx_script.specs.Scripted.{Script}
 use Rattle.gfx_script.specs.Ways.{is_stream, way_of}
 use Rattle.gfx_script.specs.Patterns.{pixel_of}
@@ -101,9 +101,10 @@ unfolding with_painting
 stream_there script wanted Uncompressed id at o source surface stream drawn there inside = absurd cc
 stream_there script wanted (ByLayer layer) id at o source surface stream drawn there inside = pixels_there wanted id at o source surface drawn there inside
 stream_there script wanted InPasses id at o source surface stream drawn there inside = absurd cc
+stream_there script wanted Video id at o source surface stream drawn there inside = absurd cc
 
 -- the promise
 pub shows_sources : ClearPaintsShowTheirSource
 unfolding wanted_as
 shows_sources script wanted kind named id number at glyph source surface clear drawn there inside =
-    stream_there script wanted (way_of false kind) id at (slice_get script.pictures number) source surface clear drawn there inside
+    stream_there script wanted (way_of script.thin kind) id at (slice_get script.pictures number) source surface clear drawn there inside

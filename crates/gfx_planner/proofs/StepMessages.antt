@@ -13,7 +13,7 @@ use Rattle.gfx_pdu.specs.declared.pdu.Pdu.TheVariants.{WireToSurface1}
 use Rattle.gfx_script.specs.declared.picture.Picture.{Picture as Source}
 use Rattle.gfx_script.specs.declared.step.Kind.{Kind}
 use Rattle.gfx_script.specs.declared.way.Way.{Way}
-use Rattle.gfx_script.specs.declared.way.Way.TheVariants.{Uncompressed, ByLayer, InPasses}
+use Rattle.gfx_script.specs.declared.way.Way.TheVariants.{Uncompressed, ByLayer, InPasses, Video}
 use Rattle.gfx_script.specs.declared.step.Step.TheVariants.{Paint}
 use Rattle.gfx_live.specs.Live.{Passes}
 use Rattle.gfx_script.specs.Scripted.{Script}
@@ -26,7 +26,7 @@ use Rattle.gfx_state.specs.Codecs.{UNCOMPRESSED}
 use Rattle.gfx_surface.specs.Picture.{Picture}
 use Rattle.gfx_planner.specs.ClearPaints.{clear_paint_by, clear_paint_of}
 use Rattle.gfx_script.specs.Ways.{goes_by}
-use Rattle.gfx_planner.specs.Passes.{goes_in_passes, sends_tiles}
+use Rattle.gfx_planner.specs.Passes.{goes_in_passes, sends_tiles, goes_as_video, is_video_paint}
 use Rattle.gfx_planner.specs.Want.{pixels_in}
 use Rattle.gfx_planner.specs.Wire.{CanBeSent, alone, made, made_as, paint_made, painting, keeping, showing_slot, emptying, raw_bytes}
 use Rattle.gfx_planner.proofs.Payloads.{sides}
@@ -82,42 +82,43 @@ raw_alike clear None source glyph id at = refl
 raw_alike clear (Some surface) None glyph id at = refl
 raw_alike clear (Some surface) (Some source) glyph id at = refl
 
--- what goes by no layer of ClearCodec, nor in passes, and can be sent, goes uncompressed, and its message is that of no glyph
+-- what goes by no layer of ClearCodec, nor in passes or as video, and can be sent, goes uncompressed, and its message is that of no glyph
 pub record GoesRaw (script : Script) (state : State) (passes : Passes) (plan : Plan) (kind : Option Kind) (source : Option Source) (glyph : Option ℕ) (id : ℕ) (at : Point) : Type 0 where
-  pub made : paint_made script state passes plan (goes_by kind) source glyph id at ≡ alone (painting None state.clear (get state.shown.surfaces id) source None id at) plan
+  pub made : paint_made script state passes plan (goes_by script.thin kind) source glyph id at ≡ alone (painting None state.clear (get state.shown.surfaces id) source None id at) plan
   pub there : IsSome (painting None state.clear (get state.shown.surfaces id) source None id at)
   pub fits : IfSome (painting None state.clear (get state.shown.surfaces id) source None id at) IsCarried
 
 -- in which way it goes, then
 raw_way : (script : Script) (state : State) (passes : Passes) (plan : Plan) (way : Option Way) (source : Option Source) (glyph : Option ℕ) (id number : ℕ) (at : Point)
-    → CanBeSent (paint_made script state passes plan way source glyph id at) → clear_paint_by way id number at glyph ≡ None → goes_in_passes way ≡ false
+    → CanBeSent (paint_made script state passes plan way source glyph id at) → clear_paint_by way id number at glyph ≡ None → goes_in_passes way ≡ false → goes_as_video way ≡ false
     → paint_made script state passes plan way source glyph id at ≡ alone (painting None state.clear (get state.shown.surfaces id) source None id at) plan
 unfolding paint_made
-raw_way script state passes plan None source glyph id number at possible none apart = absurd possible
-raw_way script state passes plan (Some Uncompressed) source glyph id number at possible none apart =
+raw_way script state passes plan None source glyph id number at possible none apart still = absurd possible
+raw_way script state passes plan (Some Uncompressed) source glyph id number at possible none apart still =
     ap (λ o. alone o plan) (raw_alike state.clear (get state.shown.surfaces id) source glyph id at)
-raw_way script state passes plan (Some (ByLayer layer)) source glyph id number at possible none apart = absurd cc
-raw_way script state passes plan (Some InPasses) source glyph id number at possible none apart = absurd cc
+raw_way script state passes plan (Some (ByLayer layer)) source glyph id number at possible none apart still = absurd cc
+raw_way script state passes plan (Some InPasses) source glyph id number at possible none apart still = absurd cc
+raw_way script state passes plan (Some Video) source glyph id number at possible none apart still = absurd cc
 
 -- so is a step that is one
 pub raw_made : (script : Script) (state : State) (passes : Passes) (plan : Plan) (kind named : Option Kind) (glyph : Option ℕ) (id number : ℕ) (at : Point) (step : Step) → step ≡ Paint id number at named glyph
-    → CanBeSent (made_as script state passes plan kind step) → clear_paint_of step kind ≡ None → sends_tiles kind step ≡ false
+    → CanBeSent (made_as script state passes plan kind step) → clear_paint_of script.thin step kind ≡ None → sends_tiles script.thin kind step ≡ false → is_video_paint script.thin kind step ≡ false
     → GoesRaw script state passes plan kind (slice_get script.pictures number) glyph id at
 unfolding made_as
-raw_made script state passes plan kind named glyph id number at step is possible none apart =
-    let possible_there : CanBeSent (paint_made script state passes plan (goes_by kind) (slice_get script.pictures number) glyph id at) = rw is at possible in
-    let made = raw_way script state passes plan (goes_by kind) (slice_get script.pictures number) glyph id number at possible_there (rw is at none) (rw is at apart) in
+raw_made script state passes plan kind named glyph id number at step is possible none apart still =
+    let possible_there : CanBeSent (paint_made script state passes plan (goes_by script.thin kind) (slice_get script.pictures number) glyph id at) = rw is at possible in
+    let made = raw_way script state passes plan (goes_by script.thin kind) (slice_get script.pictures number) glyph id number at possible_there (rw is at none) (rw is at apart) (rw is at still) in
     let some = is_painted _ plan (subst CanBeSent made possible_there) in
     record { made = made; there = some.0; fits = some.1 }
 
 pub raw_made_is : {V E : Type 0} (result : Result V E) (items : V → List Pdu) (script : Script) (state : State) (passes : Passes) (plan : Plan) (kind named : Option Kind) (glyph : Option ℕ) (id number : ℕ) (at : Point) (step : Step) (pdu : Pdu)
-    → step ≡ Paint id number at named glyph → CanBeSent (made_as script state passes plan kind step) → clear_paint_of step kind ≡ None → sends_tiles kind step ≡ false
+    → step ≡ Paint id number at named glyph → CanBeSent (made_as script state passes plan kind step) → clear_paint_of script.thin step kind ≡ None → sends_tiles script.thin kind step ≡ false → is_video_paint script.thin kind step ≡ false
     → painting None state.clear (get state.shown.surfaces id) (slice_get script.pictures number) None id at ≡ Some pdu → IfOk result (λ v. items v ≡ pdu ∷ [])
     → IfOk result (λ v. made_as script state passes plan kind step ≡ made (items v) plan)
 unfolding made_as
-raw_made_is (Err e) items script state passes plan kind named glyph id number at step pdu is possible none apart paints alone_so = tt
-raw_made_is (Ok v) items script state passes plan kind named glyph id number at step pdu is possible none apart paints alone_so =
-    let goes = raw_made script state passes plan kind named glyph id number at step is possible none apart in
+raw_made_is (Err e) items script state passes plan kind named glyph id number at step pdu is possible none apart still paints alone_so = tt
+raw_made_is (Ok v) items script state passes plan kind named glyph id number at step pdu is possible none apart still paints alone_so =
+    let goes = raw_made script state passes plan kind named glyph id number at step is possible none apart still in
     ap (made_as script state passes plan kind) is ∙ goes.made ∙ ap (λ o. alone o plan) paints ∙ ap (λ z. made z plan) (sym alone_so)
 
 -- the message, from its parts

@@ -21,30 +21,31 @@ use Rattle.gfx_planner.proofs.Whole.{FineStep, gone, whole}
 use Rattle.gfx_planner.proofs.SurfaceSteps.{Fine, copy_fine, delete_fine, fill_fine, frame_fine, map_fine, reset_fine, surface_fine}
 use Rattle.gfx_planner.proofs.PaintSteps.{paint_fine}
 use Rattle.gfx_planner.proofs.BitmapSteps.{forget_fine, keep_fine, show_fine}
+use Rattle.gfx_quant.specs.Setting.{IsSetting}
 
 -- a step that isn't painted in passes
-apart_fine : (script : Script) (server : Server) (kind : Option Kind) (held after : Held) (step : Step) → sends_tiles kind step ≡ false → HoldsSeen script held server → IsStep step → GoesAs kind step → held_after held step ≡ Ok after
+apart_fine : (script : Script) (server : Server) (kind : Option Kind) (held after : Held) (step : Step) → sends_tiles script.thin kind step ≡ false → IsSetting script.setting → HoldsSeen script held server → IsStep step → GoesAs kind step → held_after held step ≡ Ok after
     → Fine script server (as_kind kind step) after
-apart_fine script server kind held after (Surface id width height format) apart holds numbers goes checked = surface_fine script server kind held after id width height format holds numbers checked
-apart_fine script server kind held after (Delete id) apart holds numbers goes checked = delete_fine script server kind held after id holds numbers checked
-apart_fine script server kind held after (Reset width height) apart holds numbers goes checked = reset_fine script server kind held after width height holds numbers checked
-apart_fine script server kind held after (Map id x y) apart holds numbers goes checked = map_fine script server kind held after id x y holds numbers checked
-apart_fine script server kind held after (Copy from to rect points) apart holds numbers goes checked = copy_fine script server kind held after from to rect points holds numbers checked
-apart_fine script server kind held after (Fill id colour rects) apart holds numbers goes checked = fill_fine script server kind held after id colour rects holds numbers checked
-apart_fine script server kind held after (Keep id key rect) apart holds numbers goes checked = keep_fine script server kind held after id key rect holds numbers checked
-apart_fine script server kind held after (Show key to points) apart holds numbers goes checked = show_fine script server kind held after key to points holds numbers checked
-apart_fine script server kind held after (Forget key) apart holds numbers goes checked = forget_fine script server kind held after key holds numbers checked
-apart_fine script server kind held after (Paint id picture at named glyph) apart holds numbers goes checked = paint_fine script server kind held after id picture at named glyph apart holds numbers goes checked
-apart_fine script server kind held after (Improve id) apart holds numbers goes checked = absurd cc
-apart_fine script server kind held after Frame apart holds numbers goes checked = frame_fine script server kind held after holds checked
+apart_fine script server kind held after (Surface id width height format) apart setting holds numbers goes checked = surface_fine script server kind held after id width height format holds numbers checked
+apart_fine script server kind held after (Delete id) apart setting holds numbers goes checked = delete_fine script server kind held after id holds numbers checked
+apart_fine script server kind held after (Reset width height) apart setting holds numbers goes checked = reset_fine script server kind held after width height holds numbers checked
+apart_fine script server kind held after (Map id x y) apart setting holds numbers goes checked = map_fine script server kind held after id x y holds numbers checked
+apart_fine script server kind held after (Copy from to rect points) apart setting holds numbers goes checked = copy_fine script server kind held after from to rect points holds numbers checked
+apart_fine script server kind held after (Fill id colour rects) apart setting holds numbers goes checked = fill_fine script server kind held after id colour rects holds numbers checked
+apart_fine script server kind held after (Keep id key rect) apart setting holds numbers goes checked = keep_fine script server kind held after id key rect holds numbers checked
+apart_fine script server kind held after (Show key to points) apart setting holds numbers goes checked = show_fine script server kind held after key to points holds numbers checked
+apart_fine script server kind held after (Forget key) apart setting holds numbers goes checked = forget_fine script server kind held after key holds numbers checked
+apart_fine script server kind held after (Paint id picture at named glyph) apart setting holds numbers goes checked = paint_fine script server kind held after id picture at named glyph apart setting holds numbers goes checked
+apart_fine script server kind held after (Improve id) apart setting holds numbers goes checked = absurd cc
+apart_fine script server kind held after Frame apart setting holds numbers goes checked = frame_fine script server kind held after holds checked
 
 pub step_fine : (script : Script) (server : Server) (kind : Option Kind) (held after : Held) (step : Step) → Holds script held server → IsStep step → GoesAs kind step → held_after held step ≡ Ok after
     → FineStep script server (as_kind kind step) after
-step_fine script server kind held after step holds numbers goes checked = by (sends_tiles kind step) refl
+step_fine script server kind held after step holds numbers goes checked = by (sends_tiles script.thin kind step) refl
   where
-    by : (b : Bool) → sends_tiles kind step ≡ b → FineStep script server (as_kind kind step) after
+    by : (b : Bool) → sends_tiles script.thin kind step ≡ b → FineStep script server (as_kind kind step) after
     by true passes = passes_fine script server kind held after step passes holds numbers goes checked
-    by false apart = whole script server kind held after step apart holds (apart_fine script server kind held after step apart (seen script held server holds) numbers goes checked)
+    by false apart = whole script server kind held after step apart holds (apart_fine script server kind held after step apart holds.setting (seen script held server holds) numbers goes checked)
 
 pub allowed_fine : (script : Script) (server : Server) (one : KindedStep) (allowed : IsAllowed script server one) → FineStep script server one allowed.after
 allowed_fine script server one allowed =

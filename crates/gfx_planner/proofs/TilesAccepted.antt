@@ -39,7 +39,7 @@ surface_elsewhere surfaces id picture q apart =
     get-insert nat_cmp_total surfaces id picture q ∙ ap (λ b. cond b (Some picture) (get surfaces q)) differ
 
 -- a surface that is put in its own place changes nothing
-put_same : (surfaces : Surfaces) (id : ℕ) (picture : Picture) → get surfaces id ≡ Some picture → insert surfaces id picture ≡ surfaces
+pub put_same : (surfaces : Surfaces) (id : ℕ) (picture : Picture) → get surfaces id ≡ Some picture → insert surfaces id picture ≡ surfaces
 put_same surfaces id picture there = same_map nat_cmp_total nat_cmp-IsAntisymmetric _ _ (λ q. by q (cases_eq q id))
   where
     by : (q : ℕ) → ((q ≡ id) ⊎ (q ≢ id)) → get (insert surfaces id picture) q ≡ get surfaces q
@@ -47,7 +47,7 @@ put_same surfaces id picture there = same_map nat_cmp_total nat_cmp-IsAntisymmet
     by q (inr apart) = surface_elsewhere surfaces id picture q apart
 
 -- of two that are put in one place the later one stays
-put_twice : (surfaces : Surfaces) (id : ℕ) (one other : Picture) → insert (insert surfaces id one) id other ≡ insert surfaces id other
+pub put_twice : (surfaces : Surfaces) (id : ℕ) (one other : Picture) → insert (insert surfaces id one) id other ≡ insert surfaces id other
 put_twice surfaces id one other = same_map nat_cmp_total nat_cmp-IsAntisymmetric _ _ (λ q.
     get-insert nat_cmp_total (insert surfaces id one) id other q
     ∙ ap (cond (eq_by_cmp nat_cmp q id) (Some other)) (get-insert nat_cmp_total surfaces id one q)

@@ -33,7 +33,7 @@ use Rattle.gfx_planner.specs.Tiles.{HoldsLive, HoldsTiles, IsCellOf}
 use Rattle.gfx_planner.specs.Want.{sides_kept}
 use Rattle.gfx_planner.specs.Wire.{Server, passes_by}
 use Rattle.gfx_script.specs.Ways.{goes_by}
-use Rattle.gfx_planner.proofs.Ways.{live_whole}
+use Rattle.gfx_planner.proofs.Ways.{live_left}
 use Rattle.gfx_planner.proofs.Seen.{KeepsTiles}
 use Rattle.gfx_planner.proofs.SurfaceSteps.{none_of, some_of}
 
@@ -56,14 +56,14 @@ number-ended passes None = refl
 number-ended passes (Some written) = refl
 
 -- the number of the next message stays
-pub number-stays : (script : Script) (server : Server) (kind : Option Kind) (step : Step) → sends_tiles kind step ≡ false
+pub number-stays : (script : Script) (server : Server) (kind : Option Kind) (step : Step) → sends_tiles script.thin kind step ≡ false
     → (passes_by script server (as_kind kind step)).next ≡ server.passes.next
 unfolding passes_as
 number-stays script server kind (Delete id) apart = refl
 number-stays script server kind (Improve id) apart = absurd cc
 number-stays script server kind (Paint id picture at named glyph) apart =
     let written = writes_by script (sides_kept server.plan server.state.cache.slots) (Paint id picture at named glyph) in
-    ap (λ (p : Passes). p.next) (live_whole script server.passes (goes_by kind) id (slice_get script.pictures picture) at written apart)
+    (live_left script server.passes (goes_by script.thin kind) id (slice_get script.pictures picture) at written apart).1
     ∙ number-ended server.passes written
 number-stays script server kind step apart = number-ended server.passes (writes_by script (sides_kept server.plan server.state.cache.slots) step)
 
@@ -195,7 +195,7 @@ gone-follow setting live records surfaces id tiles = record {
 
 -- ---- steps
 
-pub tiles-follow : (script : Script) (server : Server) (kind : Option Kind) (step : Step) (next : State) → sends_tiles kind step ≡ false
+pub tiles-follow : (script : Script) (server : Server) (kind : Option Kind) (step : Step) (next : State) → sends_tiles script.thin kind step ≡ false
     → HoldsTiles script.setting server.passes.live server.state.records server.state.shown.surfaces → KeepsTiles step server.state next
     → HoldsTiles script.setting (passes_by script server (as_kind kind step)).live next.records next.shown.surfaces
 unfolding passes_as
@@ -211,7 +211,7 @@ tiles-follow script server kind (Surface id width height format) next apart tile
     (ends-by server.passes written) keeps.0 keeps.2 tiles)
 tiles-follow script server kind (Paint id picture at named glyph) next apart tiles keeps =
     let written = writes_by script (sides_kept server.plan server.state.cache.slots) (Paint id picture at named glyph) in
-    subst (λ (p : Passes). HoldsTiles script.setting p.live next.records next.shown.surfaces) (sym (live_whole script server.passes (goes_by kind) id (slice_get script.pictures picture) at written apart))
+    subst (λ (l : Live). HoldsTiles script.setting l next.records next.shown.surfaces) (sym (live_left script server.passes (goes_by script.thin kind) id (slice_get script.pictures picture) at written apart).0)
     (sides-follow script.setting server.passes.live (ended_by server.passes written).live server.state.records next.records server.state.shown.surfaces next.shown.surfaces
     (ends-by server.passes written) keeps.0 keeps.1 tiles)
 tiles-follow script server kind step next apart tiles keeps =

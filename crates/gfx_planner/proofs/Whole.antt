@@ -41,7 +41,7 @@ passes-agree script server wanted one agree =
     ∙ ap (λ p. passes_as script (sides_kept wanted.plan wanted.slots) wanted.shown.surfaces p one.kind one.step) agree.passes
 
 -- a step that isn't painted in passes
-pub whole : (script : Script) (server : Server) (kind : Option Kind) (held after : Held) (step : Step) → sends_tiles kind step ≡ false → Holds script held server
+pub whole : (script : Script) (server : Server) (kind : Option Kind) (held after : Held) (step : Step) → sends_tiles script.thin kind step ≡ false → Holds script held server
     → Fine script server (as_kind kind step) after → FineStep script server (as_kind kind step) after
 whole script server kind held after step apart holds fine =
     let one : KindedStep = as_kind kind step in

@@ -33,13 +33,15 @@ use Rattle.gfx_planner.specs.Agree.{Agree, Holds}
 use Rattle.gfx_planner.specs.Slots.{sides_in}
 use Rattle.gfx_script.specs.Ways.{goes_by}
 use Rattle.gfx_script.specs.declared.way.Way.{Way}
-use Rattle.gfx_script.specs.declared.way.Way.TheVariants.{Uncompressed, ByLayer, InPasses}
-use Rattle.gfx_planner.specs.Want.{Wanted, drawing, with_bitmap, with_copy, opaque_in, pixels_in, with_painting, with_pixels, with_stamps, bitmap_in, sides_kept, wanted_as}
+use Rattle.gfx_script.specs.declared.way.Way.TheVariants.{Uncompressed, ByLayer, InPasses, Video}
+use Rattle.gfx_planner.specs.Want.{Wanted, drawing, with_bitmap, with_copy, opaque_in, pixels_in, with_painting, with_pixels, with_stamps, bitmap_in, sides_kept, wanted_as, with_video}
 use Rattle.gfx_planner.specs.Wire.{Server}
 use Rattle.gfx_planner.specs.Within.{ChangesWithin, StepsWriteWithin}
 use Rattle.gfx_planner.proofs.Alike.{AlikeAt, AreBeside, alike_both, alike_same, never, outside_drawn, within_drawn, within_insert, within_remove, within_same}
 use Rattle.gfx_planner.proofs.TilesWithin.{within_improved, within_tiles}
 use Rattle.gfx_planner.proofs.Slots.{fits_cache-shows, sides_fit-shows}
+use Rattle.gfx_video_paint.specs.Shown.{shown_as_video}
+use Rattle.gfx_planner.proofs.VideoSteps.{video_alike}
 
 -- pictures ------------------------------------------------------------------------------------------
 
@@ -104,6 +106,14 @@ within_pixels wanted (Some source) pixels id at =
     within_drawn wanted.shown id (place_of source at ∷ []) (λ surface. overlaid surface (place_of source at) (pixels source))
     (λ x y picture beside. overlaid_alike x y picture (place_of source at) (pixels source) beside.0)
 
+within_video : (script : Script) (wanted : Wanted) (o : Option Source) (id : ℕ) (at : Point)
+    → ChangesWithin (option_map (λ source. area id (place_of source at ∷ [])) o) wanted.shown.surfaces (with_video script wanted o id at).shown.surfaces
+unfolding with_video
+within_video script wanted None id at = within_same _ _ _ refl
+within_video script wanted (Some source) id at =
+    within_drawn wanted.shown id (place_of source at ∷ []) (shown_as_video script.setting source (place_of source at))
+    (λ x y picture beside. video_alike x y script.setting source (place_of source at) picture beside.0)
+
 within_paint : (script : Script) (wanted : Wanted) (way : Option Way) (o : Option Source) (id : ℕ) (at : Point)
     → ChangesWithin (option_map (λ source. area id (place_of source at ∷ [])) o) wanted.shown.surfaces (with_painting script wanted way o id at).shown.surfaces
 unfolding with_painting
@@ -111,6 +121,7 @@ within_paint script wanted None o id at = within_same _ _ _ refl
 within_paint script wanted (Some Uncompressed) o id at = within_pixels wanted o pixels_in id at
 within_paint script wanted (Some (ByLayer layer)) o id at = within_pixels wanted o opaque_in id at
 within_paint script wanted (Some InPasses) o id at = within_tiles script wanted o id at
+within_paint script wanted (Some Video) o id at = within_video script wanted o id at
 
 within_keep : (wanted : Wanted) (o : Option Picture) (found : Result (Plan × Kept) Refusal) (key : ℕ) (rect : Rect)
     → ChangesWithin None wanted.shown.surfaces (with_bitmap wanted o found key rect).shown.surfaces
@@ -190,7 +201,7 @@ step_within script held server wanted kind (Show key to points) tied agree =
     within_stamps wanted _ (bitmap_in wanted.slots (slot_of key wanted.plan.places)) to points (shown_area held script server wanted key to points tied agree)
 step_within script held server wanted kind (Forget key) tied agree = within_same None _ _ refl
 step_within script held server wanted kind (Paint id picture at named glyph) tied agree =
-    within_paint script wanted (goes_by kind) (slice_get script.pictures picture) id at
+    within_paint script wanted (goes_by script.thin kind) (slice_get script.pictures picture) id at
 step_within script held server wanted kind (Improve id) tied agree = within_improved script held server wanted (get wanted.shown.surfaces id) id tied agree
 step_within script held server wanted kind Frame tied agree = within_same None _ _ refl
 

@@ -1,5 +1,5 @@
 -- Paints that go by ClearCodec: what a step asks for, and when it can be sent. This project's own rule.
-use Rattle.std.specs.Prelude.{◌≡◌, ℕ, true, List, Option, Some, None}
+use Rattle.std.specs.Prelude.{Bool, ◌≡◌, ℕ, true, List, Option, Some, None}
 use Rattle.std.specs.FinMap.{get}
 use Rattle.std.specs.List.{slice_get}
 use Rattle.gfx_base.specs.Format.{byte_of}
@@ -35,11 +35,12 @@ clear_paint_by None id picture at glyph = None
 clear_paint_by (Some ways.Uncompressed) id picture at glyph = None
 clear_paint_by (Some (ways.ByLayer layer)) id picture at glyph = Some record { id = id; picture = picture; at = at; layer = layer; glyph = glyph }
 clear_paint_by (Some ways.InPasses) id picture at glyph = None
+clear_paint_by (Some ways.Video) id picture at glyph = None
 
 -- the same of a step that goes as a kind
-abbrev pub clear_paint_of : Step → Option Kind → Option ClearPaint
-clear_paint_of (Paint id picture at named glyph) kind = clear_paint_by (goes_by kind) id picture at glyph
-clear_paint_of step kind = None
+abbrev pub clear_paint_of : Bool → Step → Option Kind → Option ClearPaint
+clear_paint_of thin (Paint id picture at named glyph) kind = clear_paint_by (goes_by thin kind) id picture at glyph
+clear_paint_of thin step kind = None
 
 -- the message that paints colours in a rectangle of a surface by a layer
 abbrev pub clear_message : State → ℕ → Format → Rect → List Rgb → Layer → Option ℕ → Pdu

@@ -1,5 +1,5 @@
 -- What a paint by ClearCodec shows is its source: this project's own promise.
-use Rattle.std.specs.Prelude.{◌≡◌, ℕ, ◌+◌, ◌<◌, true, false, Option, Some}
+use Rattle.std.specs.Prelude.{◌≡◌, ℕ, ◌+◌, ◌<◌, true, Option, Some}
 use Rattle.std.specs.FinMap.{get}
 use Rattle.std.specs.List.{slice_get}
 use Rattle.gfx_base.specs.Geometry.{lies_in}
@@ -28,5 +28,5 @@ pub record ShowsSource (surfaces : Surfaces) (id : ℕ) (source : Source) (at : 
 abbrev pub ClearPaintsShowTheirSource : Type 0
 ClearPaintsShowTheirSource =
     (script : Script) (wanted : Wanted) (kind : Kind) (named : Option Kind) (id number : ℕ) (at : Point) (glyph : Option ℕ) (source : Source) (surface : Picture)
-    → is_stream (way_of false kind) ≡ true → slice_get script.pictures number ≡ Some source → get wanted.shown.surfaces id ≡ Some surface → lies_in surface.width surface.height (place_of source at) ≡ true
+    → is_stream (way_of script.thin kind) ≡ true → slice_get script.pictures number ≡ Some source → get wanted.shown.surfaces id ≡ Some surface → lies_in surface.width surface.height (place_of source at) ≡ true
     → ShowsSource (wanted_after script wanted (as_kind (Some kind) (Paint id number at named glyph))).shown.surfaces id source at

@@ -36,6 +36,7 @@ use Rattle.gfx_script.specs.Ways.{goes_by}
 use Rattle.gfx_script.specs.Writes.{place_of}
 use Rattle.gfx_script.specs.declared.way.Way.{Way}
 use Rattle.gfx_script.specs.declared.way.Way.TheVariants as ways
+use Rattle.gfx_video_paint.specs.Shown.{shown_as_video}
 use Rattle.gfx_planner.specs.Passes.{passes_as}
 use Rattle.gfx_planner.specs.Slots.{emptied, sides_in}
 
@@ -132,12 +133,18 @@ with_tiles script wanted None id at = wanted
 with_tiles script wanted (Some picture) id at =
     drawing wanted id (after_showing id (painted_sends script wanted.passes.live id picture (place_of picture at)))
 
+-- a picture is painted as video: each pixel of its place shows as its tile makes it
+unfoldable pub with_video : Script → Wanted → Option Source → ℕ → Point → Wanted
+with_video script wanted None id at = wanted
+with_video script wanted (Some picture) id at = drawing wanted id (shown_as_video script.setting picture (place_of picture at))
+
 -- a picture is painted, and shows as it does in the way in which it goes
 unfoldable pub with_painting : Script → Wanted → Option Way → Option Source → ℕ → Point → Wanted
 with_painting script wanted None source id at = wanted
 with_painting script wanted (Some ways.Uncompressed) source id at = with_pixels wanted source pixels_in id at
 with_painting script wanted (Some (ways.ByLayer layer)) source id at = with_pixels wanted source opaque_in id at
 with_painting script wanted (Some ways.InPasses) source id at = with_tiles script wanted source id at
+with_painting script wanted (Some ways.Video) source id at = with_video script wanted source id at
 
 -- the tiles of a surface that can be raised show as they do at the next level
 unfoldable pub with_improved : Wanted → Option Picture → ℕ → Wanted
@@ -163,7 +170,7 @@ wanted_as script wanted kind (Forget key) = record wanted {
   slots = without_slot wanted.slots (slot_of key wanted.plan.places);
 }
 wanted_as script wanted kind (Paint id picture at named glyph) =
-    with_painting script wanted (goes_by kind) (slice_get script.pictures picture) id at
+    with_painting script wanted (goes_by script.thin kind) (slice_get script.pictures picture) id at
 wanted_as script wanted kind (Improve id) = with_improved wanted (get wanted.shown.surfaces id) id
 wanted_as script wanted kind Frame = wanted
 

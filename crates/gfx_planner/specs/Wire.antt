@@ -34,10 +34,15 @@ use Rattle.gfx_slot_plan.specs.declared.kept.Kept.{Kept}
 use Rattle.gfx_slot_plan.specs.Plan.{Plan, plan, keeps, slot_of, touched, forgotten}
 use Rattle.gfx_state.specs.State.{State, started}
 use Rattle.gfx_state.specs.Sending.{all_steps, IsCarried}
-use Rattle.gfx_state.specs.Codecs.{PROGRESSIVE, id_of}
+use Rattle.gfx_rlgr.specs.declared.mode.Mode.{Mode}
+use Rattle.gfx_rlgr.specs.declared.mode.Mode.TheVariants.{Rlgr1, Rlgr3}
+use Rattle.gfx_script.specs.declared.step.Entropy.{Entropy}
+use Rattle.gfx_script.specs.declared.step.Entropy.TheVariants.{One, Three}
+use Rattle.gfx_state.specs.Codecs.{PROGRESSIVE, VIDEO, id_of}
 use Rattle.gfx_state.specs.declared.codec.Codec.{Codec}
 use Rattle.gfx_state.specs.declared.codec.Codec.TheVariants.{Uncompressed, ClearCodec}
 use Rattle.gfx_surface.specs.Picture.{Picture}
+use Rattle.gfx_video_paint.specs.Video.{video_payloads}
 use Rattle.gfx_planner.specs.Passes.{passes_as}
 use Rattle.gfx_planner.specs.Want.{pixels_in, colours_in, sides_kept}
 
@@ -125,6 +130,21 @@ painting_in_passes script passes (Some surface) (Some picture) id at next =
     made (map (passes_message id surface.format) (paint_all script.setting (painted_sends script passes.live id picture (place_of picture at)) passes.next)) next
 painting_in_passes script passes surface picture id at next = None
 
+-- the entropy coder of a script's video
+abbrev pub mode_of : Entropy → Mode
+mode_of One = Rlgr1
+mode_of Three = Rlgr3
+
+-- the message that carries data of video for a rectangle of a surface, in the surface's format
+abbrev pub video_message : ℕ → Format → Rect → List ℕ → Pdu
+video_message id format rect payload = WireToSurface1 id VIDEO (byte_of format) rect payload
+
+-- the messages that paint a picture as video, where there are a surface and a picture
+unfoldable pub painting_as_video : Script → ℕ → Option Picture → Option Source → ℕ → Point → Plan → Option Made
+painting_as_video script number (Some surface) (Some picture) id at next =
+    made (map (video_message id surface.format (place_of picture at)) (video_payloads script.setting (mode_of script.entropy) picture number)) next
+painting_as_video script number surface picture id at next = None
+
 -- the messages that raise the live tiles of a surface
 unfoldable pub improving : Script → Passes → Option Picture → ℕ → Plan → Option Made
 improving script passes None id next = None
@@ -140,6 +160,8 @@ paint_made script state passes old (Some (ways.ByLayer layer)) source glyph id a
     alone (painting (Some layer) state.clear (get state.shown.surfaces id) source glyph id at) old
 paint_made script state passes old (Some ways.InPasses) source glyph id at =
     painting_in_passes script passes (get state.shown.surfaces id) source id at old
+paint_made script state passes old (Some ways.Video) source glyph id at =
+    painting_as_video script passes.videos (get state.shown.surfaces id) source id at old
 
 -- what a step is made into that goes as a kind, inside a frame, in this state, with these tiles and
 -- this choice of slots; none where it can't be put, which no step is that passes its checks
@@ -154,7 +176,7 @@ made_as script state passes old kind (Keep id key rect) = keeping (keeps old key
 made_as script state passes old kind (Show key to points) = alone (showing_slot (slot_of key old.places) to points) (touched old key)
 made_as script state passes old kind (Forget key) = alone (emptying (slot_of key old.places)) (forgotten old key)
 made_as script state passes old kind (Paint id picture at named glyph) =
-    paint_made script state passes old (goes_by kind) (slice_get script.pictures picture) glyph id at
+    paint_made script state passes old (goes_by script.thin kind) (slice_get script.pictures picture) glyph id at
 made_as script state passes old kind (Improve id) = improving script passes (get state.shown.surfaces id) id old
 made_as script state passes old kind Frame = made [] old
 

@@ -17,9 +17,9 @@ pub struct ClearPaint {
     pub glyph: Option<u16>,
 }
 
-/// The paint by ClearCodec that a step is which goes as a kind, if it is one.
-pub fn clear_paint(step: &Step, kind: Option<Kind>) -> Option<ClearPaint>
-    ensures { result ≡ clear_paint_of step.now kind }
+/// The paint by ClearCodec that a step is which goes as a kind, if it is one. A client may be thin.
+pub fn clear_paint(step: &Step, kind: Option<Kind>, thin: bool) -> Option<ClearPaint>
+    ensures { result ≡ clear_paint_of thin step.now kind }
 {
     let (
         Step::Paint {
@@ -34,7 +34,7 @@ pub fn clear_paint(step: &Step, kind: Option<Kind>) -> Option<ClearPaint>
     else {
         return None;
     };
-    let Way::ByLayer(layer) = kind.way(false) else {
+    let Way::ByLayer(layer) = kind.way(thin) else {
         return None;
     };
     Some(ClearPaint {

@@ -14,6 +14,7 @@ mod planner;
 mod sender;
 mod step_sending;
 mod streaming;
+mod video;
 
 pub use laws::{
     clear_paints_show_their_source, joined_frames_are_shown, live_tiles_are_shown,

@@ -10,7 +10,7 @@ ghost use Rattle.gfx_script.specs.Script.{IsStep};
 ghost use Rattle.gfx_state.specs.Sending.{IsCarried};
 ghost use Rattle.gfx_pdu.specs.declared.pdu.Pdu.TheVariants.{CreateSurface, SolidFill, SurfaceToSurface, ResetGraphics, MapSurfaceToOutput, EvictCacheEntry};
 ghost use Rattle.gfx_planner.specs.ClearPaints.{clear_paint_of};
-ghost use Rattle.gfx_planner.specs.Passes.{sends_tiles};
+ghost use Rattle.gfx_planner.specs.Passes.{is_video_paint, sends_tiles};
 ghost use Rattle.gfx_planner.specs.Wire.{CanBeSent, made, made_as, one_monitor, painting, keeping, showing_slot, emptying};
 
 use crate::paint::raw_payload;
@@ -26,7 +26,7 @@ use std::alloc::Global;
 /// The flag of the primary monitor ([MS-RDPBCGR] TS_MONITOR_PRIMARY).
 pub const PRIMARY: u32 = 1;
 
-/// The messages of a step that goes as a kind other than those of ClearCodec, and isn't painted in passes, in the
+/// The messages of a step that goes as a kind other than those of ClearCodec, and neither in passes nor as video, in the
 /// state before it. The choice of slots goes on by the step.
 #[tactic(auto, unfolding(crate::specs::Wire::made_as))]
 pub fn step_messages(
@@ -39,8 +39,9 @@ pub fn step_messages(
 ) -> Result<Vec<Pdu>, NoMemory>
     requires numbers { IsStep step.now }
     requires possible { CanBeSent (made_as script.now state.now at_start plan.old kind step.now) }
-    requires messages { clear_paint_of step.now kind ≡ None }
-    requires apart { sends_tiles kind step.now ≡ false }
+    requires messages { clear_paint_of script.now.thin step.now kind ≡ None }
+    requires apart { sends_tiles script.now.thin kind step.now ≡ false }
+    requires still { is_video_paint script.now.thin kind step.now ≡ false }
     ensures { IfOk result (λ pdus. made_as script.now state.now at_start plan.old kind step.now ≡ made pdus.items plan.new) }
 {
     match step {
@@ -69,7 +70,7 @@ pub fn step_messages(
             at,
             ..
         } => {
-            // What goes by ClearCodec or in passes isn't made into messages here: it goes uncompressed.
+            // What goes by ClearCodec, in passes or as video isn't made into messages here: it goes uncompressed.
             alone(
                 alloc,
                 paint_picture(alloc, script, state, *id, *picture, *at)?,

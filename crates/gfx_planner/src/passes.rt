@@ -10,7 +10,7 @@ ghost use Rattle.gfx_script.specs.declared.step.Kind.{Kind};
 ghost use Rattle.gfx_script.specs.Ways.{goes_by};
 ghost use Rattle.gfx_script.specs.Writes.{area, at_each, place_of};
 ghost use Rattle.gfx_slot_plan.specs.Plan.{Plan};
-ghost use Rattle.gfx_planner.specs.Passes.{FitsAt, MayGoInPasses, ended_by, goes_in_passes, improved_passes, painted_passes, passes_as, sends_tiles};
+ghost use Rattle.gfx_planner.specs.Passes.{FitsAt, MayGoAsTiles, ended_by, goes_in_passes, improved_passes, is_video_paint, painted_passes, passes_as, sends_tiles};
 ghost use Rattle.gfx_planner.specs.Slots.{PlanFitsCache};
 ghost use Rattle.gfx_planner.specs.Want.{sides_kept};
 ghost use Rattle.gfx_planner.specs.Wire.{CanBeSent, improving, made, made_as, painting_in_passes, passes_message};
@@ -24,23 +24,24 @@ use gfx_script::{Kind, Script, Step};
 use gfx_slot_plan::SlotPlan;
 use std::alloc::Global;
 
-/// Whether a step that goes as a kind sends tiles: a paint in passes, or an improvement.
-pub fn sends_tiles(step: &Step, kind: Option<Kind>) -> bool
-    ensures { result ≡ sends_tiles kind step.now }
+/// Whether a step that goes as a kind sends tiles that may be raised: a paint in passes, or an improvement. A client may
+/// be thin.
+pub fn sends_tiles(step: &Step, kind: Option<Kind>, thin: bool) -> bool
+    ensures { result ≡ sends_tiles thin kind step.now }
 {
     match step {
-        Step::Paint { .. } => goes_in_passes(kind),
+        Step::Paint { .. } => goes_in_passes(kind, thin),
         Step::Improve { .. } => true,
         _ => false,
     }
 }
 
 /// Whether the picture of a paint that goes as a kind goes in passes.
-fn goes_in_passes(kind: Option<Kind>) -> bool
-    ensures { result ≡ goes_in_passes (goes_by kind) }
+fn goes_in_passes(kind: Option<Kind>, thin: bool) -> bool
+    ensures { result ≡ goes_in_passes (goes_by thin kind) }
 {
     match kind {
-        Some(kind) => kind.way(false).is_in_passes(),
+        Some(kind) => kind.way(thin).is_in_passes(),
         None => false,
     }
 }
@@ -55,9 +56,9 @@ pub fn passes_messages(
     step: &Step,
     kind: Option<Kind>,
 ) -> Result<Vec<Pdu>, NoMemory>
-    requires in_passes { sends_tiles kind step.now ≡ true }
+    requires in_passes { sends_tiles script.now.thin kind step.now ≡ true }
     requires possible { CanBeSent (made_as script.now state.now passes.old plan.now kind step.now) }
-    requires may { MayGoInPasses script.now passes.old step.now }
+    requires may { MayGoAsTiles script.now passes.old step.now }
     ensures made { IfOk result (λ pdus. made_as script.now state.now passes.old plan.now kind step.now ≡ made pdus.items plan.now) }
     ensures passes { IfOk result (λ _. passes.new ≡ passes_as script.now (sides_kept plan.now state.now.cache.slots) state.now.shown.surfaces passes.old kind step.now) }
 {
@@ -142,8 +143,8 @@ fn as_messages(
     Ok(pdus.collect(alloc)?)
 }
 
-/// Ends the tiles that a step changes which isn't painted in passes: those of a surface that it deletes, or of the
-/// cells in which it writes.
+/// Ends the tiles that a step changes which goes neither in passes nor as video: those of a surface that it deletes, or of
+/// the cells in which it writes.
 pub fn end_touched(
     script: &Script,
     state: &State,
@@ -153,7 +154,7 @@ pub fn end_touched(
 )
     requires plan { PlanFitsCache plan.now state.now.cache }
     requires fits { FitsAt script.now (sides_kept plan.now state.now.cache.slots) step.now }
-    ensures { (kind : Option Kind) → sends_tiles kind step.now ≡ false
+    ensures { (kind : Option Kind) → sends_tiles script.now.thin kind step.now ≡ false → is_video_paint script.now.thin kind step.now ≡ false
         → passes.new ≡ passes_as script.now (sides_kept plan.now state.now.cache.slots) state.now.shown.surfaces passes.old kind step.now }
 {
     match step {
@@ -231,7 +232,7 @@ fn end_shown(
 }
 
 /// The same of a picture, where it is there, its top left corner at a place.
-fn end_painted(script: &Script, passes: &mut Passes, id: u16, picture: u32, at: Point)
+pub fn end_painted(script: &Script, passes: &mut Passes, id: u16, picture: u32, at: Point)
     requires { IfSome (slice_get script.now.pictures picture) (λ source. IsRect (place_of source at)) }
     ensures { passes.new ≡ ended_by passes.old (option_map (λ source. area id (place_of source at ∷ [])) (slice_get script.now.pictures picture)) }
 {

@@ -1,11 +1,12 @@
-//! Sending what a step is made into: its messages, those of passes among them, or a paint whose stream the server's end writes and draws at once.
+//! Sending what a step is made into: its messages, those of passes and of video among them, or a paint whose stream the
+//! server's end writes and draws at once.
 ghost use Rattle.std.specs.Prelude.{◌≡◌, ◌∷◌, [], IfSome, OnOk, false, true};
 ghost use Rattle.std.specs.FinMap.{get};
 ghost use Rattle.std.specs.List.{slice_get};
 ghost use Rattle.gfx_live.specs.Live.{at_start};
 ghost use Rattle.gfx_script.specs.Script.{IsStep};
 ghost use Rattle.gfx_planner.specs.ClearPaints.{MayPaintClear, clear_paint_of};
-ghost use Rattle.gfx_planner.specs.Passes.{FitsAt, MayGoInPasses, sends_tiles, passes_as};
+ghost use Rattle.gfx_planner.specs.Passes.{FitsAt, MayGoAsTiles, is_video_paint, sends_tiles, passes_as};
 ghost use Rattle.gfx_planner.specs.Planned.{MaySend, SendsMade, SendsMessages};
 ghost use Rattle.gfx_planner.specs.Slots.{PlanFitsCache};
 ghost use Rattle.gfx_planner.specs.Want.{sides_kept};
@@ -16,6 +17,7 @@ use crate::messages::step_messages;
 use crate::paint::colours;
 use crate::passes::{end_touched, passes_messages, sends_tiles};
 use crate::sender::Sender;
+use crate::video::{is_video_paint, video_paint_messages};
 use gfx_base::{Bytes, NoMemory, Rect, moved_to};
 use gfx_live::Passes;
 use gfx_script::{Kind, Script, Step};
@@ -37,15 +39,18 @@ pub fn send_step(
     requires numbers { IsStep step.now }
     requires possible { CanBeSent (made_as script.now sender.old passes.old plan.old kind step.now) }
     requires accepted { IfSome (made_as script.now sender.old passes.old plan.old kind step.now) (λ into. MaySend sender.old into.pdus) }
-    requires paint { IfSome (clear_paint_of step.now kind) (MayPaintClear script.now sender.old) }
-    requires passes { sends_tiles kind step.now ≡ true → MayGoInPasses script.now passes.old step.now }
+    requires paint { IfSome (clear_paint_of script.now.thin step.now kind) (MayPaintClear script.now sender.old) }
+    requires tiles { MayGoAsTiles script.now passes.old step.now }
     requires plan { PlanFitsCache plan.old sender.old.cache }
-    requires fits { sends_tiles kind step.now ≡ false → FitsAt script.now (sides_kept plan.old sender.old.cache.slots) step.now }
+    requires fits { sends_tiles script.now.thin kind step.now ≡ false → FitsAt script.now (sides_kept plan.old sender.old.cache.slots) step.now }
     ensures made { SendsMade result sender.old sender.new plan.new out.old out.new (made_as script.now sender.old passes.old plan.old kind step.now) }
     ensures passes { OnOk result (passes.new ≡ passes_as script.now (sides_kept plan.old sender.old.cache.slots) sender.old.shown.surfaces passes.old kind step.now) }
 {
-    if sends_tiles(step, kind) {
+    if sends_tiles(step, kind, script.thin()) {
         return send_in_passes(alloc, sender, plan, passes, script, step, kind, out);
+    }
+    if is_video_paint(step, kind, script.thin()) {
+        return send_as_video(alloc, sender, plan, passes, script, step, kind, out);
     }
     end_touched(script, sender.state(), plan, passes, step);
     send_apart(alloc, sender, plan, script, step, kind, out)
@@ -62,14 +67,36 @@ fn send_in_passes(
     kind: Option<Kind>,
     out: &mut Bytes,
 ) -> Result<(), NoMemory>
-    requires in_passes { sends_tiles kind step.now ≡ true }
+    requires in_passes { sends_tiles script.now.thin kind step.now ≡ true }
     requires possible { CanBeSent (made_as script.now sender.old passes.old plan.now kind step.now) }
     requires accepted { IfSome (made_as script.now sender.old passes.old plan.now kind step.now) (λ into. MaySend sender.old into.pdus) }
-    requires may { MayGoInPasses script.now passes.old step.now }
+    requires may { MayGoAsTiles script.now passes.old step.now }
     ensures made { SendsMade result sender.old sender.new plan.now out.old out.new (made_as script.now sender.old passes.old plan.now kind step.now) }
     ensures passes { OnOk result (passes.new ≡ passes_as script.now (sides_kept plan.now sender.old.cache.slots) sender.old.shown.surfaces passes.old kind step.now) }
 {
     let pdus = passes_messages(alloc, script, sender.state(), passes, plan, step, kind)?;
+    sender.send(pdus.as_slice(), out)
+}
+
+/// The same of a paint that goes as video.
+fn send_as_video(
+    alloc: Global,
+    sender: &mut Sender,
+    plan: &SlotPlan,
+    passes: &mut Passes,
+    script: &Script,
+    step: &Step,
+    kind: Option<Kind>,
+    out: &mut Bytes,
+) -> Result<(), NoMemory>
+    requires video { is_video_paint script.now.thin kind step.now ≡ true }
+    requires possible { CanBeSent (made_as script.now sender.old passes.old plan.now kind step.now) }
+    requires accepted { IfSome (made_as script.now sender.old passes.old plan.now kind step.now) (λ into. MaySend sender.old into.pdus) }
+    requires may { MayGoAsTiles script.now passes.old step.now }
+    ensures made { SendsMade result sender.old sender.new plan.now out.old out.new (made_as script.now sender.old passes.old plan.now kind step.now) }
+    ensures passes { OnOk result (passes.new ≡ passes_as script.now (sides_kept plan.now sender.old.cache.slots) sender.old.shown.surfaces passes.old kind step.now) }
+{
+    let pdus = video_paint_messages(alloc, script, sender.state(), passes, plan, step, kind)?;
     sender.send(pdus.as_slice(), out)
 }
 
@@ -84,13 +111,14 @@ fn send_apart(
     out: &mut Bytes,
 ) -> Result<(), NoMemory>
     requires numbers { IsStep step.now }
-    requires apart { sends_tiles kind step.now ≡ false }
+    requires apart { sends_tiles script.now.thin kind step.now ≡ false }
+    requires still { is_video_paint script.now.thin kind step.now ≡ false }
     requires possible { CanBeSent (made_as script.now sender.old at_start plan.old kind step.now) }
     requires accepted { IfSome (made_as script.now sender.old at_start plan.old kind step.now) (λ into. MaySend sender.old into.pdus) }
-    requires paint { IfSome (clear_paint_of step.now kind) (MayPaintClear script.now sender.old) }
+    requires paint { IfSome (clear_paint_of script.now.thin step.now kind) (MayPaintClear script.now sender.old) }
     ensures { SendsMade result sender.old sender.new plan.new out.old out.new (made_as script.now sender.old at_start plan.old kind step.now) }
 {
-    match clear_paint(step, kind) {
+    match clear_paint(step, kind, script.thin()) {
         Some(paint) => send_paint(alloc, sender, script, &paint, out),
         None => {
             let pdus = step_messages(alloc, script, sender.state(), plan, step, kind)?;

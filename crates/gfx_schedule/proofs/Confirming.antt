@@ -1,6 +1,6 @@
 -- The version that a server's end confirms of the offers of a script.
 use Rattle.std.proofs.Common.{◌≡◌, ℕ, ◌+◌, ◌<◌, ◌≤◌, ◌^◌, ◌==◌, Bool, true, false, ◌&&◌, ◌||◌, not, bit_and, if◌then◌else◌, List, [], ◌∷◌, ◌++◌, length, map, Option, Some, None, Ok, IsTrue, refl, sym, ap, ◌∙◌, arith, inl, inr, eq-eqb}
-use Rattle.std.proofs.lemmas.Bool.{cases_Bool, eqb-true}
+use Rattle.std.proofs.lemmas.Bool.{cases_Bool, eqb-true, and_parts}
 use Rattle.std.specs.Int.{w32}
 use Rattle.std.specs.List.{find, AllByRecursion}
 use Rattle.gfx_base.specs.Field.{number_at}
@@ -11,9 +11,9 @@ use Rattle.gfx_bitmap_cache.specs.Slots.{cached}
 use Rattle.gfx_layout.specs.Shape.{digits, u32}
 use Rattle.gfx_caps.specs.declared.choice.Chosen.{Chosen}
 use Rattle.gfx_caps.specs.declared.offer.Offer.{Offer}
-use Rattle.gfx_caps.specs.declared.versions.TheConstants.{VERSION_8, VERSION_8_1, VERSION_10, FLAGS_SIZE, SMALL_CACHE, AVC_DISABLED}
-use Rattle.gfx_caps.specs.Choice.{has_flag, confirmed, choice}
-use Rattle.gfx_caps.specs.Offers.{set_offered, is_small, offer_of, IsOffer, advertised}
+use Rattle.gfx_caps.specs.declared.versions.TheConstants.{VERSION_8, VERSION_8_1, VERSION_10, FLAGS_SIZE, THIN_CLIENT, SMALL_CACHE, AVC_DISABLED}
+use Rattle.gfx_caps.specs.Choice.{allows, binds_small, choice, confirmed}
+use Rattle.gfx_caps.specs.Offers.{set_offered, is_small, offer_of, offers_version, IsOffer, advertised}
 use Rattle.gfx_caps.proofs.OfferLaws.{body_from, found}
 use Rattle.gfx_pdu.specs.declared.pdu.Pdu.TheVariants.{CapsConfirm}
 use Rattle.gfx_pdu.specs.Spelling.{size}
@@ -40,25 +40,32 @@ pub record IsChosen (chosen : Chosen) : Type 0 where
   pub word : length (digits u32 chosen.flags) ≡ FLAGS_SIZE
   pub flags : number_at w32 (digits u32 chosen.flags) 0 ≡ chosen.flags
 
--- of an offer that is small or not, and of version 10 or not
-abbrev of_bools : ℕ → Bool → Bool → Bool → Chosen
-of_bools version small ten keeps =
-    record { version = version; flags = bit_and (number_at w32 (body_from small ten) 0) (if keeps then SMALL_CACHE + AVC_DISABLED else SMALL_CACHE) }
+-- the flags that are kept of an offer that is small or not, thin or not, and of version 10 or not
+abbrev kept_from : Bool → Bool → Bool → Bool → ℕ
+kept_from small thin ten keeps =
+    bit_and (number_at w32 (body_from small thin ten) 0) (if keeps then SMALL_CACHE + AVC_DISABLED else SMALL_CACHE + THIN_CLIENT)
 
-word_of : (small ten keeps : Bool) → (let flags = bit_and (number_at w32 (body_from small ten) 0) (if keeps then SMALL_CACHE + AVC_DISABLED else SMALL_CACHE) in
-    (length (digits u32 flags) ≡ FLAGS_SIZE) × (number_at w32 (digits u32 flags) 0 ≡ flags))
-word_of true true true = (refl, refl)
-word_of true true false = (refl, refl)
-word_of true false true = (refl, refl)
-word_of true false false = (refl, refl)
-word_of false true true = (refl, refl)
-word_of false true false = (refl, refl)
-word_of false false true = (refl, refl)
-word_of false false false = (refl, refl)
+word_of : (small thin ten keeps : Bool) → (length (digits u32 (kept_from small thin ten keeps)) ≡ FLAGS_SIZE) × (number_at w32 (digits u32 (kept_from small thin ten keeps)) 0 ≡ kept_from small thin ten keeps)
+word_of true true true true = (refl, refl)
+word_of true true true false = (refl, refl)
+word_of true true false true = (refl, refl)
+word_of true true false false = (refl, refl)
+word_of true false true true = (refl, refl)
+word_of true false true false = (refl, refl)
+word_of true false false true = (refl, refl)
+word_of true false false false = (refl, refl)
+word_of false true true true = (refl, refl)
+word_of false true true false = (refl, refl)
+word_of false true false true = (refl, refl)
+word_of false true false false = (refl, refl)
+word_of false false true true = (refl, refl)
+word_of false false true false = (refl, refl)
+word_of false false false true = (refl, refl)
+word_of false false false false = (refl, refl)
 
 is_chosen : (version : ℕ) (offer : Offer) → is_version version ≡ true → version < 2 ^ 32 → IsChosen (confirmed version (set_offered offer))
 is_chosen version offer known fits =
-    let word = word_of offer.small (offer.version == VERSION_10) (version == VERSION_10) in
+    let word = word_of offer.small offer.thin (offer.version == VERSION_10) (version == VERSION_10) in
     record { version = known; fits = fits; word = word.0; flags = word.1 }
 
 -- some offer is chosen ---------------------------------------------------------------------------------------
@@ -98,17 +105,21 @@ pub some_chosen : (offers : List Offer) → 1 ≤ length offers → AllByRecursi
 some_chosen [] some all = absurd (omega (arith, some))
 some_chosen (offer ∷ offers) some all =
     chooses (offer ∷ offers) (offer_of VERSION_10 (offer ∷ offers)) (offer_of VERSION_8_1 (offer ∷ offers)) (offer_of VERSION_8 (offer ∷ offers)) refl refl refl
-    (λ a b c. none_missing (offer.version == VERSION_10) (offer.version == VERSION_8_1) (offer.version == VERSION_8) all.0
-    (missed (λ (z : Offer). z.version == VERSION_10) offer offers a) (missed (λ (z : Offer). z.version == VERSION_8_1) offer offers b) (missed (λ (z : Offer). z.version == VERSION_8) offer offers c))
+    (λ a b c. none_missing (offers_version VERSION_10 offer) (offers_version VERSION_8_1 offer) (offers_version VERSION_8 offer) all.0
+    (missed (offers_version VERSION_10) offer offers a) (missed (offers_version VERSION_8_1) offer offers b) (missed (offers_version VERSION_8) offer offers c))
+
+-- an offer of a version has its number
+of_version : (version : ℕ) (offer : Offer) → offers_version version offer ≡ true → offer.version ≡ version
+of_version version offer is = eqb-true offer.version version (and_parts (offer.version == version) (allows version offer.thin) is).0
 
 pub version_fits : (offer : Offer) → IsOffer offer → offer.version < 2 ^ 32
-version_fits offer is = elim (cases_Bool (offer.version == VERSION_10)) [
-  | inl ten ↦ (let same : offer.version ≡ VERSION_10 = eqb-true offer.version VERSION_10 ten in omega (arith, same))
-  | inr other ↦ elim (cases_Bool (offer.version == VERSION_8_1)) [
-    | inl middle ↦ (let same : offer.version ≡ VERSION_8_1 = eqb-true offer.version VERSION_8_1 middle in omega (arith, same))
-    | inr last ↦ elim (cases_Bool (offer.version == VERSION_8)) [
-      | inl oldest ↦ (let same : offer.version ≡ VERSION_8 = eqb-true offer.version VERSION_8 oldest in omega (arith, same))
-      | inr none ↦ absurd (none_missing (offer.version == VERSION_10) (offer.version == VERSION_8_1) (offer.version == VERSION_8) is other last none)
+version_fits offer is = elim (cases_Bool (offers_version VERSION_10 offer)) [
+  | inl ten ↦ omega (arith, of_version VERSION_10 offer ten)
+  | inr other ↦ elim (cases_Bool (offers_version VERSION_8_1 offer)) [
+    | inl middle ↦ omega (arith, of_version VERSION_8_1 offer middle)
+    | inr last ↦ elim (cases_Bool (offers_version VERSION_8 offer)) [
+      | inl oldest ↦ omega (arith, of_version VERSION_8 offer oldest)
+      | inr none ↦ absurd (none_missing (offers_version VERSION_10 offer) (offers_version VERSION_8_1 offer) (offers_version VERSION_8 offer) is other last none)
     ]
   ]
 ]
@@ -135,19 +146,19 @@ both_hold : (a b : Bool) → a ≡ true → b ≡ true → (a && b) ≡ true
 both_hold true b first second = second
 both_hold false b first second = absurd cc
 
-step_confirm : (client : State) (chosen : Chosen) → IsChosen chosen → step client (confirm chosen) ≡ Ok (limited client (has_flag chosen.flags SMALL_CACHE))
+step_confirm : (client : State) (chosen : Chosen) → IsChosen chosen → step client (confirm chosen) ≡ Ok (limited client (binds_small chosen.flags))
 unfolding step caps_confirmed
 step_confirm client chosen good =
     let known : (is_version chosen.version && (length (digits u32 chosen.flags) == FLAGS_SIZE)) ≡ true = both_hold (is_version chosen.version) (length (digits u32 chosen.flags) == FLAGS_SIZE) good.version (eq-eqb (length (digits u32 chosen.flags)) FLAGS_SIZE good.word) in
     and_then_at (check CapsVersion (is_version chosen.version && (length (digits u32 chosen.flags) == FLAGS_SIZE))) tt (λ known. Ok (limited client (has_small_cache (digits u32 chosen.flags)))) (ap (λ b. check CapsVersion b) known)
-    ∙ ap (λ n. Ok (limited client (has_flag n SMALL_CACHE))) good.flags
+    ∙ ap (λ n. Ok (limited client (binds_small n))) good.flags
 
 -- what a server's end makes of a script's offers ----------------------------------------------------------------
 
 pub record Confirms (script : Script) : Type 0 where
   pub chosen : Chosen
   pub is : choice (map set_offered script.offers) ≡ Ok chosen
-  pub allowed : (has_flag chosen.flags SMALL_CACHE && not script.small) ≡ false
+  pub allowed : (binds_small chosen.flags && not script.small) ≡ false
   pub carried : IsCarried (confirm chosen)
   pub extends : (client : State) → Wider (started script.small) client → Extends Wider client (started script.small) (confirm chosen ∷ []) (λ last. [])
 
@@ -159,20 +170,20 @@ never_both true false e = absurd cc
 pub confirms : (script : Script) (held : Held) → IsAcceptedFrom held script → Confirms script
 confirms script held good =
     let some = some_chosen script.offers good.some_offers good.offers in
-    let small : has_flag some.chosen.flags SMALL_CACHE ≡ script.small = ap is_small (sym some.is) ∙ sym good.small in
+    let small : binds_small some.chosen.flags ≡ script.small = ap is_small (sym some.is) ∙ sym good.small in
     record {
       chosen = some.chosen;
       is = some.is;
-      allowed = never_both (has_flag some.chosen.flags SMALL_CACHE) script.small small;
+      allowed = never_both (binds_small some.chosen.flags) script.small small;
       carried = confirm_carried some.chosen some.good;
       extends = λ client wider.
           let stepped = step_confirm client some.chosen some.good in
-          let accepted = all_steps-one client (limited client (has_flag some.chosen.flags SMALL_CACHE)) (confirm some.chosen) stepped in
+          let accepted = all_steps-one client (limited client (binds_small some.chosen.flags)) (confirm some.chosen) stepped in
           record {
-            last = limited client (has_flag some.chosen.flags SMALL_CACHE);
+            last = limited client (binds_small some.chosen.flags);
             accepted = accepted;
             related = record { shown = wider.shown; slots = wider.slots; clear = wider.clear; records = wider.records; frame = wider.frame; decoded = wider.decoded; only_small = λ e. sym small ∙ e };
-            frames = frames_inside client (limited client (has_flag some.chosen.flags SMALL_CACHE)) (confirm some.chosen ∷ []) (refl, tt) accepted;
+            frames = frames_inside client (limited client (binds_small some.chosen.flags)) (confirm some.chosen ∷ []) (refl, tt) accepted;
           };
     }
 

@@ -16,7 +16,7 @@ use Rattle.gfx_script.specs.Scripted.{Script}
 use Rattle.gfx_script.specs.Writes.{Area, area, paints_plainly, place_of, writes_by, writes_plainly}
 use Rattle.gfx_script.specs.declared.picture.Picture.{Picture as Source}
 use Rattle.gfx_script.specs.declared.step.Kind.{Kind}
-use Rattle.gfx_script.specs.declared.step.Kind.TheVariants.{Raw, Residual, Bands, Palette, Plain, Progressive}
+use Rattle.gfx_script.specs.declared.step.Kind.TheVariants.{Raw, Residual, Bands, Palette, Plain, Progressive, Video}
 use Rattle.gfx_script.specs.declared.step.Step.{Step}
 use Rattle.gfx_script.specs.declared.step.Step.TheVariants.{Surface, Delete, Reset, Map, Fill, Copy, Keep, Show, Forget, Paint, Improve, Frame}
 use Rattle.gfx_surface.specs.Picture.{Picture, overlaid}
@@ -67,6 +67,7 @@ plain-draws script (Some Bands) (Paint id picture at named glyph) plain there = 
 plain-draws script (Some Palette) (Paint id picture at named glyph) plain there = pixels-draws (slice_get script.pictures picture) opaque_in id at plain there
 plain-draws script (Some Plain) (Paint id picture at named glyph) plain there = pixels-draws (slice_get script.pictures picture) opaque_in id at plain there
 plain-draws script (Some Progressive) (Paint id picture at named glyph) plain there = absurd cc
+plain-draws script (Some Video) (Paint id picture at named glyph) plain there = absurd cc
 plain-draws script kind (Surface id width height format) plain there = absurd cc
 plain-draws script kind (Delete id) plain there = absurd cc
 plain-draws script kind (Reset width height) plain there = absurd cc

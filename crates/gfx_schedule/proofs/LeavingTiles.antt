@@ -134,9 +134,9 @@ ended-covered live plain later covered =
     kept-twice live (λ key. not (touches plain key)) (λ key. not (touches later key))
     ∙ ap (retain_keys live) (λ i key. not_both (touches plain key) (touches later key) (λ hit. touches-covered plain later key covered hit) i)
 
--- the same of passes, whose number stays
-same_live : (passes : Passes) (a b : Live) → a ≡ b → ◌≡◌ {A = Passes} (record { live = a; next = passes.next }) (record { live = b; next = passes.next })
-same_live passes a b same = λ i. record { live = same i; next = passes.next }
+-- the same of passes, whose numbers stay
+same_live : (passes : Passes) (a b : Live) → a ≡ b → ◌≡◌ {A = Passes} (record passes { live = a }) (record passes { live = b })
+same_live passes a b same = λ i. record passes { live = same i }
 
 pub passes-swap : (passes : Passes) (first second : Area) → ended_by (ended_by passes (Some first)) (Some second) ≡ ended_by (ended_by passes (Some second)) (Some first)
 unfolding ended_by

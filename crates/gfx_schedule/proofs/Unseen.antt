@@ -4,12 +4,11 @@ use Rattle.std.proofs.lemmas.List.{drop-drop, drop-map, drop-take, length-drop, 
 use Rattle.std.proofs.Math.Seq.{take-append_seam, drop-append_seam}
 use Rattle.gfx_base.specs.declared.refusal.Refusal.{Refusal}
 use Rattle.gfx_base.specs.declared.refusal.Refusal.TheVariants.{CapsVersion}
-use Rattle.gfx_caps.specs.Choice.{has_flag, choice}
+use Rattle.gfx_caps.specs.Choice.{binds_small, choice}
 use Rattle.gfx_caps.specs.Reading.{client_of}
 use Rattle.gfx_caps.specs.declared.choice.Chosen.{Chosen}
 use Rattle.gfx_caps.specs.declared.message.ClientPdu.{ClientPdu}
 use Rattle.gfx_caps.specs.declared.message.ClientPdu.TheVariants.{Advertise, Ack}
-use Rattle.gfx_caps.specs.declared.versions.TheConstants.{SMALL_CACHE}
 use Rattle.gfx_script.specs.Kinds.{KindedStep}
 use Rattle.gfx_script.specs.Script.{is_frame}
 use Rattle.gfx_script.specs.Scripted.{Script}
@@ -47,7 +46,7 @@ confirms_same : (script : Script) (left : List KindedStep) (last : ℕ) (heard :
 unfolding confirms
 confirms_same script left last heard (Err r) = refl
 confirms_same script left last heard (Ok chosen) =
-    either_heard left last (has_flag chosen.flags SMALL_CACHE && not script.small) (stop heard (Refused CapsVersion)) (record heard { end = record heard.end { confirmed = true }; out = heard.out ++ sent (confirm chosen ∷ []) })
+    either_heard left last (binds_small chosen.flags && not script.small) (stop heard (Refused CapsVersion)) (record heard { end = record heard.end { confirmed = true }; out = heard.out ++ sent (confirm chosen ∷ []) })
 
 acknowledges_same : (left : List KindedStep) (last : ℕ) (heard : Heard) (frame : ℕ) (found : Result (ℕ × Window) AckUnknown) → acknowledges (heard_leaving left last heard) frame found ≡ heard_leaving left last (acknowledges heard frame found)
 unfolding acknowledges

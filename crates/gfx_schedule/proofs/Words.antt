@@ -2,11 +2,10 @@
 use Rattle.std.proofs.Common.{◌≡◌, ℕ, List, [], ◌∷◌, ◌++◌, Bool, true, false, cond, ◌&&◌, not, Result, Ok, Err, refl, sym, ap, ◌∙◌, subst, append_assoc}
 use Rattle.gfx_base.specs.declared.refusal.Refusal.{Refusal}
 use Rattle.gfx_base.specs.declared.refusal.Refusal.TheVariants.{CapsVersion}
-use Rattle.gfx_caps.specs.Choice.{has_flag, choice}
+use Rattle.gfx_caps.specs.Choice.{binds_small, choice}
 use Rattle.gfx_caps.specs.declared.choice.Chosen.{Chosen}
 use Rattle.gfx_caps.specs.declared.message.ClientPdu.{ClientPdu}
 use Rattle.gfx_caps.specs.declared.message.ClientPdu.TheVariants.{Advertise, Ack}
-use Rattle.gfx_caps.specs.declared.versions.TheConstants.{SMALL_CACHE}
 use Rattle.gfx_caps.specs.Spelling.{spelling}
 use Rattle.gfx_caps.specs.Reading.{client_of}
 use Rattle.gfx_client.specs.Replies.{alone}
@@ -89,7 +88,7 @@ goes_on_with script heard bytes behind message after word words listens whole sa
 confirms_holds : (script : Script) (heard : Heard) (due : Result Chosen Refusal) → heard.end.heard ≡ [] → (confirms script heard due).end.heard ≡ []
 unfolding confirms
 confirms_holds script heard (Err r) none = refl
-confirms_holds script heard (Ok chosen) none = by (has_flag chosen.flags SMALL_CACHE && not script.small)
+confirms_holds script heard (Ok chosen) none = by (binds_small chosen.flags && not script.small)
   where
     by : (b : Bool) → (cond b (stop heard (Refused CapsVersion)) (record heard { end = record heard.end { confirmed = true }; out = heard.out ++ sent (confirm chosen ∷ []) })).end.heard ≡ []
     by true = refl

@@ -3,11 +3,10 @@
 use Rattle.std.specs.Prelude.{ℕ, true, ◌&&◌, not, List, [], ◌∷◌, ◌++◌, take, drop, fold, Some, is_some, Result, Ok, Err, if◌then◌else◌}
 use Rattle.gfx_base.specs.declared.refusal.Refusal.{Refusal}
 use Rattle.gfx_base.specs.declared.refusal.Refusal.TheVariants.{ChannelLength, CapsVersion}
-use Rattle.gfx_caps.specs.Choice.{has_flag, choice}
+use Rattle.gfx_caps.specs.Choice.{binds_small, choice}
 use Rattle.gfx_caps.specs.declared.choice.Chosen.{Chosen}
 use Rattle.gfx_caps.specs.declared.message.ClientPdu.{ClientPdu}
 use Rattle.gfx_caps.specs.declared.message.ClientPdu.TheVariants.{Advertise, Ack}
-use Rattle.gfx_caps.specs.declared.versions.TheConstants.{SMALL_CACHE}
 use Rattle.gfx_caps.specs.Reading.{client_of}
 use Rattle.gfx_layout.specs.Shape.{digits, u32}
 use Rattle.gfx_pdu.specs.declared.pdu.Pdu.{Pdu}
@@ -44,7 +43,7 @@ confirm chosen = CapsConfirm chosen.version (digits u32 chosen.flags)
 unfoldable pub confirms : Script → Heard → Result Chosen Refusal → Heard
 confirms script heard (Err r) = stop heard (Refused r)
 confirms script heard (Ok chosen) =
-    if has_flag chosen.flags SMALL_CACHE && not script.small then stop heard (Refused CapsVersion)
+    if binds_small chosen.flags && not script.small then stop heard (Refused CapsVersion)
     else record heard { end = record heard.end { confirmed = true }; out = heard.out ++ sent (confirm chosen ∷ []) }
 
 -- a frame is acknowledged, which has to be the oldest in flight

@@ -1,3 +1,4 @@
 pub mod ScreenLemmas
 pub mod StreamLemmas
 pub mod TileLemmas
+pub mod VideoLemmas

@@ -1,6 +1,6 @@
 -- What data do to the screen, by their codec.
 use Rattle.std.proofs.Common.{◌≡◌, ◌≢◌, ◌∙◌, ◌⊎◌, inl, inr, ℕ, Bool, true, false, cond, List, Option, Some, None, Result, Ok, Err, refl, sym, ap, subst, arith}
-use Rattle.std.specs.Prelude.{◌==◌, if◌then◌else◌, IsTrue, IsSome, IsSomeAnd, IfSome, IfOk, OnErr}
+use Rattle.std.specs.Prelude.{◌==◌, ◌||◌, if◌then◌else◌, IsTrue, IsSome, IsSomeAnd, IfSome, IfOk, OnErr}
 use Rattle.std.specs.Cmp.{nat_cmp_total}
 use Rattle.std.specs.Ordering.{nat_cmp, eq_by_cmp}
 use Rattle.std.specs.FinMap.{FinMap, get, insert, get-insert, same_map, nat_cmp-IsAntisymmetric}
@@ -25,8 +25,8 @@ use Rattle.gfx_surface_map.specs.Shown.{SurfaceMap, with_picture, AllHaveRoom}
 use Rattle.gfx_surface_map.proofs.RoomLemmas.{room_drawn}
 use Rattle.gfx_clear.specs.Painting.{Scene, scene, painted, decoded}
 use Rattle.gfx_state.specs.declared.codec.Codec.{Codec}
-use Rattle.gfx_state.specs.declared.codec.Codec.TheVariants.{Uncompressed, ClearCodec}
-use Rattle.gfx_state.specs.Codecs.{UNCOMPRESSED, CLEARCODEC, codec_of}
+use Rattle.gfx_state.specs.declared.codec.Codec.TheVariants.{Uncompressed, Video, ClearCodec}
+use Rattle.gfx_state.specs.Codecs.{UNCOMPRESSED, VIDEO, CLEARCODEC, codec_of}
 use Rattle.gfx_state.specs.State.{State}
 use Rattle.gfx_state.specs.Step.{step, painted_by, stream_painted, data_painted}
 use Rattle.gfx_base.proofs.Wanting.{wants_any}
@@ -113,15 +113,28 @@ stream_answers result old id surface new rect bytes found due =
     subst (λ z. IfSome z (λ picture. Applies result old (repainted old id new) (stream_painted old id picture rect bytes))) (sym found)
     (stream_applies result old id surface new rect bytes found due)
 
--- only this codec takes memory
-by_id : (plain clear : Bool) → (if plain then Some Uncompressed else if clear then Some ClearCodec else None) ≡ Some ClearCodec → clear ≡ true
-by_id true clear e = absurd cc
-by_id false true e = refl
-by_id false false e = absurd cc
+-- this codec may take memory
+by_id : (plain video clear : Bool) → (if plain then Some Uncompressed else if video then Some Video else if clear then Some ClearCodec else None) ≡ Some ClearCodec → clear || video ≡ true
+by_id true video clear e = absurd cc
+by_id false true clear e = absurd cc
+by_id false false true e = refl
+by_id false false false e = absurd cc
 
-pub stream_wants : (result : Result (Unit {0}) (Cause Refusal)) (number : ℕ) → codec_of number ≡ Some ClearCodec → WantsOnlyIf result (number == CLEARCODEC)
+-- and so may this one
+by_video : (plain video clear : Bool) → (if plain then Some Uncompressed else if video then Some Video else if clear then Some ClearCodec else None) ≡ Some Video → clear || video ≡ true
+by_video true video clear e = absurd cc
+by_video false true true e = refl
+by_video false true false e = refl
+by_video false false true e = absurd cc
+by_video false false false e = absurd cc
+
+pub stream_wants : (result : Result (Unit {0}) (Cause Refusal)) (number : ℕ) → codec_of number ≡ Some ClearCodec → WantsOnlyIf result (number == CLEARCODEC || number == VIDEO)
 unfolding codec_of
-stream_wants result number built = wants_any result (number == CLEARCODEC) (by_id (number == UNCOMPRESSED) (number == CLEARCODEC) built)
+stream_wants result number built = wants_any result (number == CLEARCODEC || number == VIDEO) (by_id (number == UNCOMPRESSED) (number == VIDEO) (number == CLEARCODEC) built)
+
+pub video_wants : (result : Result (Unit {0}) (Cause Refusal)) (number : ℕ) → codec_of number ≡ Some Video → WantsOnlyIf result (number == CLEARCODEC || number == VIDEO)
+unfolding codec_of
+video_wants result number built = wants_any result (number == CLEARCODEC || number == VIDEO) (by_video (number == UNCOMPRESSED) (number == VIDEO) (number == CLEARCODEC) built)
 
 -- a picture is sent --------------------------------------------------------------------------------
 

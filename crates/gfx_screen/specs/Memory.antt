@@ -1,16 +1,16 @@
 -- Which messages may want memory: this project's own rule.
-use Rattle.std.specs.Prelude.{◌==◌, Bool, true, false, is_ok}
+use Rattle.std.specs.Prelude.{◌==◌, ◌||◌, Bool, true, false, is_ok}
 use Rattle.gfx_pdu.specs.declared.pdu.Pdu.{Pdu}
 use Rattle.gfx_pdu.specs.declared.pdu.Pdu.TheVariants.{WireToSurface1, WireToSurface2, SurfaceToCache, CreateSurface, MapSurfaceToOutput}
 use Rattle.gfx_surface_map.specs.Shown.{output_mapped}
-use Rattle.gfx_state.specs.Codecs.{CLEARCODEC, PROGRESSIVE}
+use Rattle.gfx_state.specs.Codecs.{CLEARCODEC, PROGRESSIVE, VIDEO}
 use Rattle.gfx_state.specs.State.{State}
 use Rattle.gfx_state.specs.Step.{showing, rect_stored, surface_created}
 
--- the effect of this message on a state takes memory: data take it where they are a ClearCodec stream or progressive,
--- a bitmap, a surface and a map where they are accepted
+-- the effect of this message on a state takes memory: data take it where they are a ClearCodec stream, RemoteFX
+-- video or progressive, a bitmap, a surface and a map where they are accepted
 abbrev pub takes_memory : State → Pdu → Bool
-takes_memory state (WireToSurface1 surface codec format rect payload) = codec == CLEARCODEC
+takes_memory state (WireToSurface1 surface codec format rect payload) = codec == CLEARCODEC || codec == VIDEO
 takes_memory state (WireToSurface2 surface codec context format payload) = codec == PROGRESSIVE
 takes_memory state (SurfaceToCache surface key slot rect) = is_ok (rect_stored state surface key slot rect)
 takes_memory state (CreateSurface id width height format) = is_ok (surface_created state id width height format)

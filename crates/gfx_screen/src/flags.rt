@@ -3,7 +3,7 @@ ghost use Rattle.std.specs.Prelude.{◌≡◌, ◌==◌, ◌&&◌, length};
 ghost use Rattle.gfx_state.specs.Step.{is_version, has_small_cache};
 
 use gfx_base::field_u32;
-use gfx_caps::{FLAGS_SIZE, SMALL_CACHE, VERSION_8, VERSION_8_1, VERSION_10, has_flag};
+use gfx_caps::{FLAGS_SIZE, VERSION_8, VERSION_8_1, VERSION_10, binds_small};
 
 /// Whether the version and the size of its flags are among those that are built.
 pub fn is_confirmed(version: u32, flags: &[u8]) -> bool
@@ -25,7 +25,7 @@ pub fn has_small_cache(flags: &[u8]) -> bool
     ensures { result ≡ has_small_cache flags.now }
 {
     match field_u32(flags, 0) {
-        Some(word) => has_flag(word, SMALL_CACHE),
+        Some(word) => binds_small(word),
         None => false,
     }
 }

@@ -1,4 +1,4 @@
-ghost use Rattle.std.specs.Prelude.{◌≡◌, ℕ, ◌≤◌, ◌+◌, ◌*◌, ◌==◌, false, None, Ok, Err, IfSome, IsSome, IsSomeAnd, IsTrue, IfOk, OnErr, is_ok, length};
+ghost use Rattle.std.specs.Prelude.{◌≡◌, ℕ, ◌≤◌, ◌+◌, ◌*◌, ◌==◌, ◌||◌, false, None, Ok, Err, IfSome, IsSome, IsSomeAnd, IsTrue, IfOk, OnErr, is_ok, length};
 ghost use Rattle.std.specs.FinMap as map;
 ghost use Rattle.std.specs.List.{list_all};
 ghost use Rattle.gfx_base.specs.Geometry.{lies_in, width_of, height_of};
@@ -9,10 +9,10 @@ ghost use Rattle.gfx_bitmap_cache.specs.Slots.{evicted};
 ghost use Rattle.gfx_clear.specs.Sending.{MaySend, sent};
 ghost use Rattle.gfx_pdu.specs.declared.pdu.Pdu.TheVariants.{WireToSurface1};
 ghost use Rattle.gfx_state.specs.declared.codec.Codec.{Codec as AnyCodec};
-ghost use Rattle.gfx_state.specs.Codecs.{CLEARCODEC, PROGRESSIVE};
+ghost use Rattle.gfx_state.specs.Codecs.{CLEARCODEC, PROGRESSIVE, VIDEO};
 ghost use Rattle.gfx_state.specs.State.{started};
 ghost use Rattle.gfx_screen.specs.Memory.{takes_memory, may_take_memory};
-ghost use Rattle.gfx_state.specs.Step.{step, showing, caching, frame_started, frame_ended, surface_created, rects_filled, bytes_painted, stream_painted, data_painted, tiles_drawn, tiles_painted, context_deleted, surface_ended, rect_stored, slot_put, graphics_reset, caps_confirmed};
+ghost use Rattle.gfx_state.specs.Step.{step, showing, caching, frame_started, frame_ended, surface_created, rects_filled, bytes_painted, video_painted, stream_painted, data_painted, tiles_drawn, tiles_painted, context_deleted, surface_ended, rect_stored, slot_put, graphics_reset, caps_confirmed};
 
 use crate::bitmaps::{bitmap_of, lies_on};
 use crate::flags::{has_small_cache, is_confirmed};
@@ -23,6 +23,7 @@ use gfx_bitmap_cache::Cache;
 use gfx_clear::{ClearState, Layer};
 use gfx_pdu::{PROGRESSIVE, Pdu};
 use gfx_prog_decode::Records;
+use gfx_rfx_video::decode_video;
 use gfx_state::Codec;
 use gfx_surface_map::{SurfaceMap, fits_size};
 use std::alloc::Global;
@@ -130,7 +131,7 @@ impl State {
                 format,
                 rect,
                 payload,
-            } => self.paint_data(*surface, *codec, *format, *rect, payload.as_slice()),
+            } => self.paint_data(alloc, *surface, *codec, *format, *rect, payload.as_slice()),
             Pdu::WireToSurface2 {
                 surface,
                 codec,
@@ -277,10 +278,11 @@ impl State {
         Ok(())
     }
 
-    /// Paints data in a rectangle of a surface, by their codec. Only a ClearCodec stream takes memory.
+    /// Paints data in a rectangle of a surface, by their codec. Only ClearCodec and RemoteFX video take memory.
     #[tactic(auto, unfolding(gfx_state::specs::Step::data_painted, gfx_base::specs::Results::and_then))]
     fn paint_data(
         &mut self,
+        alloc: Global,
         id: u16,
         codec: u16,
         format: u8,
@@ -288,7 +290,7 @@ impl State {
         payload: &[u8],
     ) -> Result<(), Fault>
         ensures applies { Applies result self.old self.new (data_painted self.old id codec format rect payload.now) }
-        ensures memory { WantsOnlyIf result (codec == CLEARCODEC) }
+        ensures memory { WantsOnlyIf result (codec == CLEARCODEC || codec == VIDEO) }
     {
         let Some(surface) = self.surfaces.get(id) else {
             return Err(Fault::Refused(Refusal::NoSurface));
@@ -307,6 +309,7 @@ impl State {
                 Ok(()) => Ok(()),
                 Err(refusal) => Err(Fault::Refused(refusal)),
             },
+            Codec::Video => self.paint_video(alloc, id, rect, payload),
             Codec::ClearCodec => self.paint_stream(id, rect, payload),
         }
     }
@@ -329,6 +332,19 @@ impl State {
         }
         self.surfaces.put_bytes(id, rect, format, payload);
         Ok(())
+    }
+
+    /// Applies a message of RemoteFX video to a rectangle that lies on a surface. Any fault leaves all as it was.
+    #[tactic(auto, unfolding(gfx_state::specs::Step::video_painted, gfx_base::specs::Results::and_then))]
+    fn paint_video(&mut self, alloc: Global, id: u16, rect: Rect, bytes: &[u8]) -> Result<(), Fault>
+        requires { IsSomeAnd (map.get self.old.shown.surfaces id) (λ picture. IsTrue (lies_in picture.width picture.height rect)) }
+        ensures { IfSome (map.get self.old.shown.surfaces id)
+            (λ picture. Applies result self.old self.new (video_painted self.old id picture rect bytes.now)) }
+    {
+        match self.surfaces.get_mut(id) {
+            Some(surface) => decode_video(alloc, surface, rect, bytes),
+            None => unreachable!(),
+        }
     }
 
     /// Decodes a ClearCodec stream into a rectangle that lies on a surface. Any fault leaves all as it was.

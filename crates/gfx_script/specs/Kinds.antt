@@ -2,7 +2,7 @@
 use Rattle.std.specs.Prelude.{◌≡◌, Bool, true, false, List, map, Option, Some, None, IsSome, IfSome, unwrap_or}
 use Rattle.std.specs.List.{AllByRecursion}
 use Rattle.gfx_script.specs.declared.step.Kind.{Kind}
-use Rattle.gfx_script.specs.declared.step.Kind.TheVariants.{Raw, Residual, Bands, Palette, Plain, Progressive}
+use Rattle.gfx_script.specs.declared.step.Kind.TheVariants.{Raw, Residual, Bands, Palette, Plain, Progressive, Video}
 use Rattle.gfx_script.specs.declared.step.Step.{Step}
 use Rattle.gfx_script.specs.declared.step.Step.TheVariants.{Paint}
 
@@ -14,6 +14,7 @@ is_plain_write Bands = true
 is_plain_write Palette = true
 is_plain_write Plain = true
 is_plain_write Progressive = false
+is_plain_write Video = false
 
 -- the kind that a paint goes as where nothing else chooses one: the kind that it names, or runs of one colour.
 -- None of another step

@@ -1,7 +1,7 @@
 -- The steps of a script, and what holds of every script that is accepted: this project's own rule.
 use Rattle.std.specs.Prelude.{◌≡◌, ℕ, ◌-◌, ◌≤◌, ◌<◌, ◌^◌, ◌==◌, Bool, true, false, IsTrue, if◌then◌else◌, List, [], ◌∷◌, length, Option, None, Ok, IfSome}
 use Rattle.std.specs.List.{AllByRecursion, slice_get}
-use Rattle.gfx_caps.specs.Offers.{IsOffer, small_of}
+use Rattle.gfx_caps.specs.Offers.{IsOffer, small_of, thin_of}
 use Rattle.gfx_base.specs.Geometry.{IsPixel, IsPoint, IsRect}
 use Rattle.gfx_quant.specs.Setting.{IsSetting}
 use Rattle.gfx_surface.specs.declared.TheConstants.{MOST_SIDE}
@@ -65,6 +65,8 @@ pub record IsAcceptedFrom (start : Held) (script : Script) : Type 0 where
   pub setting : IsSetting script.setting
   -- whose small limits bind the version that a server chooses
   pub small : script.small ≡ small_of script.offers
+  -- which is that of a thin client
+  pub thin : script.thin ≡ thin_of script.offers
   pub few_pictures : length script.pictures ≤ MOST_PICTURES
   pub pictures : AllByRecursion IsDrawn script.pictures
   pub few : length script.steps ≤ MOST_STEPS

@@ -3,6 +3,7 @@ use Rattle.std.specs.Prelude.{ℕ, Bool, List}
 use Rattle.gfx_caps.specs.declared.offer.Offer.{Offer}
 use Rattle.gfx_quant.specs.declared.setting.Setting.{Setting}
 use Rattle.gfx_script.specs.declared.picture.Picture.{Picture}
+use Rattle.gfx_script.specs.declared.step.Entropy.{Entropy}
 use Rattle.gfx_script.specs.declared.step.Step.{Step}
 use Rattle.gfx_script.specs.declared.turn.Turn.{Turn}
 
@@ -18,6 +19,10 @@ pub record Script : Type 0 where
   pub pictures : List Picture
   -- the small limits on bitmaps bind the client
   pub small : Bool
+  -- the client is thin
+  pub thin : Bool
+  -- how video paints are coded
+  pub entropy : Entropy
   pub steps : List Step
   -- which end moves when, one turn after another
   pub turns : List Turn

@@ -1,6 +1,6 @@
 //! Scripts of a recorded screen: what the server's end shows, step by step, the pictures that it paints,
-//! and what a session of both ends is like: its window, what its client offers, how progressive paints are
-//! coded, its turns. Which steps are good is checked against what the steps before them left, by `Held`.
+//! and what a session of both ends is like: its window, what its client offers, how progressive and video paints
+//! are coded, its turns. Which steps are good is checked against what the steps before them left, by `Held`.
 //!
 //! In the pipe it stands below the reading of scripts from text (`gfx_script_text`) and the planner,
 //! which makes each step into messages. Scripts are this project's own (docs/SCRIPTS.md).
@@ -19,7 +19,7 @@ pub use error::{Flaw, ScriptKind};
 pub use held::{Held, Sides};
 pub use picture::{Pattern, Picture};
 pub use script::{Script, is_framed};
-pub use step::{Kind, Step};
+pub use step::{Entropy, Kind, Step};
 pub use turn::Turn;
 pub use way::Way;
 

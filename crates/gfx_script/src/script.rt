@@ -7,7 +7,7 @@ ghost use Rattle.gfx_script.specs.Patterns.{pixel_of};
 ghost use Rattle.gfx_script.specs.Script.{IsAccepted, step_at, is_framed};
 
 use crate::picture::Picture;
-use crate::step::Step;
+use crate::step::{Entropy, Step};
 use crate::turn::Turn;
 use gfx_base::Pixel;
 use gfx_caps::Offers;
@@ -23,6 +23,8 @@ pub struct Script {
     differences: bool,
     pictures: Vec<Picture>,
     small: bool,
+    thin: bool,
+    entropy: Entropy,
     steps: Vec<Step>,
     turns: Vec<Turn>,
 }
@@ -32,7 +34,7 @@ impl Model for Script {
 
     ghost Value = { Script };
 
-    ghost view = { λ s. record { window = s.window; offers = s.offers; setting = s.setting; differences = s.differences; pictures = s.pictures.items; small = s.small; steps = s.steps.items; turns = s.turns.items } };
+    ghost view = { λ s. record { window = s.window; offers = s.offers; setting = s.setting; differences = s.differences; pictures = s.pictures.items; small = s.small; thin = s.thin; entropy = s.entropy; steps = s.steps.items; turns = s.turns.items } };
 }
 
 impl Script {
@@ -44,11 +46,13 @@ impl Script {
         differences: bool,
         pictures: Vec<Picture>,
         small: bool,
+        thin: bool,
+        entropy: Entropy,
         steps: Vec<Step>,
         turns: Vec<Turn>,
     ) -> Script
-        requires { IsAccepted record { window = window; offers = offers; setting = setting; differences = differences; pictures = pictures.items; small = small; steps = steps.items; turns = turns.items } }
-        ensures { result ≡ record { window = window; offers = offers; setting = setting; differences = differences; pictures = pictures.items; small = small; steps = steps.items; turns = turns.items } }
+        requires { IsAccepted record { window = window; offers = offers; setting = setting; differences = differences; pictures = pictures.items; small = small; thin = thin; entropy = entropy; steps = steps.items; turns = turns.items } }
+        ensures { result ≡ record { window = window; offers = offers; setting = setting; differences = differences; pictures = pictures.items; small = small; thin = thin; entropy = entropy; steps = steps.items; turns = turns.items } }
     {
         Script {
             window,
@@ -57,6 +61,8 @@ impl Script {
             differences,
             pictures,
             small,
+            thin,
+            entropy,
             steps,
             turns,
         }
@@ -74,6 +80,17 @@ impl Script {
         ensures { result.now ≡ self.now.offers }
     {
         &self.offers
+    }
+
+    /// The offer at this place, counted from 0, if there is one: its version's number, whether it asks for the small
+    /// cache, and whether the client is thin with it.
+    pub fn offer(&self, at: u32) -> Option<(u32, bool, bool)>
+        ensures { result ≡ option_map (λ one. (one.version, one.small, one.thin)) (slice_get self.now.offers at) }
+    {
+        match self.offers.get(at as usize) {
+            Some(offer) => Some((offer.version, offer.small, offer.thin)),
+            None => None,
+        }
     }
 
     /// How progressive paints are coded.
@@ -118,11 +135,27 @@ impl Script {
         self.pictures[picture as usize].pixel(x, y)
     }
 
-    /// Whether the version that is chosen of what the client offers has the small cache of bitmaps.
+    /// Whether the small limits on bitmaps bind the client: of the version that is chosen of what it offers, it asks
+    /// for the small cache, or it is thin.
     pub fn small(&self) -> bool
         ensures { result ≡ self.now.small }
     {
         self.small
+    }
+
+    /// Whether the version that is chosen of what the client offers is that of a thin client, to which progressive
+    /// paints go as video paints.
+    pub fn thin(&self) -> bool
+        ensures { result ≡ self.now.thin }
+    {
+        self.thin
+    }
+
+    /// How the coefficients of video paints are coded.
+    pub fn entropy(&self) -> Entropy
+        ensures { result ≡ self.now.entropy }
+    {
+        self.entropy
     }
 
     /// The turn at this place, counted from 0, if there is one.

@@ -4,8 +4,8 @@ ghost use Rattle.gfx_script.specs.Script.{is_frame};
 
 use gfx_base::{Format, Pixel, Point, Points, Rect, Rects};
 
-/// How a picture is sent: uncompressed, by a layer of ClearCodec ([MS-RDPEGFX] 2.2.4.1), or in passes by RemoteFX
-/// Progressive ([MS-RDPEGFX] 2.2.4.2).
+/// How a picture is sent: uncompressed, by a layer of ClearCodec ([MS-RDPEGFX] 2.2.4.1), in passes by RemoteFX
+/// Progressive ([MS-RDPEGFX] 2.2.4.2), or by RemoteFX video ([MS-RDPRFX]).
 #[derive(Clone, Copy, Debug, PartialEq, Eq)]
 pub enum Kind {
     /// Uncompressed.
@@ -18,8 +18,10 @@ pub enum Kind {
     Palette,
     /// Pixel by pixel.
     Plain,
-    /// In passes: a first one, which `Step::Improve` makes better.
+    /// In passes: a first one, which `Step::Improve` makes better. For a thin client as `Video`.
     Progressive,
+    /// In tiles of RemoteFX video, each with all that it has.
+    Video,
 }
 
 impl Kind {
@@ -30,9 +32,18 @@ impl Kind {
     {
         match self {
             Kind::Raw | Kind::Residual | Kind::Bands | Kind::Palette | Kind::Plain => true,
-            Kind::Progressive => false,
+            Kind::Progressive | Kind::Video => false,
         }
     }
+}
+
+/// How the coefficients of RemoteFX video are coded ([MS-RDPRFX] 3.1.8.1.7).
+#[derive(Clone, Copy, Debug, PartialEq, Eq)]
+pub enum Entropy {
+    /// RLGR1: one value at a time.
+    One,
+    /// RLGR3: two values at a time where no run is due.
+    Three,
 }
 
 /// One step of a script.

@@ -1,5 +1,5 @@
 ghost use Rattle.std.specs.Prelude.{◌≡◌};
-ghost use Rattle.gfx_script.specs.Ways.{is_in_passes, is_stream, way_of};
+ghost use Rattle.gfx_script.specs.Ways.{is_in_passes, is_stream, is_video, way_of, way_of_tiles};
 
 use crate::step::Kind;
 use gfx_clear::Layer;
@@ -13,10 +13,12 @@ pub enum Way {
     ByLayer(Layer),
     /// As tiles of RemoteFX Progressive, which later steps raise (2.2.4.2).
     InPasses,
+    /// As tiles of RemoteFX video, which nothing raises (2.2.2.1, RDPGFX_CODECID_CAVIDEO, and [MS-RDPRFX]).
+    Video,
 }
 
 impl Kind {
-    /// The way of a picture of this kind. Whether the client is thin decides nothing yet.
+    /// The way of a picture of this kind, to a client that is thin or to one that isn't.
     pub fn way(self, thin: bool) -> Way
         ensures { result ≡ way_of thin self }
     {
@@ -26,9 +28,18 @@ impl Kind {
             Kind::Bands => Way::ByLayer(Layer::Bands),
             Kind::Palette => Way::ByLayer(Layer::Palette),
             Kind::Plain => Way::ByLayer(Layer::Plain),
-            Kind::Progressive => Way::InPasses,
+            Kind::Progressive => way_of_tiles(thin),
+            Kind::Video => Way::Video,
         }
     }
+}
+
+/// The way of a picture that goes as tiles. A thin client decodes RemoteFX video in place of RemoteFX Progressive
+/// ([MS-RDPEGFX] 2.2.3.1, RDPGFX_CAPS_FLAG_THINCLIENT).
+fn way_of_tiles(thin: bool) -> Way
+    ensures { result ≡ way_of_tiles thin }
+{
+    if thin { Way::Video } else { Way::InPasses }
 }
 
 impl Way {
@@ -37,7 +48,7 @@ impl Way {
         ensures { result ≡ is_stream self }
     {
         match self {
-            Way::Uncompressed | Way::InPasses => false,
+            Way::Uncompressed | Way::InPasses | Way::Video => false,
             Way::ByLayer(_) => true,
         }
     }
@@ -47,8 +58,18 @@ impl Way {
         ensures { result ≡ is_in_passes self }
     {
         match self {
-            Way::Uncompressed | Way::ByLayer(_) => false,
+            Way::Uncompressed | Way::ByLayer(_) | Way::Video => false,
             Way::InPasses => true,
+        }
+    }
+
+    /// Whether a picture goes as RemoteFX video, whose tiles no later step raises.
+    pub fn is_video(self) -> bool
+        ensures { result ≡ is_video self }
+    {
+        match self {
+            Way::Uncompressed | Way::ByLayer(_) | Way::InPasses => false,
+            Way::Video => true,
         }
     }
 }

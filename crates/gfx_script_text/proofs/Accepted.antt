@@ -81,6 +81,7 @@ head_of-good top =
     chain _ _ (HeadGood top) (λ window found_window.
     chain _ _ (HeadGood top) (λ offers found_offers.
     chain _ _ (HeadGood top) (λ progressive found_progressive.
+    chain _ _ (HeadGood top) (λ entropy found_entropy.
     chain _ _ (HeadGood top) (λ gallery found_gallery.
     chain _ _ (HeadGood top) (λ few are_few.
     gives _ (HeadGood top) record {
@@ -89,7 +90,7 @@ head_of-good top =
       setting = (progressive_of-good top.progressive).each progressive found_progressive;
       few = leb-true (length top.step) MOST_STEPS (check_ok Range _ are_few);
       pictures = (pictures_of-good top.picture).each gallery found_gallery;
-    })))))
+    }))))))
 
 -- a script that is read is good
 pub accepted : (text : List ℕ) (script : Script) → script_of text ≡ Ok script → IsAccepted script
@@ -114,6 +115,7 @@ accepted text script is =
       offers = before.offers.each;
       setting = before.setting;
       small = refl;
+      thin = refl;
       few_pictures = before.pictures.few;
       pictures = before.pictures.each;
       few = subst (λ n. n ≤ MOST_STEPS) (sym good.many) before.few;

@@ -1,20 +1,22 @@
 -- Within which ranges a script's window, offers and turns lie that were read.
-use Rattle.std.proofs.Common.{◌≡◌, ℕ, ◌≤◌, ◌<◌, ◌^◌, Bool, List, length, Option, Some, None, ℤ, refl, sym, subst, arith}
+use Rattle.std.proofs.Common.{◌≡◌, ℕ, ◌==◌, ◌&&◌, not, true, false, if◌then◌else◌, ◌≤◌, ◌<◌, ◌^◌, Bool, Err, List, length, Option, Some, None, ℤ, refl, sym, ap, subst, arith}
 use Rattle.std.proofs.lemmas.Bool.{leb-true}
 use Rattle.std.specs.List.{AllByRecursion}
-use Rattle.toml.specs.Data.{Data, Members}
+use Rattle.std.specs.Option.{ok_or}
+use Rattle.toml.specs.Data.{Data, Members, as_bool}
 use Rattle.gfx_base.specs.Results.{Has}
 use Rattle.gfx_base.proofs.ResultLemmas.{chain, gives, never, check_ok, length-each}
 use Rattle.gfx_caps.specs.declared.offer.Offer.{Offer}
 use Rattle.gfx_caps.specs.declared.versions.TheConstants.{VERSION_8, VERSION_8_1, VERSION_10}
+use Rattle.gfx_caps.specs.Choice.{allows}
 use Rattle.gfx_caps.specs.Offers.{IsOffer}
 use Rattle.gfx_script.specs.declared.TheConstants.{MOST_VERSIONS, MOST_WINDOW, MOST_TURNS}
-use Rattle.gfx_script.specs.declared.error.ScriptKind.TheVariants.{Range}
+use Rattle.gfx_script.specs.declared.error.ScriptKind.TheVariants.{Key, Range}
 use Rattle.gfx_script.specs.declared.turn.Turn.{Turn}
 use Rattle.gfx_script.specs.declared.turn.Turn.TheVariants.{Server, Client, Answer}
 use Rattle.gfx_script.specs.Script.{IsTurn}
 use Rattle.gfx_script_text.specs.declared.TheConstants.{MOST_TAKE}
-use Rattle.gfx_script_text.specs.Clients.{version_named, offer_in, offers_of}
+use Rattle.gfx_script_text.specs.Clients.{version_named, thin_with, offer_in, offers_of}
 use Rattle.gfx_script_text.specs.Sessions.{window_of, taken_of, server_of, client_of, answer_of, ended, turn_of, turns_of}
 use Rattle.gfx_script_text.proofs.Ranges.{range_passed, within_ok, each_has, if_has}
 
@@ -30,15 +32,35 @@ window_of-fits (Some number) = record { each = λ window is. within_ok 1 MOST_WI
 
 -- ---- the offers
 
--- with either flag it is a version of the profile
+-- with each flag that it allows it is a version of the profile
 abbrev IsVersion : ℕ → Type 0
-IsVersion version = (small : Bool) → IsOffer record { version = version; small = small }
+IsVersion version = (small thin : Bool) → allows version thin ≡ true → IsOffer record { version = version; small = small; thin = thin }
+
+ten_known : IsVersion VERSION_10
+ten_known small true allowed = absurd cc
+ten_known small false allowed = refl
 
 version_named-known : (word : List ℕ) → Has (version_named word) IsVersion
 version_named-known word =
-    if_has _ _ _ IsVersion (gives VERSION_8 IsVersion (λ small. refl))
-    (if_has _ _ _ IsVersion (gives VERSION_8_1 IsVersion (λ small. refl))
-    (if_has _ _ _ IsVersion (gives VERSION_10 IsVersion (λ small. refl)) (never _ IsVersion)))
+    if_has _ _ _ IsVersion (gives VERSION_8 IsVersion (λ small thin allowed. refl))
+    (if_has _ _ _ IsVersion (gives VERSION_8_1 IsVersion (λ small thin allowed. refl))
+    (if_has _ _ _ IsVersion (gives VERSION_10 IsVersion ten_known) (never _ IsVersion)))
+
+-- a version allows it
+abbrev IsAllowed : ℕ → Bool → Type 0
+IsAllowed version thin = allows version thin ≡ true
+
+never_thin : (b : Bool) → not (b && false) ≡ true
+never_thin true = refl
+never_thin false = refl
+
+thin_kept : (version : ℕ) (value : Data) (b : Bool) → (version == VERSION_10) ≡ b → Has (if b then Err Key else ok_or (as_bool value) Key) (IsAllowed version)
+thin_kept version value true is = never _ (IsAllowed version)
+thin_kept version value false is = record { each = λ thin found. ap (λ b. not (b && thin)) is }
+
+thin_with-fits : (version : ℕ) (value : Option Data) → Has (thin_with version value) (IsAllowed version)
+thin_with-fits version None = gives false (IsAllowed version) (never_thin (version == VERSION_10))
+thin_with-fits version (Some value) = thin_kept version value (version == VERSION_10) refl
 
 offer_in-known : (value : Data) → Has (offer_in value) IsOffer
 unfolding offer_in
@@ -48,7 +70,8 @@ offer_in-known value =
     chain _ _ IsOffer (λ word found_word.
     chain _ _ IsOffer (λ version found_version.
     chain _ _ IsOffer (λ small found_small.
-    gives _ IsOffer ((version_named-known word).each version found_version small))))))
+    chain _ _ IsOffer (λ thin found_thin.
+    gives _ IsOffer ((version_named-known word).each version found_version small thin ((thin_with-fits version _).each thin found_thin))))))))
 
 -- some offers, and few
 pub record AreOffers (offers : List Offer) : Type 0 where

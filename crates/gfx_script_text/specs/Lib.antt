@@ -4,6 +4,7 @@ pub mod Pictures
 pub mod Places
 pub mod Clients
 pub mod Progressive
+pub mod Video
 pub mod Sessions
 pub mod Words
 pub mod Text

@@ -6,10 +6,11 @@ use Rattle.toml.specs.Data.{Data, Members, get_member}
 use Rattle.toml.specs.Parse.{parse_document}
 use Rattle.gfx_base.specs.Results.{◌>>=◌, check}
 use Rattle.gfx_caps.specs.declared.offer.Offer.{Offer}
-use Rattle.gfx_caps.specs.Offers.{small_of}
+use Rattle.gfx_caps.specs.Offers.{small_of, thin_of}
 use Rattle.gfx_script.specs.declared.TheConstants.{MOST_STEPS}
 use Rattle.gfx_script.specs.declared.error.ScriptKind.{ScriptKind}
 use Rattle.gfx_script.specs.declared.error.ScriptKind.TheVariants.{Toml, Key, Range, Unframed}
+use Rattle.gfx_script.specs.declared.step.Entropy.{Entropy}
 use Rattle.gfx_script.specs.declared.step.Step.{Step}
 use Rattle.gfx_script.specs.declared.turn.Turn.{Turn}
 use Rattle.gfx_script.specs.Checks.{Held, held_first, sides_of_all, held_after}
@@ -21,6 +22,7 @@ use Rattle.gfx_script_text.specs.Pictures.{Gallery, pictures_of}
 use Rattle.gfx_script_text.specs.declared.progressive.Progressive.{Progressive}
 use Rattle.gfx_script_text.specs.Progressive.{progressive_of}
 use Rattle.gfx_script_text.specs.Sessions.{window_of, turns_of}
+use Rattle.gfx_script_text.specs.Video.{video_of}
 use Rattle.gfx_script_text.specs.Words.{step_of}
 
 -- what is wrong, at which step; 0 stands for a fault outside the steps
@@ -47,6 +49,7 @@ pub record Top : Type 0 where
   pub window : Option ℤ
   pub client : Option (List Data)
   pub progressive : Option Members
+  pub video : Option Members
   pub picture : List Data
   pub step : List Data
   pub turn : List Data
@@ -54,31 +57,34 @@ pub record Top : Type 0 where
 -- the same of a text's table: the faults of the top table itself come before all others
 unfoldable pub top_of : Members → Result Top ScriptKind
 top_of top = do
-  known ← check Key (has_only (codes "window" ∷ codes "client" ∷ codes "progressive" ∷ codes "picture" ∷ codes "step" ∷ codes "turn" ∷ []) top)
+  known ← check Key (has_only (codes "window" ∷ codes "client" ∷ codes "progressive" ∷ codes "video" ∷ codes "picture" ∷ codes "step" ∷ codes "turn" ∷ []) top)
   window ← whole_if_any (get_member (codes "window") top)
   client ← items_if_any (get_member (codes "client") top)
   progressive ← table_if_any (get_member (codes "progressive") top)
+  video ← table_if_any (get_member (codes "video") top)
   picture ← items_or_none (get_member (codes "picture") top)
   step ← items_or_none (get_member (codes "step") top)
   turn ← items_or_none (get_member (codes "turn") top)
-  Ok record { window = window; client = client; progressive = progressive; picture = picture; step = step; turn = turn }
+  Ok record { window = window; client = client; progressive = progressive; video = video; picture = picture; step = step; turn = turn }
 
 -- what stands before the steps
 pub record Head : Type 0 where
   pub window : ℕ
   pub offers : List Offer
   pub progressive : Progressive
+  pub entropy : Entropy
   pub gallery : Gallery
 
--- the same of a top: `window`, `client` and `progressive` come before `picture`, and `step` behind it
+-- the same of a top: `window`, `client`, `progressive` and `video` come before `picture`, and `step` behind it
 unfoldable pub head_of : Top → Result Head ScriptKind
 head_of top = do
   window ← window_of top.window
   offers ← offers_of top.client
   progressive ← progressive_of top.progressive
+  entropy ← video_of top.video
   gallery ← pictures_of top.picture
   few ← check Range (nat_le (length top.step) MOST_STEPS)
-  Ok record { window = window; offers = offers; progressive = progressive; gallery = gallery }
+  Ok record { window = window; offers = offers; progressive = progressive; entropy = entropy; gallery = gallery }
 
 -- the step that a value is, and what is held after it
 unfoldable pub next_step : List (List ℕ) → Held → Data → Result (Step × Held) ScriptKind
@@ -108,6 +114,8 @@ script_with head steps turns = record {
   differences = head.progressive.differences;
   pictures = head.gallery.pictures;
   small = small_of head.offers;
+  thin = thin_of head.offers;
+  entropy = head.entropy;
   steps = steps;
   turns = turns;
 }

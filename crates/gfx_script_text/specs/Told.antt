@@ -36,6 +36,8 @@ parts_seen parts = record {
   differences = parts.differences;
   pictures = parts.pictures.items;
   small = parts.small;
+  thin = parts.thin;
+  entropy = parts.entropy;
   steps = parts.steps.items;
   turns = parts.turns.items;
 }
@@ -50,6 +52,7 @@ top_seen top = record {
   window = top.window;
   client = option_map (λ items. map view items.now) top.client;
   progressive = option_map (λ table. table_view table.now) top.progressive;
+  video = option_map (λ table. table_view table.now) top.video;
   picture = map view top.picture.now;
   step = map view top.step.now;
   turn = map view top.turn.now;
@@ -57,4 +60,10 @@ top_seen top = record {
 
 -- what stands before the steps, as contracts see it
 abbrev pub head_seen : read_head.Head → text.Head
-head_seen head = record { window = head.window; offers = head.offers; progressive = head.progressive; gallery = gallery_seen head.gallery }
+head_seen head = record {
+  window = head.window;
+  offers = head.offers;
+  progressive = head.progressive;
+  entropy = head.entropy;
+  gallery = gallery_seen head.gallery;
+}

@@ -15,7 +15,7 @@ use Rattle.gfx_script_text.specs.declared.TheConstants.{MOST_NUMBER}
 use Rattle.gfx_script.specs.declared.error.ScriptKind.{ScriptKind}
 use Rattle.gfx_script.specs.declared.error.ScriptKind.TheVariants.{Key, Range}
 use Rattle.gfx_script.specs.declared.step.Kind.{Kind}
-use Rattle.gfx_script.specs.declared.step.Kind.TheVariants.{Raw, Residual, Bands, Palette, Plain, Progressive}
+use Rattle.gfx_script.specs.declared.step.Kind.TheVariants.{Raw, Residual, Bands, Palette, Plain, Progressive, Video}
 use Rattle.gfx_script.specs.declared.step.Step.{Step}
 use Rattle.gfx_script.specs.declared.step.Step.TheVariants.{Surface, Delete, Reset, Map, Fill, Copy, Keep, Show, Forget, Paint, Improve, Frame}
 use Rattle.gfx_script_text.specs.Colour.{colour_of}
@@ -155,6 +155,7 @@ kind_named word =
     else if bytes_eq word (codes "plain") then Ok (Some Plain)
     else if bytes_eq word (codes "progressive") then Ok (Some Progressive)
     else if bytes_eq word (codes "auto") then Ok None
+    else if bytes_eq word (codes "video") then Ok (Some Video)
     else Err Key
 
 -- the kind, which may be missing

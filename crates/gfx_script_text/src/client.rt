@@ -1,17 +1,18 @@
 //! The versions that the client of a script offers.
 
-ghost use Rattle.std.specs.Prelude.{◌≡◌, [], ◌∷◌, map, option_map, IfOk};
+ghost use Rattle.std.specs.Prelude.{◌≡◌, [], ◌∷◌, map, option_map, IfOk, codes};
 ghost use Rattle.gfx_base.specs.Outcome.{Gives};
 ghost use Rattle.gfx_base.specs.Results.{each};
-ghost use Rattle.toml.specs.View.{view};
-ghost use Rattle.gfx_script_text.specs.Clients.{offer_in, version_named, usual_offer, offers_of};
+ghost use Rattle.toml.specs.Data.{get_member};
+ghost use Rattle.toml.specs.View.{table_view, view};
+ghost use Rattle.gfx_script_text.specs.Clients.{offer_in, version_named, thin_with, usual_offer, offers_of};
 
-use crate::members::{check_keys, flag_or_false, text};
+use crate::members::{check_keys, flag_or_false, member, text};
 use gfx_base::NoMemory;
 use gfx_caps::{Offer, Offers, VERSION_8, VERSION_8_1, VERSION_10};
 use gfx_script::{Flaw, MOST_VERSIONS, ScriptKind};
 use std::alloc::Global;
-use toml::Value;
+use toml::{Table, Value};
 
 /// Reads what stands under `client`, if anything does.
 #[tactic(auto, unfolding(crate::specs::Clients::offers_of, gfx_base::specs::Results::and_then))]
@@ -35,6 +36,7 @@ fn usual_offers(alloc: Global) -> Result<Offers, NoMemory>
     offers.push(Offer {
         version: VERSION_10,
         small: false,
+        thin: false,
     })?;
     Ok(offers)
 }
@@ -59,11 +61,28 @@ fn read_offer(value: &Value) -> Result<Offer, ScriptKind>
     let Value::Table(table) = value else {
         return Err(ScriptKind::Key);
     };
-    check_keys(table, &["version", "small"])?;
+    check_keys(table, &["version", "small", "thin"])?;
     let word = text(table, "version")?;
     let version = version_named(word)?;
     let small = flag_or_false(table, "small")?;
-    Ok(Offer { version, small })
+    let thin = read_thin(table, version)?;
+    Ok(Offer {
+        version,
+        small,
+        thin,
+    })
+}
+
+/// Whether the client is thin with a version. A table of version 10 has no such key.
+fn read_thin(table: &Table, version: u32) -> Result<bool, ScriptKind>
+    ensures { result ≡ thin_with version (get_member (codes "thin") (table_view table.now)) }
+{
+    match member(table, "thin") {
+        None => Ok(false),
+        Some(_) if version == VERSION_10 => Err(ScriptKind::Key),
+        Some(Value::Boolean(flag)) => Ok(*flag),
+        Some(_) => Err(ScriptKind::Key),
+    }
 }
 
 /// The version that a word names.

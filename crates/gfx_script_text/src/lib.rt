@@ -24,6 +24,7 @@ mod promises;
 mod reading;
 mod session;
 mod surface;
+mod video;
 mod words;
 
 pub use error::ScriptError;

@@ -74,6 +74,7 @@ fn kind_named(word: &str) -> Result<Option<Kind>, ScriptKind>
         "plain" => Ok(Some(Kind::Plain)),
         "progressive" => Ok(Some(Kind::Progressive)),
         "auto" => Ok(None),
+        "video" => Ok(Some(Kind::Video)),
         _ => Err(ScriptKind::Key),
     }
 }

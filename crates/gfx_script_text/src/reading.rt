@@ -18,10 +18,13 @@ use crate::names::Names;
 use crate::pictures::{Gallery, read_pictures};
 use crate::progressive::{Progressive, read_progressive};
 use crate::session::{read_turns, read_window};
+use crate::video::read_video;
 use crate::words::read_step;
-use gfx_caps::{Offers, offers_small};
+use gfx_caps::{Offers, offers_small, offers_thin};
 use gfx_quant::Setting;
-use gfx_script::{Flaw, Held, MOST_STEPS, Picture, Script, ScriptKind, Step, Turn, is_framed};
+use gfx_script::{
+    Entropy, Flaw, Held, MOST_STEPS, Picture, Script, ScriptKind, Step, Turn, is_framed,
+};
 use std::alloc::Global;
 use toml::{Table, Value};
 
@@ -34,6 +37,8 @@ struct Parts {
     differences: bool,
     pictures: Vec<Picture>,
     small: bool,
+    thin: bool,
+    entropy: Entropy,
     steps: Vec<Step>,
     turns: Vec<Turn>,
 }
@@ -44,6 +49,7 @@ struct Top<'a> {
     window: Option<i64>,
     client: Option<&'a [Value]>,
     progressive: Option<&'a Table>,
+    video: Option<&'a Table>,
     picture: &'a [Value],
     step: &'a [Value],
     turn: &'a [Value],
@@ -55,6 +61,7 @@ struct Head<'a> {
     window: u8,
     offers: Offers,
     progressive: Progressive,
+    entropy: Entropy,
     gallery: Gallery<'a>,
 }
 
@@ -79,6 +86,8 @@ pub fn read_script(alloc: Global, text: &[u8]) -> Result<Script, ScriptError>
         parts.differences,
         parts.pictures,
         parts.small,
+        parts.thin,
+        parts.entropy,
         parts.steps,
         parts.turns,
     ))
@@ -101,6 +110,7 @@ fn read_parts(alloc: Global, text: &str) -> Result<Parts, ScriptError>
         window,
         offers,
         progressive,
+        entropy,
         gallery,
     } = match read_head(alloc, top) {
         Ok(head) => head,
@@ -112,6 +122,7 @@ fn read_parts(alloc: Global, text: &str) -> Result<Parts, ScriptError>
     } = progressive;
     let Gallery { names, pictures } = gallery;
     let small = offers_small(offers.as_slice());
+    let thin = offers_thin(offers.as_slice());
     let Ok(held) = Held::new(alloc, &pictures, small) else {
         return Err(ScriptError::Memory);
     };
@@ -133,6 +144,8 @@ fn read_parts(alloc: Global, text: &str) -> Result<Parts, ScriptError>
         differences,
         pictures,
         small,
+        thin,
+        entropy,
         steps,
         turns,
     })
@@ -157,11 +170,20 @@ fn read_top(table: &Table) -> Result<Top<'_>, ScriptKind>
 {
     check_keys(
         table,
-        &["window", "client", "progressive", "picture", "step", "turn"],
+        &[
+            "window",
+            "client",
+            "progressive",
+            "video",
+            "picture",
+            "step",
+            "turn",
+        ],
     )?;
     let window = whole_if_any(table, "window")?;
     let client = items_if_any(table, "client")?;
     let progressive = table_if_any(table, "progressive")?;
+    let video = table_if_any(table, "video")?;
     let picture = items_or_none(table, "picture")?;
     let step = items_or_none(table, "step")?;
     let turn = items_or_none(table, "turn")?;
@@ -169,6 +191,7 @@ fn read_top(table: &Table) -> Result<Top<'_>, ScriptKind>
         window,
         client,
         progressive,
+        video,
         picture,
         step,
         turn,
@@ -195,6 +218,7 @@ fn read_head(alloc: Global, top: Top<'_>) -> Result<Head<'_>, Flaw>
     let window = read_window(top.window)?;
     let offers = read_client(alloc, top.client)?;
     let progressive = read_progressive(top.progressive)?;
+    let entropy = read_video(top.video)?;
     let gallery = read_pictures(alloc, top.picture)?;
     if top.step.len() > MOST_STEPS as usize {
         return Err(Flaw::Refused(ScriptKind::Range));
@@ -203,6 +227,7 @@ fn read_head(alloc: Global, top: Top<'_>) -> Result<Head<'_>, Flaw>
         window,
         offers,
         progressive,
+        entropy,
         gallery,
     })
 }

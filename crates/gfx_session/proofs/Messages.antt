@@ -13,12 +13,11 @@ use Rattle.gfx_base.specs.declared.answer.Cause.{Cause}
 use Rattle.gfx_base.specs.declared.answer.Cause.TheVariants as cause
 use Rattle.gfx_base.specs.declared.refusal.Refusal.{Refusal}
 use Rattle.gfx_base.specs.declared.refusal.Refusal.TheVariants.{CapsVersion}
-use Rattle.gfx_caps.specs.Choice.{has_flag, choice}
+use Rattle.gfx_caps.specs.Choice.{binds_small, choice}
 use Rattle.gfx_caps.specs.declared.choice.Chosen.{Chosen}
 use Rattle.gfx_caps.specs.declared.message.ClientPdu.{ClientPdu}
 use Rattle.gfx_caps.specs.declared.message.ClientPdu.TheVariants as message
 use Rattle.gfx_caps.specs.declared.sets.CapsSet.{CapsSet}
-use Rattle.gfx_caps.specs.declared.versions.TheConstants.{SMALL_CACHE}
 use Rattle.gfx_schedule.specs.Hearing.{Heard, stop, confirm, confirms, acknowledges, told}
 use Rattle.gfx_schedule.specs.ServerEnd.{Stop}
 use Rattle.gfx_schedule.specs.ServerEnd.{Refused as refuses, Unknown as unknown}
@@ -75,11 +74,11 @@ not_chosen script end now has r (Err s) e = λ before had heard a.
     let same : s ≡ r = cc in (amid_stop before now had has end heard (refuses s) a, ap (λ z. Some (refuses z)) same)
 not_chosen script end now has r (Ok chosen) e = absurd cc
 
-too_small : (script : Script) (heard : Heard) (chosen : Chosen) → (has_flag chosen.flags SMALL_CACHE && not script.small) ≡ true → confirms script heard (Ok chosen) ≡ stop heard (refuses CapsVersion)
+too_small : (script : Script) (heard : Heard) (chosen : Chosen) → (binds_small chosen.flags && not script.small) ≡ true → confirms script heard (Ok chosen) ≡ stop heard (refuses CapsVersion)
 unfolding confirms
 too_small script heard chosen e = rw e refl
 
-pub not_small : (script : Script) (end : ServerEnd) (now : List ℕ) (has : List Taken) (chosen : Chosen) (due : Result Chosen Refusal) → due ≡ Ok chosen → (has_flag chosen.flags SMALL_CACHE && not script.small) ≡ true
+pub not_small : (script : Script) (end : ServerEnd) (now : List ℕ) (has : List Taken) (chosen : Chosen) (due : Result Chosen Refusal) → due ≡ Ok chosen → (binds_small chosen.flags && not script.small) ≡ true
     → Obeys (Err (Refused CapsVersion)) end end now now has has (λ heard. confirms script heard due)
 not_small script end now has chosen due e small = λ before had heard a.
     let is : confirms script heard due ≡ stop heard (refuses CapsVersion) = ap (confirms script heard) e ∙ too_small script heard chosen small in
@@ -89,7 +88,7 @@ not_small script end now has chosen due e small = λ before had heard a.
 abbrev confirmed : Heard → Chosen → Heard
 confirmed heard chosen = record heard { end = record heard.end { confirmed = true }; out = heard.out ++ sent (confirm chosen ∷ []) }
 
-is_confirmed : (script : Script) (heard : Heard) (chosen : Chosen) → (has_flag chosen.flags SMALL_CACHE && not script.small) ≡ false → confirms script heard (Ok chosen) ≡ confirmed heard chosen
+is_confirmed : (script : Script) (heard : Heard) (chosen : Chosen) → (binds_small chosen.flags && not script.small) ≡ false → confirms script heard (Ok chosen) ≡ confirmed heard chosen
 unfolding confirms
 is_confirmed script heard chosen e = rw e refl
 
@@ -104,7 +103,7 @@ amid_confirmed before now later had has end heard chosen wrote a = record {
   paired = a.paired;
 }
 
-pub chosen : (script : Script) (end : ServerEnd) (now later : List ℕ) (has : List Taken) (pick : Chosen) (due : Result Chosen Refusal) → due ≡ Ok pick → (has_flag pick.flags SMALL_CACHE && not script.small) ≡ false → later ≡ now ++ sent (confirm pick ∷ [])
+pub chosen : (script : Script) (end : ServerEnd) (now later : List ℕ) (has : List Taken) (pick : Chosen) (due : Result Chosen Refusal) → due ≡ Ok pick → (binds_small pick.flags && not script.small) ≡ false → later ≡ now ++ sent (confirm pick ∷ [])
     → Obeys (Ok tt) end (record end { confirmed = true }) now later has has (λ heard. confirms script heard due)
 chosen script end now later has pick due e small wrote = λ before had heard a.
     let is : confirms script heard due ≡ confirmed heard pick = ap (confirms script heard) e ∙ is_confirmed script heard pick small in (

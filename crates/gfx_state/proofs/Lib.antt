@@ -8,3 +8,4 @@ pub mod Wider
 pub mod Effects
 pub mod Coming
 pub mod Leading
+pub mod VideoSides

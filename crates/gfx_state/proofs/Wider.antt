@@ -21,10 +21,10 @@ use Rattle.gfx_surface.specs.Picture.{Picture}
 use Rattle.gfx_prog_decode.specs.Records.{Records, without_context, without_surface}
 use Rattle.gfx_surface_map.specs.Shown.{Shown, with_picture}
 use Rattle.gfx_state.specs.declared.codec.Codec.{Codec}
-use Rattle.gfx_state.specs.declared.codec.Codec.TheVariants.{Uncompressed, ClearCodec}
+use Rattle.gfx_state.specs.declared.codec.Codec.TheVariants.{Uncompressed, Video, ClearCodec}
 use Rattle.gfx_state.specs.State.{State, started, fresh}
 use Rattle.gfx_state.specs.Same.{Same, StepsAlike, Wider}
-use Rattle.gfx_state.specs.Step.{step, frame_started, frame_ended, showing, surface_created, rects_filled, bytes_painted, stream_painted, painted_by, data_painted, tiles_drawn, tiles_painted, context_deleted, surface_ended, caching, image_in, rect_stored, slot_put, graphics_reset, caps_confirmed}
+use Rattle.gfx_state.specs.Step.{step, frame_started, frame_ended, showing, surface_created, rects_filled, bytes_painted, video_painted, stream_painted, painted_by, data_painted, tiles_drawn, tiles_painted, context_deleted, surface_ended, caching, image_in, rect_stored, slot_put, graphics_reset, caps_confirmed}
 use Rattle.gfx_state.specs.Sending.{all_steps, sent, IsCarried, standing, count_after}
 use Rattle.gfx_state.specs.Run.{eats}
 use Rattle.gfx_pdu.specs.Spelling.{spelling}
@@ -143,6 +143,11 @@ by_bytes_wider : (s : State) (wide : Bool) (id : ℕ) (picture : Picture) (forma
 unfolding bytes_painted
 by_bytes_wider s wide id picture format rect payload only = after Wider _ _ _ (λ whole. gives Wider _ _ (drawn_wider s wide _ only))
 
+-- a message of RemoteFX video is applied alike
+by_video_wider : (s : State) (wide : Bool) (id : ℕ) (picture : Picture) (rect : Rect) (payload : List ℕ) → (wide ≡ true → s.cache.small ≡ true) → Follows Wider (video_painted s id picture rect payload) (video_painted (limited s wide) id picture rect payload)
+unfolding video_painted
+by_video_wider s wide id picture rect payload only = after Wider _ _ _ (λ new. gives Wider _ _ (drawn_wider s wide _ only))
+
 -- a stream is decoded alike, as nothing of the cache is read
 by_stream_wider : (s : State) (wide : Bool) (id : ℕ) (picture : Picture) (rect : Rect) (payload : List ℕ) → (wide ≡ true → s.cache.small ≡ true) → Follows Wider (stream_painted s id picture rect payload) (stream_painted (limited s wide) id picture rect payload)
 unfolding stream_painted
@@ -151,6 +156,7 @@ by_stream_wider s wide id picture rect payload only =
 
 by_codec_wider : (codec : Codec) (s : State) (wide : Bool) (id : ℕ) (picture : Picture) (format : Format) (rect : Rect) (payload : List ℕ) → (wide ≡ true → s.cache.small ≡ true) → Follows Wider (painted_by codec s id picture format rect payload) (painted_by codec (limited s wide) id picture format rect payload)
 by_codec_wider Uncompressed s wide id picture format rect payload only = by_bytes_wider s wide id picture format rect payload only
+by_codec_wider Video s wide id picture format rect payload only = by_video_wider s wide id picture rect payload only
 by_codec_wider ClearCodec s wide id picture format rect payload only = by_stream_wider s wide id picture rect payload only
 
 painted_wider : (s : State) (wide : Bool) (id codec byte : ℕ) (rect : Rect) (payload : List ℕ) → (wide ≡ true → s.cache.small ≡ true) → Follows Wider (data_painted s id codec byte rect payload) (data_painted (limited s wide) id codec byte rect payload)

@@ -1,11 +1,15 @@
 -- The codecs of RDPGFX_WIRE_TO_SURFACE_PDU_1 that are built ([MS-RDPEGFX] 2.2.2.1, codecId).
 use Rattle.std.specs.Prelude.{ℕ, ◌==◌, Option, Some, None, if◌then◌else◌}
 use Rattle.gfx_state.specs.declared.codec.Codec.{Codec}
-use Rattle.gfx_state.specs.declared.codec.Codec.TheVariants.{Uncompressed, ClearCodec}
+use Rattle.gfx_state.specs.declared.codec.Codec.TheVariants.{Uncompressed, Video, ClearCodec}
 
 -- RDPGFX_CODECID_UNCOMPRESSED
 abbrev pub UNCOMPRESSED : ℕ
 UNCOMPRESSED = 0
+
+-- RDPGFX_CODECID_CAVIDEO
+abbrev pub VIDEO : ℕ
+VIDEO = 3
 
 -- RDPGFX_CODECID_CLEARCODEC
 abbrev pub CLEARCODEC : ℕ
@@ -17,9 +21,11 @@ PROGRESSIVE = 9
 
 -- the codec of an id, if it is built
 unfoldable pub codec_of : ℕ → Option Codec
-codec_of id = if id == UNCOMPRESSED then Some Uncompressed else if id == CLEARCODEC then Some ClearCodec else None
+codec_of id =
+    if id == UNCOMPRESSED then Some Uncompressed else if id == VIDEO then Some Video else if id == CLEARCODEC then Some ClearCodec else None
 
 -- the id of a codec
 abbrev pub id_of : Codec → ℕ
 id_of Uncompressed = UNCOMPRESSED
+id_of Video = VIDEO
 id_of ClearCodec = CLEARCODEC

@@ -15,8 +15,8 @@ use Rattle.gfx_base.specs.declared.geometry.Rect.{Rect}
 use Rattle.gfx_base.specs.declared.pixel.Pixel.{Pixel}
 use Rattle.gfx_base.specs.declared.refusal.Refusal.{Refusal}
 use Rattle.gfx_base.specs.declared.refusal.Refusal.TheVariants.{NoSurface, SurfaceExists, SurfaceSize, RectOutside, PixelFormat, CodecRefused, PayloadLength, SlotRange, FrameOpen, FrameMismatch, CapsVersion}
-use Rattle.gfx_caps.specs.Choice.{has_flag}
-use Rattle.gfx_caps.specs.declared.versions.TheConstants.{VERSION_8, VERSION_8_1, VERSION_10, FLAGS_SIZE, SMALL_CACHE}
+use Rattle.gfx_caps.specs.Choice.{binds_small}
+use Rattle.gfx_caps.specs.declared.versions.TheConstants.{VERSION_8, VERSION_8_1, VERSION_10, FLAGS_SIZE}
 use Rattle.gfx_pdu.specs.declared.pdu.Pdu.{Pdu}
 use Rattle.gfx_pdu.specs.declared.pdu.Pdu.TheVariants.{WireToSurface1, WireToSurface2, DeleteEncodingContext, SolidFill, SurfaceToSurface, SurfaceToCache, CacheToSurface, EvictCacheEntry, CreateSurface, DeleteSurface, StartFrame, EndFrame, ResetGraphics, MapSurfaceToOutput, CapsConfirm}
 use Rattle.gfx_bitmap_cache.specs.Slots.{Cached, Image, cached, entry, takes_slot, stored, evicted}
@@ -26,11 +26,12 @@ use Rattle.gfx_surface_map.specs.Surfaces.{is_size, painted}
 use Rattle.gfx_surface_map.specs.Shown.{Shown, with_picture, surface_made, surface_deleted, surface_copied, pixels_put, output_reset, output_mapped}
 use Rattle.gfx_clear.specs.State.{without_sequence}
 use Rattle.gfx_clear.specs.Painting.{scene, decoded}
+use Rattle.gfx_rfx_video.specs.Video.{after_video}
 use Rattle.gfx_prog_decode.specs.Progressive.{after_message}
 use Rattle.gfx_prog_decode.specs.Records.{without_context, without_surface}
 use Rattle.gfx_prog_decode.specs.Scene.{scene as tiles_on}
 use Rattle.gfx_state.specs.declared.codec.Codec.{Codec}
-use Rattle.gfx_state.specs.declared.codec.Codec.TheVariants.{Uncompressed, ClearCodec}
+use Rattle.gfx_state.specs.declared.codec.Codec.TheVariants.{Uncompressed, Video, ClearCodec}
 use Rattle.gfx_state.specs.Codecs.{PROGRESSIVE, codec_of}
 use Rattle.gfx_state.specs.State.{State}
 
@@ -78,6 +79,12 @@ bytes_painted state id picture format rect payload = do
   whole ← check PayloadLength (length payload == 4 * (width_of rect * height_of rect))
   Ok (record state { shown = with_picture state.shown id (overlaid picture rect (raw_pixels format payload)) })
 
+-- a message of RemoteFX video, which leaves nothing for later ones
+unfoldable pub video_painted : State → ℕ → Picture → Rect → List ℕ → Result State Refusal
+video_painted state id picture rect payload = do
+  new ← after_video rect payload picture
+  Ok (record state { shown = with_picture state.shown id new })
+
 -- a ClearCodec stream, which goes on from the streams before it
 unfoldable pub stream_painted : State → ℕ → Picture → Rect → List ℕ → Result State Refusal
 stream_painted state id picture rect payload = do
@@ -87,6 +94,7 @@ stream_painted state id picture rect payload = do
 -- data by their codec
 abbrev pub painted_by : Codec → State → ℕ → Picture → Format → Rect → List ℕ → Result State Refusal
 painted_by Uncompressed state id picture format rect payload = bytes_painted state id picture format rect payload
+painted_by Video state id picture format rect payload = video_painted state id picture rect payload
 painted_by ClearCodec state id picture format rect payload = stream_painted state id picture rect payload
 
 -- RDPGFX_WIRE_TO_SURFACE_PDU_1
@@ -160,7 +168,7 @@ is_version version = version == VERSION_8 || version == VERSION_8_1 || version =
 
 -- these flags choose the small limits
 abbrev pub has_small_cache : List ℕ → Bool
-has_small_cache flags = has_flag (number_at w32 flags 0) SMALL_CACHE
+has_small_cache flags = binds_small (number_at w32 flags 0)
 
 -- RDPGFX_CAPS_CONFIRM_PDU: it sets the limits of later stores
 unfoldable pub caps_confirmed : State → ℕ → List ℕ → Result State Refusal

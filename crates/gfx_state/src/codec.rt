@@ -1,13 +1,15 @@
 ghost use Rattle.std.specs.Prelude.{◌≡◌};
 ghost use Rattle.gfx_state.specs.Codecs.{codec_of, id_of};
 
-use gfx_pdu::{CLEAR_CODEC, UNCOMPRESSED};
+use gfx_pdu::{CLEAR_CODEC, UNCOMPRESSED, VIDEO};
 
 /// A codec of RDPGFX_WIRE_TO_SURFACE_PDU_1 that is built ([MS-RDPEGFX] 2.2.2.1, codecId).
 #[derive(Clone, Copy, Debug, PartialEq, Eq)]
 pub enum Codec {
     /// Four bytes a pixel: blue, green, red, alpha.
     Uncompressed,
+    /// RemoteFX video ([MS-RDPRFX] 2.2.2).
+    Video,
     /// ClearCodec ([MS-RDPEGFX] 2.2.4.1).
     ClearCodec,
 }
@@ -20,6 +22,7 @@ impl Codec {
     {
         match id {
             UNCOMPRESSED => Some(Codec::Uncompressed),
+            VIDEO => Some(Codec::Video),
             CLEAR_CODEC => Some(Codec::ClearCodec),
             _ => None,
         }
@@ -31,6 +34,7 @@ impl Codec {
     {
         match self {
             Codec::Uncompressed => UNCOMPRESSED,
+            Codec::Video => VIDEO,
             Codec::ClearCodec => CLEAR_CODEC,
         }
     }

@@ -7,6 +7,8 @@ use Rattle.gfx_client.specs.declared.client.Client.{Client}
 use Rattle.gfx_client.specs.declared.fault.ClientFault.{ClientFault}
 use Rattle.gfx_client.specs.declared.fault.ClientFault.TheVariants as fault
 use Rattle.gfx_client.specs.Client.{cursor_of, closed_by, end_of}
+use Rattle.gfx_fragments.specs.Found.{Found, fragmented, joined}
+use Rattle.gfx_fragments.proofs.FoundLemmas.{IsFinder, fragments_found, joins_found}
 use Rattle.gfx_input.specs.declared.fault.InputFault.{InputFault}
 use Rattle.gfx_input.specs.declared.fault.InputFault.TheVariants as input
 use Rattle.gfx_input.specs.declared.reading.Read.{Read}
@@ -21,7 +23,7 @@ use Rattle.gfx_state.specs.State.{State}
 use Rattle.gfx_state.proofs.Runs.{eats-nil}
 use Rattle.gfx_surface_map.specs.Shown.{Shown}
 use Rattle.gfx_words.specs.declared.table.Command.{Command}
-use Rattle.gfx_words.specs.declared.table.Command.TheVariants.{Render, RenderOutput, Audit, Encode, Session, Make, Trial}
+use Rattle.gfx_words.specs.declared.table.Command.TheVariants.{Render, RenderOutput, Audit, Encode, Session, Make, Trial, Fragment, Join}
 use Rattle.gfxpipe.specs.declared.ending.Ending.{Ending}
 use Rattle.gfxpipe.specs.declared.outcome.Outcome.{Outcome}
 use Rattle.gfxpipe.specs.declared.recording.Player.{Player}
@@ -34,7 +36,7 @@ use Rattle.gfxpipe.specs.Dump.{dump_of, Prints}
 use Rattle.gfxpipe.specs.Outcome.{ended_of, session_of}
 use Rattle.gfxpipe.specs.Recording.{ending_by}
 use Rattle.gfxpipe.specs.Rule.{Limits, Source, Nothing, From, Rule, DoesBy}
-use Rattle.gfxpipe.specs.Rules.{rule_of, Renders, Audits}
+use Rattle.gfxpipe.specs.Rules.{rule_of, working, Renders, Audits}
 use Rattle.gfxpipe.specs.Run.{Executes}
 use Rattle.gfxpipe.proofs.Encoding.{nothing_written}
 use Rattle.gfxpipe.proofs.Encoding.{unasked as no_stream}
@@ -57,6 +59,10 @@ record IsIdle (rule : Rule) : Type 0 where
   writes : (m : ℕ) (held : Option (List ℕ)) (text : List ℕ) → rule.writes_on (change m m held held) text
   answers : (choosers : List Chooser) (bytes : List ℕ) → rule.answers (Err trouble.Memory) choosers None bytes
   leaves : (choosers : List Chooser) (limit m : ℕ) (held : Option (List ℕ)) (bytes : List ℕ) → rule.leaves (Err trouble.Memory) choosers choosers limit bytes (change m m held held)
+
+-- `fragment` and `join`
+idle_work : (find : List ℕ → Found) → IsFinder find → IsIdle (working find)
+idle_work find law = record { fine = law.fine_first; writes = λ m held text. nothing_written text m held; answers = λ choosers bytes. refl; leaves = λ choosers limit m held bytes. refl }
 
 idle : (command : Command) → IsIdle (rule_of command)
 idle Render = record { fine = fine_none; writes = λ m held text. Gains_none m held; answers = λ choosers bytes. refl; leaves = λ choosers limit m held bytes. refl }
@@ -81,6 +87,8 @@ idle (Trial number) = record {
   answers = λ choosers bytes. refl;
   leaves = λ choosers limit m held bytes. no_session trouble.Memory (found_for number) choosers;
 }
+idle Fragment = idle_work fragmented fragments_found
+idle Join = idle_work joined joins_found
 
 unread : (n : ℕ) (left : Option (List ℕ)) → IsUnread (change n n left left)
 unread n left = record { count = refl; left = Keeps_same left }

@@ -1,6 +1,7 @@
 pub mod Recordings
 pub mod Commands
 pub mod Auditing
+pub mod Working
 pub mod Audited
 pub mod ReadingScripts
 pub mod Encoding

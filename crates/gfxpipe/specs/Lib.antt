@@ -3,6 +3,7 @@ pub mod Sessions
 pub mod Audit
 pub mod Due
 pub mod Leaves
+pub mod Fragments
 pub mod Did
 pub mod Rule
 pub mod Rules

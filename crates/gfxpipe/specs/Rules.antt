@@ -1,6 +1,8 @@
 -- The rules of the commands, one row for each: this project's own rule.
-use Rattle.std.specs.Prelude.{◌≡◌, ℕ, [], None, Result}
+use Rattle.std.specs.Prelude.{◌≡◌, ℕ, List, [], None, Result}
 use Rattle.gfx_base.specs.Stream.{Change}
+use Rattle.gfx_fragments.specs.Due.{IsFine}
+use Rattle.gfx_fragments.specs.Found.{Found, fragmented, joined}
 use Rattle.gfx_generator.specs.Script.{script_text}
 use Rattle.gfx_input.specs.Taking.{fixed}
 use Rattle.gfx_script_text.specs.Text.{script_of}
@@ -14,6 +16,7 @@ use Rattle.gfxpipe.specs.declared.trouble.Trouble.{Trouble}
 use Rattle.gfxpipe.specs.Did.{IsNotRefused, IsAny, WritesNothing, WritesPart}
 use Rattle.gfxpipe.specs.Due.{shown, audited, scripted, found_in, found_for, stream_text}
 use Rattle.gfxpipe.specs.Dump.{dump_of}
+use Rattle.gfxpipe.specs.Fragments.{worked}
 use Rattle.gfxpipe.specs.Leaves.{LeavesStream, LeavesSession}
 use Rattle.gfxpipe.specs.Rule.{Input, Nothing, From, Rule, Did}
 use Rattle.gfxpipe.specs.Sessions.{AnswersOf, session_text, trial_text}
@@ -24,6 +27,10 @@ recording_input = record { limit = λ limits. limits.stream; allowed = fixed; is
 
 abbrev pub script_input : Input
 script_input = record { limit = λ limits. limits.script; allowed = fixed; is_fine = IsAny }
+
+-- what is found in such an input, a stream or a recording of fragments, isn't refused
+abbrev pub item_input : (List ℕ → Found) → Input
+item_input find = record { limit = λ limits. limits.stream; allowed = fixed; is_fine = IsFine find }
 
 -- `render`: a recording is played, and then this is printed of what a client shows
 abbrev pub rendering : Dump → Rule
@@ -91,6 +98,17 @@ trying number = record {
   leaves = λ ended choosers left limit bytes o. LeavesSession ended (found_for number) choosers left;
 }
 
+-- `fragment` and `join`: a stream, or a recording of fragments, is worked off message by message while it is read
+abbrev pub working : (List ℕ → Found) → Rule
+working find = record {
+  reads = From (item_input find);
+  due = λ choosers limit bytes. worked find limit bytes;
+  writes_unread = WritesPart;
+  writes_on = WritesPart;
+  answers = λ ended choosers answered bytes. answered ≡ None;
+  leaves = λ ended choosers left limit bytes o. left ≡ choosers;
+}
+
 -- the rule of a command
 abbrev pub rule_of : Command → Rule
 rule_of command.Render = rendering Surfaces
@@ -100,6 +118,8 @@ rule_of command.Encode = encoding
 rule_of command.Session = playing
 rule_of (command.Make number) = making number
 rule_of (command.Trial number) = trying number
+rule_of command.Fragment = working fragmented
+rule_of command.Join = working joined
 
 -- what `render` did, whatever it prints, and what `audit` did: no choosers are asked
 abbrev pub Renders : Result Ending Trouble → Dump → ℕ → Change → Change → Type 0
@@ -107,3 +127,7 @@ Renders ended dump limit i o = Did ended (rendering dump) recording_input [] lim
 
 abbrev pub Audits : Result Ending Trouble → ℕ → Change → Change → Type 0
 Audits ended limit i o = Did ended auditing recording_input [] limit i o
+
+-- what `fragment` and `join` did
+abbrev pub Works : (List ℕ → Found) → Result Ending Trouble → ℕ → Change → Change → Type 0
+Works find ended limit i o = Did ended (working find) (item_input find) [] limit i o

@@ -5,13 +5,15 @@
 //! holds is printed. For `audit` a line is written for each message of a recording, and at its end what the client
 //! then holds is told. For `encode` a script is read whole, and its stream is written frame by frame.
 //! For `session` a script is read whole, both ends of its session are played, and a line is written for
-//! each acknowledged frame. `make` writes a script that a number stands for, and `trial` plays its session.
+//! each acknowledged frame. `make` writes a script that a number stands for, and `trial` plays its session. `fragment`
+//! writes the recording of fragments of a stream, and `join` the stream of such a recording.
 #![tactic(auto)]
 
 mod audit;
 mod encode;
 mod ending;
 mod flushed;
+mod fragments;
 mod laws;
 mod make;
 mod outcome;

@@ -10,6 +10,7 @@ ghost use Rattle.gfxpipe.specs.Run.{Executes, Runs};
 use crate::audit::audit;
 use crate::encode::encode;
 use crate::ending::{Ending, close};
+use crate::fragments::{fragment, join};
 use crate::make::make;
 use crate::outcome::{Outcome, alone, parted};
 use crate::render::{Dump, render};
@@ -102,6 +103,8 @@ fn execute<C: Chooser, I: Source, O: Sink>(
         Ok(Some(Command::Session)) => session(alloc, script, choosers, input, out),
         Ok(Some(Command::Make(number))) => alone(make(alloc, number, out)),
         Ok(Some(Command::Trial(number))) => trial(alloc, number, choosers, out),
+        Ok(Some(Command::Fragment)) => alone(fragment(alloc, stream, input, out)),
+        Ok(Some(Command::Join)) => alone(join(alloc, stream, input, out)),
         Ok(None) => alone(Ok(Ending::Usage)),
         Err(_) => Err(Trouble::Memory),
     }

@@ -3,6 +3,7 @@ use gfx_base::{NoMemory, SliceSource, VecSink};
 use gfx_chooser::{Chooser, Once};
 use gfxpipe::{Status, run};
 use std::alloc::Global;
+use std::test::Fail;
 
 /// One red surface in one frame.
 pub const FILL: [u8; 91] = [
@@ -79,4 +80,22 @@ pub fn run_by<'a, C: Chooser>(
         out,
         err,
     })
+}
+
+/// What `encode` makes of a script, where it is done.
+pub fn encoded(alloc: Global, script: &str) -> Result<Vec<u8>, Fail> {
+    let ran = run_on(alloc, &["encode"], script.as_bytes(), &[], &[])?;
+    if ran.status != Status::Done {
+        return Err(Fail::from("not encoded"));
+    }
+    let mut bytes = Vec::new(alloc);
+    bytes.extend_from_slice(ran.out.held())?;
+    Ok(bytes)
+}
+
+/// Whether `render` shows this of what `encode` makes of a script.
+pub fn shows(alloc: Global, script: &str, dump: &str) -> Result<bool, Fail> {
+    let stream = encoded(alloc, script)?;
+    let ran = run_on(alloc, &["render"], stream.as_slice(), &[], &[])?;
+    Ok(ran.status == Status::Done && ran.out.held() == dump.as_bytes())
 }

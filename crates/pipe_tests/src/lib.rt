@@ -27,3 +27,5 @@ mod scripts;
 mod session;
 #[cfg(test)]
 mod trial;
+#[cfg(test)]
+mod video;

@@ -1,27 +1,9 @@
 //! Paints in passes, by RemoteFX Progressive: what `encode` sends of them, what `render` shows of that, and a session.
 //! The answers are those of an independent program.
-use crate::examples::run_on;
+use crate::examples::{encoded, run_on, shows};
 use gfxpipe::Status;
 use std::alloc::Global;
 use std::test::Fail;
-
-/// What `encode` makes of a script, where it is done.
-fn encoded(alloc: Global, script: &str) -> Result<Vec<u8>, Fail> {
-    let ran = run_on(alloc, &["encode"], script.as_bytes(), &[], &[])?;
-    if ran.status != Status::Done {
-        return Err(Fail::from("not encoded"));
-    }
-    let mut bytes = Vec::new(alloc);
-    bytes.extend_from_slice(ran.out.held())?;
-    Ok(bytes)
-}
-
-/// Whether `render` shows this of what `encode` makes of a script.
-fn shows(alloc: Global, script: &str, dump: &str) -> Result<bool, Fail> {
-    let stream = encoded(alloc, script)?;
-    let ran = run_on(alloc, &["render"], stream.as_slice(), &[], &[])?;
-    Ok(ran.status == Status::Done && ran.out.held() == dump.as_bytes())
-}
 
 /// Whether the stream of a script ends with these bytes.
 fn ends_with(alloc: Global, script: &str, end: &[u8]) -> Result<bool, Fail> {

@@ -6,7 +6,7 @@ use std::alloc::Global;
 use std::test::Fail;
 
 /// Scripts with one fault each, and the line of it as a reference implementation prints it.
-const FAULTS: [(&str, &str); 16] = [
+const FAULTS: [(&str, &str); 21] = [
     ("step = 3", "script: Key\n"),
     ("steps = []", "script: Key\n"),
     ("client = []\nstep = []", "script: Range\n"),
@@ -55,6 +55,20 @@ const FAULTS: [(&str, &str); 16] = [
     (
         "client = [{ version = \"10\", small = true }]\nstep = [{ do = \"surface\", id = 1, width = 2049, height = 2048 }, { do = \"keep\", id = 1, key = 1, rect = [0, 0, 2049, 2048] }]",
         "script: step 2: BitmapSize\n",
+    ),
+    (
+        "client = [{ version = \"8\", thin = true }]\nstep = [{ do = \"surface\", id = 1, width = 2049, height = 2048 }, { do = \"keep\", id = 1, key = 1, rect = [0, 0, 2049, 2048] }]",
+        "script: step 2: BitmapSize\n",
+    ),
+    (
+        "client = [{ version = \"10\", thin = false }]",
+        "script: Key\n",
+    ),
+    ("video = { entropy = \"rlgr2\" }", "script: Key\n"),
+    ("video = { transform = \"plain\" }", "script: Key\n"),
+    (
+        "picture = [{ name = \"a\", width = 1, height = 1, pattern = \"ramp\" }]\nstep = [{ do = \"surface\", id = 1, width = 1, height = 1 }, { do = \"paint\", id = 1, picture = \"a\", at = [0, 0], kind = \"video\", glyph = 7 }]",
+        "script: step 2: Glyph\n",
     ),
 ];
 

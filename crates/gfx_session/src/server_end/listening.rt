@@ -1,8 +1,7 @@
 //! What the server's end makes of its client's messages.
 
 ghost use Rattle.std.specs.Prelude.{◌≡◌, ℕ, ◌++◌, ◌∷◌, [], ◌+◌, ◌≤◌, List, length, false, not, ◌&&◌, OnOk, OnErr};
-ghost use Rattle.gfx_caps.specs.Choice.{choice, has_flag};
-ghost use Rattle.gfx_caps.specs.declared.versions.TheConstants.{SMALL_CACHE};
+ghost use Rattle.gfx_caps.specs.Choice.{binds_small, choice};
 ghost use Rattle.gfx_caps.specs.Reading.{client_of};
 ghost use Rattle.gfx_schedule.specs.Hearing.{confirm, confirms, acknowledges, told};
 ghost use Rattle.gfx_state.specs.Sending.{sent};
@@ -175,9 +174,9 @@ impl ServerEnd {
         Ok(())
     }
 
-    /// Whether a version has the small cache, which the script's own client has not.
+    /// Whether a version binds its client to the small limits on bitmaps, which don't bind the script's own client.
     fn is_too_small(&self, chosen: Chosen) -> bool
-        ensures { result ≡ (has_flag chosen.flags SMALL_CACHE && not self.now.script.small) }
+        ensures { result ≡ (binds_small chosen.flags && not self.now.script.small) }
     {
         small_cache(chosen) && !self.script.small()
     }

@@ -21,14 +21,14 @@ forget_key-requires c = is_emptied (slot_of c.in-Forget.key c.args.plan.now.plac
 pub paint_picture-requires-clause-there : goal.paint_picture-requires-clause-there
 paint_picture-requires-clause-there c =
     (raw_made c.args.script.now c.args.state.now at_start c.args.plan.now c.args.kind c.in-Paint.kind c.in-Paint.glyph c.in-Paint.id c.in-Paint.picture c.in-Paint.at c.args.step.now
-    c.in-Paint.is c.requires.possible c.requires.messages c.requires.apart).there
+    c.in-Paint.is c.requires.possible c.requires.messages c.requires.apart c.requires.still).there
 
 pub paint_picture-requires-clause-fits : goal.paint_picture-requires-clause-fits
 paint_picture-requires-clause-fits c =
     (raw_made c.args.script.now c.args.state.now at_start c.args.plan.now c.args.kind c.in-Paint.kind c.in-Paint.glyph c.in-Paint.id c.in-Paint.picture c.in-Paint.at c.args.step.now
-    c.in-Paint.is c.requires.possible c.requires.messages c.requires.apart).fits
+    c.in-Paint.is c.requires.possible c.requires.messages c.requires.apart c.requires.still).fits
 
 pub returns-in_ok-paint_picture-in-Paint : goal.returns-in_ok-paint_picture-in-Paint
 returns-in_ok-paint_picture-in-Paint c =
     raw_made_is c.alone-in-Paint.result (λ pdus. pdus.items) c.args.script.now c.args.state.now at_start c.args.plan.now c.args.kind c.in-Paint.kind c.in-Paint.glyph c.in-Paint.id c.in-Paint.picture c.in-Paint.at c.args.step.now
-    c.in_ok-paint_picture-in-Paint.field-0 c.in-Paint.is c.requires.possible c.requires.messages c.requires.apart c.in_ok-paint_picture-in-Paint.ensures c.alone-in-Paint.ensures
+    c.in_ok-paint_picture-in-Paint.field-0 c.in-Paint.is c.requires.possible c.requires.messages c.requires.apart c.requires.still c.in_ok-paint_picture-in-Paint.ensures c.alone-in-Paint.ensures

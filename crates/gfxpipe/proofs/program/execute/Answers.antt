@@ -1,6 +1,6 @@
 use Rattle.std.proofs.Common.{Some, map, sym, ap, ◌∙◌, refl}
 use Rattle.gfx_words.specs.CommandLine.{accepted}
-use Rattle.gfx_words.specs.declared.table.Command.TheVariants.{Render, RenderOutput, Audit, Encode, Session}
+use Rattle.gfx_words.specs.declared.table.Command.TheVariants.{Render, RenderOutput, Audit, Encode, Session, Fragment, Join}
 use Rattle.gfxpipe.specs.Outcome.{ended_of, session_of}
 use Rattle.gfxpipe.specs.Rule.{limits}
 use Rattle.gfxpipe.proofs.Commands.{memory_first, spelled, alone}
@@ -30,6 +30,16 @@ pub returns-in-Ok-Some-Session : goal.returns-in-Ok-Some-Session
 returns-in-Ok-Some-Session g c =
     let words = ap (λ z. Some z) (sym c.in-Ok-Some-Session.field-0-0-is) ∙ sym c.in-Ok-Some-Session.field-0-is ∙ c.in-Ok-Some-Session.ensures in
     spelled (ended_of c.session.result) (session_of c.session.result) (Some Session) _ _ _ (limits c.args.stream c.args.script) _ _ words c.session.ensures
+
+pub returns-in-Ok-Some-Fragment : goal.returns-in-Ok-Some-Fragment
+returns-in-Ok-Some-Fragment g c =
+    let words = ap (λ z. Some z) (sym c.in-Ok-Some-Fragment.field-0-0-is) ∙ sym c.in-Ok-Some-Fragment.field-0-is ∙ c.in-Ok-Some-Fragment.ensures in
+    alone c.alone-in-Ok-Some-Fragment.result c.fragment.result (Some Fragment) _ _ _ (limits c.args.stream c.args.script) _ _ words c.alone-in-Ok-Some-Fragment.ensures.ended c.alone-in-Ok-Some-Fragment.ensures.session (c.fragment.ensures, refl, refl)
+
+pub returns-in-Ok-Some-Join : goal.returns-in-Ok-Some-Join
+returns-in-Ok-Some-Join g c =
+    let words = ap (λ z. Some z) (sym c.in-Ok-Some-Join.field-0-0-is) ∙ sym c.in-Ok-Some-Join.field-0-is ∙ c.in-Ok-Some-Join.ensures in
+    alone c.alone-in-Ok-Some-Join.result c.join.result (Some Join) _ _ _ (limits c.args.stream c.args.script) _ _ words c.alone-in-Ok-Some-Join.ensures.ended c.alone-in-Ok-Some-Join.ensures.session (c.join.ensures, refl, refl)
 
 pub returns-in-Err : goal.returns-in-Err
 returns-in-Err g c = memory_first (accepted (map (λ word. word.now) c.args.words.now)) _ (limits c.args.stream c.args.script) _ _ _ _

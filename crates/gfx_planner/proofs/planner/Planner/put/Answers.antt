@@ -30,11 +30,11 @@ send_step-requires-clause-paint c =
     may_paint_clear c.args.script.now (planned c.self.inside.sender c.self.inside.plan c.self.inside.passes c.self.inside.frames c.self.inside.spent).server c.args.kind c.in-Some.step.now
     (is_allowed c.args.script.now _ c.args.step c.args.kind c.in-Some.step.now found (allowed c.if-self.false))
 
-pub send_step-requires-clause-passes : goal.send_step-requires-clause-passes
-send_step-requires-clause-passes c =
+pub send_step-requires-clause-tiles : goal.send_step-requires-clause-tiles
+send_step-requires-clause-tiles c =
     let found : Some c.in-Some.step.now ≡ step_at c.args.script.now.steps c.args.step = rw c.in-Some.is at c.step.ensures in
     let allowed = rw (← c.self.view_is) at c.requires.allowed in
-    λ in_passes. may_go c.args.script.now (planned c.self.inside.sender c.self.inside.plan c.self.inside.passes c.self.inside.frames c.self.inside.spent).server c.args.kind c.in-Some.step.now
+    may_go c.args.script.now (planned c.self.inside.sender c.self.inside.plan c.self.inside.passes c.self.inside.frames c.self.inside.spent).server c.args.kind c.in-Some.step.now
     (is_allowed c.args.script.now _ c.args.step c.args.kind c.in-Some.step.now found (allowed c.if-self.false))
 
 pub send_step-requires-clause-plan : goal.send_step-requires-clause-plan

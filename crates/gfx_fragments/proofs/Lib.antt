@@ -1,0 +1,9 @@
+pub mod CutLemmas
+pub mod FrontLemmas
+pub mod FoundLemmas
+pub mod EndLemmas
+pub mod TurnLemmas
+pub mod CuttingTurns
+pub mod JoiningTurns
+pub mod LawLemmas
+pub mod Numbers

@@ -1,0 +1,28 @@
+use Rattle.std.proofs.lemmas.Result.{err_from_is_err_and}
+use Rattle.gfx_fragments.specs.Found.{fragmented}
+use Rattle.gfx_fragments.specs.Turns.{HasCut, RefusesCut}
+use Rattle.gfx_fragments.proofs.CuttingTurns.{cut_nothing, at_end, taken_whole, taken_refused}
+use Rattle.gfx_fragments.proofs.EndLemmas.{broke_off, finished}
+use Rattle.gfx_fragments.proofs.FoundLemmas.{fragments_found}
+use Rattle.gfx_fragments.proofs.fragmenting.fragment.Goals as goal
+
+pub read_input-requires-clause-start : goal.read_input-requires-clause-start
+read_input-requires-clause-start g c = cut_nothing _ c.new-taker.ensures.splitter c.new-taker.ensures.number c.new-taker.ensures.refusal
+
+pub read_input-requires-clause-silent : goal.read_input-requires-clause-silent
+read_input-requires-clause-silent g c = fragments_found.silent
+
+pub returns-in_err-read : goal.returns-in_err-read
+returns-in_err-read g c =
+    let p = err_from_is_err_and c.from_residual.result c.from_residual.ensures.1 in
+    rw (p.1, p.2) (broke_off HasCut RefusesCut fragmented fragments_found c.in_err-read.field-0.0 c.args.limit _ _ c.read_input.new.taker c.in_err-read.ensures)
+
+pub refusal_of-refusal-requires : goal.refusal_of-refusal-requires
+refusal_of-refusal-requires g c = at_end c.in_ok-read.read c.args.limit _ _ _ c.read_input.new.taker c.in_ok-read.ensures.2
+
+pub returns : goal.returns
+returns g c =
+    rw c.ended_by.ensures (finished HasCut RefusesCut fragmented fragments_found c.in_ok-read.read c.read_input.new.taker.number c.refusal_of-refusal.result c.args.limit _ _ c.read_input.new.taker
+    (λ bytes h. taken_whole c.read_input.new.taker c.refusal_of-refusal.result bytes c.refusal_of-refusal.ensures.last h)
+    (λ bytes h. taken_refused fragmented c.read_input.new.taker.number c.read_input.new.taker.refusal c.refusal_of-refusal.result bytes c.refusal_of-refusal.ensures.kept h)
+    c.in_ok-read.ensures)

@@ -1,0 +1,5 @@
+pub mod Sent
+pub mod Groups
+pub mod Cover
+pub mod Limits
+mod Making

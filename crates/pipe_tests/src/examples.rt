@@ -72,7 +72,7 @@ pub fn run_by<'a, C: Chooser>(
 ) -> Result<Ran<'a>, NoMemory> {
     let mut input = SliceSource::new(bytes, reads);
     let mut out = VecSink::new(alloc, room, writes)?;
-    let mut err = VecSink::new(alloc, 96, &[])?;
+    let mut err = VecSink::new(alloc, 128, &[])?;
     let status = run(alloc, words, choosers, &mut input, &mut out, &mut err).into_status();
     Ok(Ran {
         status,

@@ -5,3 +5,4 @@ pub mod Raising
 pub mod Staying
 pub mod Delivering
 pub mod Bringing
+pub mod Unraised

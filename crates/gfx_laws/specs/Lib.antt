@@ -1,5 +1,6 @@
 pub mod PassesShown
 pub mod VideoShown
+pub mod Thin
 pub mod Raised
 pub mod Stays
 pub mod Delivered

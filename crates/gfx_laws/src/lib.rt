@@ -1,9 +1,10 @@
 //! Laws on the whole, in other words than the definitions that both ends of the pipe and its promise share: an error
 //! in one of those would agree with itself, and is refused here.
 //!
-//! They say which pixel a paint in passes, or as video, shows at each place, which tiles an improvement raises and where it writes,
-//! and that all else stays as it was; what a whole channel message of any stream comes to; and that the choosers of a
-//! session may be changed between its turns. It holds laws alone, and nothing stands on it.
+//! They say which pixel a paint in passes, or as video, shows at each place, which tiles an improvement raises and where
+//! it writes, that all else stays as it was, and that to a thin client no tile is live; what a whole channel message of
+//! any stream comes to; and that the choosers of a session may be changed between its turns. It holds laws alone, and
+//! nothing stands on it.
 #![tactic(auto)]
 
 mod seen;
@@ -12,7 +13,7 @@ mod streams;
 
 pub use seen::{
     improvements_raise_live_tiles, paints_in_passes_show_their_source, pixels_stay_until_written,
-    video_paints_show_their_source,
+    thin_clients_have_no_live_tiles, video_paints_show_their_source,
 };
 pub use sessions::{any_choosers_may_be_brought, later_kinds_are_not_seen};
 pub use streams::whole_messages_are_delivered;

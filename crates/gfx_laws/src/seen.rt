@@ -2,6 +2,7 @@
 ghost use Rattle.gfx_laws.specs.PassesShown.{PaintsInPassesShowTheirSource};
 ghost use Rattle.gfx_laws.specs.Raised.{ImprovementsRaiseLiveTiles};
 ghost use Rattle.gfx_laws.specs.Stays.{PixelsStayUntilWritten};
+ghost use Rattle.gfx_laws.specs.Thin.{ThinClientsHaveNoLiveTiles};
 ghost use Rattle.gfx_laws.specs.VideoShown.{VideoPaintsShowTheirSource};
 
 /// Right after a paint in passes each pixel of its place is its cell's tile at the first level, whose values are the
@@ -15,6 +16,12 @@ pub fn paints_in_passes_show_their_source()
 /// on nothing; all other pixels are as they were.
 pub fn video_paints_show_their_source()
     ensures { VideoPaintsShowTheirSource }
+{}
+
+/// To a thin client nothing goes in passes: no tile is live, whatever kinds its steps go as, and an improvement sends
+/// none.
+pub fn thin_clients_have_no_live_tiles()
+    ensures { ThinClientsHaveNoLiveTiles }
 {}
 
 /// An improvement raises each live tile of its surface that is below the last level, and no other; it changes no

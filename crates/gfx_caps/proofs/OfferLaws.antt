@@ -45,7 +45,7 @@ qualifies-offered version offer =
     ∙ ap (λ b. b && allows version offer.thin) (and-true (offer.version == version) true refl)
 
 -- the flags that are kept of an offer
-abbrev kept_from : Bool → Bool → Bool → Bool → ℕ
+abbrev pub kept_from : Bool → Bool → Bool → Bool → ℕ
 kept_from small thin ten keeps =
     bit_and (number_at w32 (body_from small thin ten) 0) (if keeps then SMALL_CACHE + AVC_DISABLED else SMALL_CACHE + THIN_CLIENT)
 

@@ -16,7 +16,7 @@ mod promises;
 mod reading;
 mod writing;
 
-pub use codec::{CLEAR_CODEC, PROGRESSIVE, UNCOMPRESSED, VIDEO};
+pub use codec::{Codec, PROGRESSIVE};
 pub use id::Id;
 pub use pdu::{MOST_MONITORS, Monitor, Monitors, Pdu};
 pub use promises::{

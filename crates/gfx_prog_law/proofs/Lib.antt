@@ -9,3 +9,15 @@ pub mod Codings
 pub mod Fields
 pub mod Turns
 pub mod Lengths
+pub mod Ranges
+pub mod Squares
+pub mod Apart
+pub mod Shown
+pub mod Kept
+pub mod Groups
+pub mod Sends
+pub mod Going
+pub mod Painting
+pub mod Improving
+pub mod Seen
+pub mod Counting

@@ -4,8 +4,13 @@ pub mod Moves
 pub mod NextMoves
 pub mod Weights
 pub mod Sent
+pub mod Following
 pub mod Wider
 pub mod Effects
 pub mod Coming
 pub mod Leading
 pub mod VideoSides
+pub mod ScreenLemmas
+pub mod StreamLemmas
+pub mod TileLemmas
+pub mod VideoLemmas

@@ -1,10 +1,9 @@
 -- What a state with the small limits accepts, one with the large limits accepts alike.
-use Rattle.std.proofs.Common.{◌≡◌, ℕ, ◌≤◌, nat_le, Bool, true, false, cond, ◌&&◌, List, [], ◌∷◌, length, map, Result, Ok, Err, refl, sym, ap, ◌∙◌, subst, arith, lit≤}
+use Rattle.std.proofs.Common.{◌≡◌, ℕ, ◌≤◌, nat_le, Bool, true, false, cond, ◌&&◌, List, [], ◌∷◌, length, map, Result, Ok, refl, sym, ap, ◌∙◌, subst, arith, lit≤}
 use Rattle.std.specs.List.{AllByRecursion, AllZip, filter}
 use Rattle.std.specs.FinMap as finmap
 use borrow.Author.Tests.{leb-true}
 use Rattle.std.proofs.lemmas.Bool.{le-leb}
-use Rattle.gfx_base.specs.Results.{and_then, check}
 use Rattle.gfx_base.proofs.ResultLemmas.{and_then_ok, and_then_at}
 use Rattle.gfx_base.specs.declared.format.Format.{Format}
 use Rattle.gfx_base.specs.declared.geometry.Point.{Point}
@@ -20,8 +19,8 @@ use Rattle.gfx_bitmap_cache.specs.declared.limits.TheConstants.{MOST_SLOTS, MOST
 use Rattle.gfx_surface.specs.Picture.{Picture}
 use Rattle.gfx_prog_decode.specs.Records.{Records, without_context, without_surface}
 use Rattle.gfx_surface_map.specs.Shown.{Shown, with_picture}
-use Rattle.gfx_state.specs.declared.codec.Codec.{Codec}
-use Rattle.gfx_state.specs.declared.codec.Codec.TheVariants.{Uncompressed, Video, ClearCodec}
+use Rattle.gfx_pdu.specs.declared.codec.Codec.{Codec}
+use Rattle.gfx_pdu.specs.declared.codec.Codec.TheVariants.{Uncompressed, Video, ClearCodec}
 use Rattle.gfx_state.specs.State.{State, started, fresh}
 use Rattle.gfx_state.specs.Same.{Same, StepsAlike, Wider}
 use Rattle.gfx_state.specs.Step.{step, frame_started, frame_ended, showing, surface_created, rects_filled, bytes_painted, video_painted, stream_painted, painted_by, data_painted, tiles_drawn, tiles_painted, context_deleted, surface_ended, caching, image_in, rect_stored, slot_put, graphics_reset, caps_confirmed}
@@ -29,41 +28,9 @@ use Rattle.gfx_state.specs.Sending.{all_steps, sent, IsCarried, standing, count_
 use Rattle.gfx_state.specs.Run.{eats}
 use Rattle.gfx_pdu.specs.Spelling.{spelling}
 use Rattle.gfx_state.specs.History.{Effect, effects, ends_frame, end_states, ended, spelled, ends_of}
+use Rattle.gfx_state.proofs.Following.{Follows, gives, after, both, checks}
 use Rattle.gfx_state.proofs.Effects.{nothing, effects_cons, ended-sent}
 use Rattle.gfx_state.proofs.Sent.{all_steps-cons, eats-sent}
-
--- an answer that follows another -------------------------------------------------------------------
-
--- where the first answer gives a value, the second gives one that is related to it
-record Follows {A E : Type 0} (R : A → A → Type 0) (x y : Result A E) : Type 0 where
-  each : (a : A) → x ≡ Ok a → (b : A) × (y ≡ Ok b) × R a b
-
-gives : {A E : Type 0} (R : A → A → Type 0) (a b : A) → R a b → Follows {A = A} {E = E} R (Ok a) (Ok b)
-gives R a b related = record { each = λ x e. let same : a ≡ x = cc in (b, refl, subst (λ z. R z b) same related) }
-
-never : {A E : Type 0} (R : A → A → Type 0) (r : E) (y : Result A E) → Follows {A = A} {E = E} R (Err r) y
-never R r y = record { each = λ x e. absurd cc }
-
--- the same first step
-after : {A B E : Type 0} (R : B → B → Type 0) (x : Result A E) (f g : A → Result B E) → ((a : A) → Follows R (f a) (g a)) → Follows R (and_then x f) (and_then x g)
-unfolding and_then
-after R (Ok a) f g k = k a
-after R (Err r) f g k = never R r (Err r)
-
--- a first step that follows another
-both : {A B E : Type 0} (S : A → A → Type 0) (R : B → B → Type 0) (x y : Result A E) (f g : A → Result B E) → Follows S x y → ((a b : A) → S a b → Follows R (f a) (g b)) → Follows R (and_then x f) (and_then y g)
-both S R x y f g first k = record {
-  each = λ c e.
-      let s = and_then_ok x f c e in
-      let t = first.each s.0 s.1 in
-      let u = (k s.0 t.0 t.2).each c s.2 in
-      (u.0, and_then_at y t.0 g t.1 ∙ u.1, u.2);
-}
-
--- a check that holds where another does
-checks : (r : Refusal) (a b : Bool) → (a ≡ true → b ≡ true) → Follows (λ x y. Unit {0}) (check r a) (check r b)
-checks r false b more = never (λ x y. Unit {0}) r (check r b)
-checks r true b more = rw (more refl) (gives (λ x y. Unit {0}) tt tt tt)
 
 -- what the limits let pass ---------------------------------------------------------------------------
 
@@ -75,13 +42,13 @@ le_more : (n most more : ℕ) → most ≤ more → nat_le n most ≡ true → n
 le_more n most more within e = let h : n ≤ most = leb-true n most e in le-leb n more (omega arith)
 
 -- a slot that a store takes is taken under wider limits too
-slot_wider : (small wide : Bool) (slot : ℕ) → (wide ≡ true → small ≡ true) → takes_slot small slot ≡ true → takes_slot wide slot ≡ true
+pub slot_wider : (small wide : Bool) (slot : ℕ) → (wide ≡ true → small ≡ true) → takes_slot small slot ≡ true → takes_slot wide slot ≡ true
 slot_wider small true slot only e = ap (λ z. takes_slot z slot) (sym (only refl)) ∙ e
 slot_wider false false slot only e = e
 slot_wider true false slot only e = and_more (nat_le 1 slot) (nat_le slot MOST_SMALL_SLOTS) (nat_le slot MOST_SLOTS) (le_more slot MOST_SMALL_SLOTS MOST_SLOTS (lit≤ tt)) e
 
 -- bytes within the budget are within a wider one
-budget_wider : (small wide : Bool) (bytes : ℕ) → (wide ≡ true → small ≡ true) → nat_le bytes (budget small) ≡ true → nat_le bytes (budget wide) ≡ true
+pub budget_wider : (small wide : Bool) (bytes : ℕ) → (wide ≡ true → small ≡ true) → nat_le bytes (budget small) ≡ true → nat_le bytes (budget wide) ≡ true
 budget_wider small true bytes only e = ap (λ z. nat_le bytes (budget z)) (sym (only refl)) ∙ e
 budget_wider false false bytes only e = e
 budget_wider true false bytes only e = le_more bytes MOST_SMALL_BYTES MOST_BYTES (lit≤ tt) e

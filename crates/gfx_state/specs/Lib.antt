@@ -1,10 +1,11 @@
-pub mod Codecs
 pub mod State
 pub mod Step
 pub mod Same
+pub mod Alike
 pub mod Payload
 pub mod Run
 pub mod Cursor
 pub mod Codes
 pub mod Sending
 pub mod History
+pub mod Memory

@@ -1,7 +1,9 @@
 -- What both ends keep of the graphics channel ([MS-RDPEGFX] 3.2.1 and 3.3.1).
 use Rattle.std.specs.Prelude.{ℕ, Bool, false, Option, None}
+use Rattle.std.specs.Ordering.{nat_cmp}
 use Rattle.std.specs.FinMap as finmap
-use Rattle.gfx_bitmap_cache.specs.Slots.{Cached, cached}
+use Rattle.std.specs.FinMap.{FinMap}
+use Rattle.gfx_bitmap_cache.specs.Slots.{Entry, Cached, cached}
 use Rattle.gfx_clear.specs.State.{State as ClearState, fresh as nothing_decoded}
 use Rattle.gfx_prog_decode.specs.Records.{Records}
 use Rattle.gfx_surface_map.specs.Shown.{Shown, nothing_shown}
@@ -20,9 +22,13 @@ pub record State : Type 0 where
   -- how many frames have ended, modulo 2^32
   pub decoded : ℕ
 
--- the state at a start where this says whether the small limits bind the stores
+-- the state at a start with these bitmaps in their slots, where this says whether the small limits bind the stores
+abbrev pub started_with : FinMap nat_cmp Entry → Bool → State
+started_with slots small = record { shown = nothing_shown; cache = cached slots small; clear = nothing_decoded; records = finmap.empty; frame = None; decoded = 0 }
+
+-- the same with no bitmap
 abbrev pub started : Bool → State
-started small = record { shown = nothing_shown; cache = cached finmap.empty small; clear = nothing_decoded; records = finmap.empty; frame = None; decoded = 0 }
+started small = started_with finmap.empty small
 
 -- the state at the start of a stream: the large limits bind the stores
 abbrev pub fresh : State

@@ -30,9 +30,9 @@ use Rattle.gfx_rfx_video.specs.Video.{after_video}
 use Rattle.gfx_prog_decode.specs.Progressive.{after_message}
 use Rattle.gfx_prog_decode.specs.Records.{without_context, without_surface}
 use Rattle.gfx_prog_decode.specs.Scene.{scene as tiles_on}
-use Rattle.gfx_state.specs.declared.codec.Codec.{Codec}
-use Rattle.gfx_state.specs.declared.codec.Codec.TheVariants.{Uncompressed, Video, ClearCodec}
-use Rattle.gfx_state.specs.Codecs.{PROGRESSIVE, codec_of}
+use Rattle.gfx_pdu.specs.declared.codec.Codec.{Codec}
+use Rattle.gfx_pdu.specs.declared.codec.Codec.TheVariants.{Uncompressed, Video, ClearCodec}
+use Rattle.gfx_pdu.specs.Codecs.{PROGRESSIVE, codec_of}
 use Rattle.gfx_state.specs.State.{State}
 
 -- RDPGFX_START_FRAME_PDU: no frame may be open

@@ -14,7 +14,7 @@ use Rattle.gfx_script.specs.declared.picture.Picture.{Picture as Drawing}
 use Rattle.gfx_surface.specs.Picture.{IsPicture, Picture, no_pixel, pixel_at, shade}
 use Rattle.gfx_surface.proofs.PictureLemmas.{pixel_at-drawn, redrawn_some}
 use Rattle.gfx_tile_make.specs.Levels.{direct_pixel}
-use Rattle.gfx_live_law.proofs.Apart.{Met, at-cell}
+use Rattle.gfx_prog_law.proofs.Apart.{Met, at-cell}
 use Rattle.gfx_rfx_video.specs.declared.video_tile.VideoTile.{VideoTile}
 use Rattle.gfx_rfx_video.specs.Painted.{all_painted, tile_painted}
 use Rattle.gfx_rfx_video.specs.Showing.{drawn_where}

@@ -12,14 +12,14 @@ use Rattle.gfx_rlgr.specs.declared.mode.Mode.{Mode}
 use Rattle.gfx_prog_encode.specs.declared.TheConstants.{MOST_SENDS}
 use Rattle.gfx_script.specs.declared.picture.Picture.{Picture as Drawing}
 use Rattle.gfx_surface.specs.Picture.{Picture}
-use Rattle.gfx_live.specs.Live.{following, groups_of, in_groups, numbered}
-use Rattle.gfx_live_law.proofs.Apart.{all-drop, all-take}
+use Rattle.gfx_prog_live.specs.Live.{following, groups_of, in_groups, numbered}
+use Rattle.gfx_prog_law.proofs.Apart.{all-drop, all-take}
 use Rattle.gfx_rfx_video.specs.declared.video_tile.VideoTile.{VideoTile}
 use Rattle.gfx_rfx_video.specs.Message.{video_data}
 use Rattle.gfx_rfx_video.specs.Painted.{all_painted, tile_painted}
 use Rattle.gfx_rfx_video.specs.Video.{after_video, in_turn}
 use Rattle.gfx_rfx_video.proofs.Painted.{sent-painted}
-use Rattle.gfx_live_law.proofs.Apart.{Met}
+use Rattle.gfx_prog_law.proofs.Apart.{Met}
 use Rattle.gfx_video_paint.specs.Shown.{IsFilled, VideoPayloadsAreShort, VideoPayloadsShow, shown_as_video}
 use Rattle.gfx_video_paint.specs.Video.{laid, squares_of, video_payload, video_setting, video_tile, videos_after}
 use Rattle.gfx_video_paint.proofs.Sent.{AreMet, is-setting, payload-short, squares-met, tiles-plain, tiles-sent}

@@ -12,10 +12,10 @@ use Rattle.gfx_quant.specs.declared.setting.Setting.{Setting}
 use Rattle.gfx_rlgr.specs.declared.mode.Mode.{Mode}
 use Rattle.gfx_script.specs.declared.picture.Picture.{Picture as Drawing}
 use Rattle.gfx_tile_make.specs.Source.{Source, source_of}
-use Rattle.gfx_live.specs.Live.{following, in_groups, number_after, numbered}
-use Rattle.gfx_live.specs.Tiles.{cell_pixels}
-use Rattle.gfx_live.proofs.Groups.{Writing, all_written, drop_most, one_written, take_most}
-use Rattle.gfx_live_law.proofs.Apart.{Met, all-drop, all-take, each-met}
+use Rattle.gfx_prog_live.specs.Live.{following, in_groups, number_after, numbered}
+use Rattle.gfx_prog_live.specs.Tiles.{cell_pixels}
+use Rattle.gfx_prog_live.proofs.Groups.{Writing, all_written, drop_most, one_written, take_most}
+use Rattle.gfx_prog_law.proofs.Apart.{Met, all-drop, all-take, each-met}
 use Rattle.gfx_rfx_video.specs.declared.video_tile.VideoTile.{VideoTile}
 use Rattle.gfx_rfx_video.specs.Message.{IsSent, video_data}
 use Rattle.gfx_video_paint.specs.Inside.{HasSides, HasSome}

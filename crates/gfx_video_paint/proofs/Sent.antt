@@ -12,8 +12,8 @@ use Rattle.gfx_script.specs.declared.picture.Picture.{Picture as Drawing}
 use Rattle.gfx_tile_state.specs.Passes.{blank}
 use Rattle.gfx_tile_make.specs.Source.{planes_of, source_of}
 use Rattle.gfx_tile_make.proofs.Sources.{plain-may}
-use Rattle.gfx_live.specs.Tiles.{cell_pixels}
-use Rattle.gfx_live_law.proofs.Apart.{Met, all-map, each-met}
+use Rattle.gfx_prog_live.specs.Tiles.{cell_pixels}
+use Rattle.gfx_prog_law.proofs.Apart.{Met, all-map, each-met}
 use Rattle.gfx_rfx_video.specs.declared.video_tile.VideoTile.{VideoTile}
 use Rattle.gfx_rfx_video.specs.Message.{IsSent, codes_of, head_of, tile_text}
 use Rattle.gfx_rfx_video.specs.Painted.{IsPlain}

@@ -9,8 +9,8 @@ use Rattle.gfx_quant.specs.declared.setting.Setting.{Setting}
 use Rattle.gfx_rlgr.specs.declared.mode.Mode.{Mode}
 use Rattle.gfx_script.specs.declared.picture.Picture.{Picture as Drawing}
 use Rattle.gfx_tile_make.specs.Source.{source_of}
-use Rattle.gfx_live.specs.Live.{in_groups, number_after, numbered}
-use Rattle.gfx_live.specs.Tiles.{cell_pixels}
+use Rattle.gfx_prog_live.specs.Live.{in_groups, number_after, numbered}
+use Rattle.gfx_prog_live.specs.Tiles.{cell_pixels}
 use Rattle.gfx_rfx_video.specs.declared.video_tile.VideoTile.{VideoTile}
 use Rattle.gfx_rfx_video.specs.Message.{video_data}
 

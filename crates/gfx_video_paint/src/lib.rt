@@ -2,7 +2,7 @@
 //! shows of them ([MS-RDPRFX] 2.2.2). A picture's tiles are its squares of 64 by 64 pixels from its own corner, each whole
 //! and on its own; nothing of them stays live.
 //!
-//! In the pipe it stands between the codec (`gfx_rfx_video`), with the tiles of pictures below it (`gfx_live`,
+//! In the pipe it stands between the codec (`gfx_rfx_video`), with the tiles of pictures below it (`gfx_prog_live`,
 //! `gfx_tile_make`), and the planner, which says by which entropy coder a script's paints go, counts their messages, and
 //! puts them in surface commands.
 #![tactic(auto)]

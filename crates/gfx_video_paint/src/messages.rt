@@ -4,7 +4,7 @@ ghost use Rattle.std.specs.List.{slice_get};
 ghost use Rattle.gfx_base.specs.Cells.{has_pixels};
 ghost use Rattle.gfx_base.specs.Geometry.{sized};
 ghost use Rattle.gfx_quant.specs.Setting.{is_accepted};
-ghost use Rattle.gfx_live.specs.Inside.{OfPicture};
+ghost use Rattle.gfx_prog_live.specs.Inside.{OfPicture};
 ghost use Rattle.gfx_video_paint.specs.Inside.{HasSides, HasSome};
 ghost use Rattle.gfx_video_paint.specs.Video.{video_payloads, videos_after};
 

@@ -4,13 +4,13 @@ ghost use Rattle.std.specs.List.{slice_get};
 ghost use Rattle.gfx_base.specs.Cells.{has_pixels};
 ghost use Rattle.gfx_base.specs.Geometry.{sized};
 ghost use Rattle.gfx_quant.specs.Setting.{is_accepted};
-ghost use Rattle.gfx_live.specs.Inside.{OfPicture};
+ghost use Rattle.gfx_prog_live.specs.Inside.{OfPicture};
 ghost use Rattle.gfx_video_paint.specs.Inside.{HasSides};
 ghost use Rattle.gfx_video_paint.specs.Video.{video_setting, video_tile};
 
 use gfx_base::{Cell, Cells, NoMemory, Pixel, Rect};
 use gfx_dwt::Transform;
-use gfx_live::cell_pixels;
+use gfx_prog_live::cell_pixels;
 use gfx_quant::Setting;
 use gfx_rfx_video::{VideoTile, VideoTiles};
 use gfx_script::Script;

@@ -1,6 +1,6 @@
 use Rattle.std.proofs.Common.{◌-◌, ◌≤◌, drop, length}
-use Rattle.gfx_live.specs.Inside.{OfPicture}
-use Rattle.gfx_live.proofs.Groups.{Writing}
+use Rattle.gfx_prog_live.specs.Inside.{OfPicture}
+use Rattle.gfx_prog_live.proofs.Groups.{Writing}
 use Rattle.gfx_video_paint.specs.Video.{video_payload}
 use Rattle.gfx_video_paint.proofs.messages.sized_messages.Given as goal
 

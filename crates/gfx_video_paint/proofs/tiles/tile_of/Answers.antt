@@ -1,5 +1,5 @@
 use Rattle.std.proofs.Common.{◌∙◌, ap}
-use Rattle.gfx_live.specs.Tiles.{cell_pixels}
+use Rattle.gfx_prog_live.specs.Tiles.{cell_pixels}
 use Rattle.gfx_video_paint.proofs.Making.{tile_made}
 use Rattle.gfx_video_paint.proofs.tiles.tile_of.Goals as goal
 

@@ -1,5 +1,5 @@
 use Rattle.std.proofs.Common.{◌≡◌, ◌-◌, ◌≤◌, drop, map, take}
-use Rattle.gfx_live.specs.Inside.{OfPicture}
+use Rattle.gfx_prog_live.specs.Inside.{OfPicture}
 use Rattle.gfx_video_paint.specs.Video.{video_tile}
 use Rattle.gfx_video_paint.proofs.tiles.video_tiles.Given as goal
 

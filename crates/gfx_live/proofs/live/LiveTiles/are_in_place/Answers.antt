@@ -1,6 +1,0 @@
-use Rattle.std.proofs.Common.{subst}
-use Rattle.gfx_live.specs.Inside.{AreInPlace}
-use Rattle.gfx_live.proofs.live.LiveTiles.are_in_place.Goals as goal
-
-pub returns : goal.returns
-returns c = subst AreInPlace c.self.view_is c.self.invariant

@@ -1,4 +1,0 @@
-pub mod ScreenLemmas
-pub mod StreamLemmas
-pub mod TileLemmas
-pub mod VideoLemmas

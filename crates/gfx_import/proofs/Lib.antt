@@ -9,3 +9,4 @@ pub mod AgreementLemmas
 pub mod IndexLemmas
 pub mod ChosenLemmas
 pub mod OwnLemmas
+pub mod StartedLemmas

@@ -1,12 +1,13 @@
 -- What is imported of two files that agree.
-use Rattle.std.proofs.Common.{◌≡◌, ◌∙◌, ap, sym, refl, Bool, true, false, ◌&&◌, ◌||◌, not, nat_eq, List, [], ◌∷◌, length, take, Some}
+use Rattle.std.proofs.Common.{◌≡◌, ◌∙◌, ap, sym, refl, Bool, true, false, ◌&&◌, ◌||◌, not, nat_eq, ℕ, zero, suc, List, [], ◌∷◌, length, take, Some}
 use Rattle.std.specs.Cmp.Lexicographic.{pointwise}
 use Rattle.std.proofs.lemmas.Bool.{eqb-true, eq-eqb}
 use Rattle.gfx_base.specs.declared.pixel.Pixel.{Pixel}
 use Rattle.gfx_bitmap_cache.specs.Slots.{Image, Entry}
 use Rattle.gfx_import.specs.Entries.{image_at}
-use Rattle.gfx_import.specs.Agreed.{same_pixel, same_image, same_length, agrees, agree}
+use Rattle.gfx_import.specs.Agreed.{same_pixel, same_image, same_length, same_sides, agrees, agree, have_sides_of, have_same_sides}
 use Rattle.gfx_import.specs.Chosen.{AreShared, AgreedIsOwn}
+use Rattle.gfx_import.specs.Imported.{imported}
 use Rattle.gfx_import.proofs.KeyLemmas.{both_true}
 use Rattle.gfx_import.proofs.ChosenLemmas.{imported-chosen}
 
@@ -60,3 +61,17 @@ own server (one ∷ client) (held ∷ list) shared e =
 
 pub agreed-own : AgreedIsOwn
 agreed-own server client small e = own server client _ (imported-chosen server client small).shared e
+
+-- and then it has the same sides at both ends
+front_sides : (n : ℕ) (entries : List Entry) → have_sides_of (take n entries) entries ≡ true
+front_sides zero entries = refl
+front_sides (suc n) [] = refl
+front_sides (suc n) (one ∷ entries) = both_hold (same_sides one.image one.image) _ (both_hold (nat_eq one.image.width one.image.width) _ (eq-eqb _ _ refl) (eq-eqb _ _ refl)) (front_sides n entries)
+  where
+    both_hold : (a b : Bool) → a ≡ true → b ≡ true → (a && b) ≡ true
+    both_hold true b first second = second
+    both_hold false b first second = absurd cc
+
+pub agreed-sides : (server client : List Entry) (small : Bool) → agree server client ≡ true → have_same_sides server client small ≡ true
+agreed-sides server client small agrees =
+    ap (λ entries. have_sides_of entries client) (agreed-own server client small agrees) ∙ front_sides (length (imported server client small)) client

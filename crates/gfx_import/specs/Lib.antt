@@ -8,4 +8,5 @@ pub mod Imported
 pub mod Agreed
 pub mod Chosen
 pub mod Messages
+pub mod Started
 pub mod Laws

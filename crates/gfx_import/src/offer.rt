@@ -8,6 +8,7 @@ ghost use Rattle.gfx_layout.specs.Shape.{text};
 ghost use Rattle.gfx_layout.specs.Writing.{Puts};
 ghost use Rattle.gfx_layout.specs.Header.{refused};
 ghost use Rattle.gfx_bitmap_cache.specs.Slots.{entry, image_of};
+ghost use Rattle.gfx_import.specs.Entries.{IsKept};
 ghost use Rattle.gfx_import.specs.Offered.{offered, offered_of, offers_of};
 ghost use Rattle.gfx_import.specs.Messages.{import_offer, offer_of, offer_text, is_headed};
 
@@ -78,7 +79,8 @@ fn put_offers(out: &mut Bytes, kept: &Kept) -> Result<(), NoMemory>
 /// Puts the offer at the end; where memory ends, a part of it may stand there.
 #[tactic(auto, unfolding(crate::specs::Messages::message_text))]
 fn put_offer(out: &mut Bytes, kept: &Kept) -> Result<(), NoMemory>
-    ensures { Puts result out.old out.new (offer_text (offers_of kept.now)) }
+    ensures puts { Puts result out.old out.new (offer_text (offers_of kept.now)) }
+    ensures kept { IsKept kept.now }
 {
     let count = kept.len();
     put_header(out, OFFER, u16::SIZE + Offered::SIZE * count)?;
@@ -91,6 +93,7 @@ fn put_offer(out: &mut Bytes, kept: &Kept) -> Result<(), NoMemory>
 pub fn write_offer(kept: &Kept, out: &mut Bytes) -> Result<(), NoMemory>
     ensures ok { OnOk result (out.new ≡ out.old ++ offer_text (offers_of kept.now)) }
     ensures err { OnErr result (out.new ≡ out.old) }
+    ensures kept { IsKept kept.now }
 {
     let start = out.len();
     if put_offer(out, kept).is_err() {

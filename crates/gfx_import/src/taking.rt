@@ -3,6 +3,7 @@
 ghost use Rattle.std.specs.Prelude.{◌≡◌, ◌+◌, ◌≤◌, ◌<◌, ◌*◌, Bool, length, slice_get, IfOk};
 ghost use Rattle.std.specs.Option.{option_map};
 ghost use Rattle.gfx_bitmap_cache.specs.Slots.{entry, image_of, bytes_for};
+ghost use Rattle.gfx_import.specs.Entries.{IsKept};
 ghost use Rattle.gfx_import.specs.Imported.{answered, imported};
 
 use crate::kept::Kept;
@@ -31,7 +32,8 @@ pub(crate) fn count_taken(server: &Kept, offers: &Items<Offered>, small: bool) -
 /// How many of the client's first entries are imported, as `imported` says. It takes no memory. The server's
 /// bitmaps of their keys are lent by `imported_at`.
 pub fn imported_count(server: &Kept, client: &Kept, small: bool) -> usize
-    ensures { result ≡ length (imported server.now client.now small) }
+    ensures count { result ≡ length (imported server.now client.now small) }
+    ensures kept { IsKept client.now }
 {
     let mut room = Room::new(small);
     let mut count = 0;
@@ -56,7 +58,7 @@ pub fn imported_at<'a>(server: &'a Kept, client: &Kept, place: usize) -> Option<
 }
 
 /// A bitmap with the same sides and pixels.
-fn copy_of(alloc: Global, bitmap: &Bitmap) -> Result<Bitmap, NoMemory>
+pub(crate) fn copy_of(alloc: Global, bitmap: &Bitmap) -> Result<Bitmap, NoMemory>
     ensures { IfOk result (λ copy. image_of copy ≡ image_of bitmap.now) }
 {
     let mut pixels = Pixels::new(alloc);

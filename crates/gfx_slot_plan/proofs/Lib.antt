@@ -8,3 +8,4 @@ pub mod StandardFacts
 pub mod Rooms
 pub mod UseOrder
 pub mod Histories
+pub mod InTurn

@@ -3,5 +3,6 @@ pub mod Codes
 pub mod Pool
 pub mod PoolInside
 pub mod Tied
+pub mod Started
 pub mod Inside
 pub mod History

@@ -13,5 +13,5 @@ mod pool;
 mod shelf;
 
 pub use kept::{Kept, Slots};
-pub use laws::least_recently_used_go;
+pub use laws::{keys_are_kept_in_turn, least_recently_used_go};
 pub use plan::SlotPlan;

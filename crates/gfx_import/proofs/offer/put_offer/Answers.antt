@@ -6,8 +6,8 @@ use Rattle.gfx_import.specs.Offered.{offered, offered_of, offers_of}
 use Rattle.gfx_import.proofs.WritingLemmas.{puts_message}
 use Rattle.gfx_import.proofs.offer.put_offer.Goals as goal
 
-pub returns : goal.returns
-returns c =
+pub returns-clause-puts : goal.returns-clause-puts
+returns-clause-puts c =
     let long : c.len-count.result ≡ length (offers_of c.args.kept.now) = c.len-count.ensures.len ∙ sym (length-map c.args.kept.now offered_of) in
     let size : 2 + 12 * c.len-count.result ≡ 2 + length (offers_of c.args.kept.now) * 12 = omega arith in
     puts_message offered OFFER (offers_of c.args.kept.now) c.put_offers.result c.args.out.now c.put_header.new.out c.put.new.out c.put_offers.new.out (2 + 12 * c.len-count.result) size

@@ -22,8 +22,8 @@ entries-preserved c =
     }
     (c.is_none.ensures ∙ ap not c.if-is_none.false)
 
-pub returns-then-is_none : goal.returns-then-is_none
-returns-then-is_none c =
+pub returns-then-is_none-clause-count : goal.returns-then-is_none-clause-count
+returns-then-is_none-clause-count c =
     let one = entry c.in-Some.key (image_of c.in-Some.bitmap.now) in
     counts-stop c.args.server.now (offers_of c.args.client.now) _ _ c.args.small c.entries.count _ _ (offered_of one) (offers-at _ c.entries.count one (sym c.in-Some.ensures.found)) c.entries.invariant
     c.take.new.self.slots c.take.new.self.bytes c.take.result
@@ -34,7 +34,7 @@ returns-then-is_none c =
     }
     (c.is_none.ensures ∙ ap not c.if-is_none.true)
 
-pub returns : goal.returns
-returns c =
+pub returns-clause-count : goal.returns-clause-count
+returns-clause-count c =
     counts-end c.args.server.now (offers_of c.args.client.now) _ c.args.small c.entries.count _ _
     (offers-past _ c.entries.count (sym c.in_default.ensures.found)) c.entries.invariant

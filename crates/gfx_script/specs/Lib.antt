@@ -1,8 +1,10 @@
 pub mod Scripted
+pub mod Parts
 pub mod Kind
 pub mod Patterns
 pub mod Pictures
 pub mod Stock
+pub mod Starting
 pub mod Ways
 pub mod Checks
 pub mod Codes

@@ -11,7 +11,8 @@ use Rattle.gfx_script.specs.declared.step.Step.{Step}
 use Rattle.gfx_script.specs.declared.step.Step.TheVariants.{Surface, Delete, Reset, Map, Fill, Copy, Keep, Show, Forget, Paint, Improve, Frame}
 use Rattle.gfx_script.specs.declared.turn.Turn.{Turn}
 use Rattle.gfx_script.specs.declared.turn.Turn.TheVariants.{Server, Client, Answer}
-use Rattle.gfx_script.specs.Checks.{Held, held_first, sides_of_all, held_through}
+use Rattle.gfx_script.specs.Checks.{Held, held_first, held_from, sides_of_all, held_through}
+use Rattle.gfx_script.specs.Starting.{IsStart, stock_with}
 use Rattle.gfx_script.specs.Pictures.{IsDrawn}
 use Rattle.gfx_script.specs.Scripted.{Script}
 
@@ -76,6 +77,15 @@ pub record IsAcceptedFrom (start : Held) (script : Script) : Type 0 where
   pub framed : IsTrue (is_framed script.steps)
   pub few_turns : length script.turns ≤ MOST_TURNS
   pub turns : AllByRecursion IsTurn script.turns
+
+-- what the first step of a script is checked against: its pictures, and the bitmaps that it starts with
+abbrev pub held_at_start : Script → Held
+held_at_start script = held_from (sides_of_all script.pictures) (stock_with script.start script.small)
+
+-- the same of a script with the bitmaps that it starts with
+pub record IsAcceptedAtStart (script : Script) : Type 0 where
+  pub start : IsStart script.start script.small
+  pub accepted : IsAcceptedFrom (held_at_start script) script
 
 -- the same of a script that starts with nothing
 abbrev pub IsAccepted : Script → Type 0

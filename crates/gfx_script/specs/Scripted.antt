@@ -4,6 +4,7 @@ use Rattle.gfx_caps.specs.declared.offer.Offer.{Offer}
 use Rattle.gfx_quant.specs.declared.setting.Setting.{Setting}
 use Rattle.gfx_script.specs.declared.picture.Picture.{Picture}
 use Rattle.gfx_script.specs.declared.step.Entropy.{Entropy}
+use Rattle.gfx_script.specs.declared.start.StartBitmap.{StartBitmap}
 use Rattle.gfx_script.specs.declared.step.Step.{Step}
 use Rattle.gfx_script.specs.declared.turn.Turn.{Turn}
 
@@ -23,6 +24,8 @@ pub record Script : Type 0 where
   pub thin : Bool
   -- how video paints are coded
   pub entropy : Entropy
+  -- the bitmaps that both ends have before the first step, in slots 1, 2 and so on
+  pub start : List StartBitmap
   pub steps : List Step
   -- which end moves when, one turn after another
   pub turns : List Turn

@@ -3,12 +3,14 @@
 ghost use Rattle.std.specs.Prelude.{◌≡◌, IsTrue, IfOk, OnOk, slice_get};
 ghost use Rattle.std.specs.FinMap as map;
 ghost use Rattle.gfx_base.specs.Geometry.{sized};
-ghost use Rattle.gfx_script.specs.Checks.{held_first, sides_of_all, may_add, with_surface, without_surface, surface_made, surface_deleted, surface_mapped, rects_filled, rect_copied, rect_kept, key_shown, key_forgotten, is_glyph, takes_glyph, picture_painted, held_after};
+ghost use Rattle.gfx_script.specs.Checks.{held_first, held_from, sides_of_all, may_add, with_surface, without_surface, surface_made, surface_deleted, surface_mapped, rects_filled, rect_copied, rect_kept, key_shown, key_forgotten, is_glyph, takes_glyph, picture_painted, held_after};
+ghost use Rattle.gfx_script.specs.Starting.{IsStart, stock_with};
 ghost use Rattle.gfx_base.specs.Outcome.{Gives, Says};
 
 use crate::MOST_GLYPH_AREA;
 use crate::error::{Flaw, ScriptKind};
 use crate::picture::Picture;
+use crate::start::StartBitmap;
 use crate::step::{Kind, Step};
 use crate::stock::Stock;
 use gfx_base::{NoMemory, Point, Rect, all_lie_in, fits_at, fits_at_all};
@@ -50,12 +52,25 @@ impl Model for Held {
 }
 
 impl Held {
-    /// What is held before the first step, with these pictures.
+    /// What is held before the first step, with these pictures and no bitmap.
     pub fn new(alloc: Global, pictures: &[Picture], small: bool) -> Result<Held, NoMemory>
         ensures { IfOk result (λ held. held ≡ held_first (sides_of_all pictures.now) small) }
     {
+        Held::with_bitmaps(alloc, pictures, small, &[])
+    }
+
+    /// What is held before the first step, with these pictures, and with these bitmaps in slots 1, 2 and so on.
+    pub fn with_bitmaps(
+        alloc: Global,
+        pictures: &[Picture],
+        small: bool,
+        start: &[StartBitmap],
+    ) -> Result<Held, NoMemory>
+        requires { IsStart start.now small }
+        ensures { IfOk result (λ held. held ≡ held_from (sides_of_all pictures.now) (stock_with start.now small)) }
+    {
         let pictures = sides_of_all(alloc, pictures)?;
-        let stock = Stock::new(alloc, small)?;
+        let stock = Stock::with_bitmaps(alloc, small, start)?;
         Ok(Held {
             pictures,
             sides: IndexMap::new(alloc),

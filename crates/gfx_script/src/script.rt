@@ -1,12 +1,14 @@
 //! A script: pictures and steps, and what a session of them is like.
 
-ghost use Rattle.std.specs.Prelude.{◌≡◌, IsSome, Some};
+ghost use Rattle.std.specs.Prelude.{◌≡◌, ◌==◌, IsSome, Some, length};
 ghost use Rattle.std.specs.List.{slice_get};
 ghost use Rattle.std.specs.Option.{option_copied, option_map};
 ghost use Rattle.gfx_script.specs.Patterns.{pixel_of};
-ghost use Rattle.gfx_script.specs.Script.{IsAccepted, step_at, is_framed};
+ghost use Rattle.gfx_script.specs.Parts.{parts_seen};
+ghost use Rattle.gfx_script.specs.Script.{IsAcceptedAtStart, step_at, is_framed};
 
 use crate::picture::Picture;
+use crate::start::StartBitmap;
 use crate::step::{Entropy, Step};
 use crate::turn::Turn;
 use gfx_base::Pixel;
@@ -25,8 +27,25 @@ pub struct Script {
     small: bool,
     thin: bool,
     entropy: Entropy,
+    start: Vec<StartBitmap>,
     steps: Vec<Step>,
     turns: Vec<Turn>,
+}
+
+/// What a script is made of.
+#[derive(Debug, Drop)]
+pub struct ScriptParts {
+    pub window: u8,
+    pub offers: Offers,
+    pub setting: Setting,
+    pub differences: bool,
+    pub pictures: Vec<Picture>,
+    pub small: bool,
+    pub thin: bool,
+    pub entropy: Entropy,
+    pub start: Vec<StartBitmap>,
+    pub steps: Vec<Step>,
+    pub turns: Vec<Turn>,
 }
 
 impl Model for Script {
@@ -34,26 +53,28 @@ impl Model for Script {
 
     ghost Value = { Script };
 
-    ghost view = { λ s. record { window = s.window; offers = s.offers; setting = s.setting; differences = s.differences; pictures = s.pictures.items; small = s.small; thin = s.thin; entropy = s.entropy; steps = s.steps.items; turns = s.turns.items } };
+    ghost view = { λ s. record { window = s.window; offers = s.offers; setting = s.setting; differences = s.differences; pictures = s.pictures.items; small = s.small; thin = s.thin; entropy = s.entropy; start = s.start.items; steps = s.steps.items; turns = s.turns.items } };
 }
 
 impl Script {
     /// The script of these parts, of which all that holds of accepted scripts is to hold.
-    pub fn new(
-        window: u8,
-        offers: Offers,
-        setting: Setting,
-        differences: bool,
-        pictures: Vec<Picture>,
-        small: bool,
-        thin: bool,
-        entropy: Entropy,
-        steps: Vec<Step>,
-        turns: Vec<Turn>,
-    ) -> Script
-        requires { IsAccepted record { window = window; offers = offers; setting = setting; differences = differences; pictures = pictures.items; small = small; thin = thin; entropy = entropy; steps = steps.items; turns = turns.items } }
-        ensures { result ≡ record { window = window; offers = offers; setting = setting; differences = differences; pictures = pictures.items; small = small; thin = thin; entropy = entropy; steps = steps.items; turns = turns.items } }
+    pub fn new(parts: ScriptParts) -> Script
+        requires { IsAcceptedAtStart (parts_seen parts) }
+        ensures { result ≡ parts_seen parts }
     {
+        let ScriptParts {
+            window,
+            offers,
+            setting,
+            differences,
+            pictures,
+            small,
+            thin,
+            entropy,
+            start,
+            steps,
+            turns,
+        } = parts;
         Script {
             window,
             offers,
@@ -63,6 +84,7 @@ impl Script {
             small,
             thin,
             entropy,
+            start,
             steps,
             turns,
         }
@@ -156,6 +178,21 @@ impl Script {
         ensures { result ≡ self.now.entropy }
     {
         self.entropy
+    }
+
+    /// The bitmaps that both ends have before the first step, in slots 1, 2 and so on; the last is the most recently
+    /// used.
+    pub fn start(&self) -> &[StartBitmap]
+        ensures { result.now ≡ self.now.start }
+    {
+        self.start.as_slice()
+    }
+
+    /// Whether there is no such bitmap.
+    pub fn starts_empty(&self) -> bool
+        ensures { result ≡ (length self.now.start == 0) }
+    {
+        self.start.is_empty()
     }
 
     /// The turn at this place, counted from 0, if there is one.

@@ -2,10 +2,12 @@
 
 ghost use Rattle.std.specs.Prelude.{◌≡◌, IfOk};
 ghost use Rattle.gfx_script.specs.Stock.{no_bitmaps, bitmap_kept, bitmap_sides, bitmap_shown, bitmap_forgotten};
+ghost use Rattle.gfx_script.specs.Starting.{IsStart, stock_with};
 ghost use Rattle.gfx_base.specs.Outcome.{Gives, Says};
 
 use crate::error::{Flaw, ScriptKind};
 use crate::held::Sides;
+use crate::start::StartBitmap;
 use gfx_base::{Fault, NoMemory};
 use gfx_slot_plan::SlotPlan;
 use indexmap::IndexMap;
@@ -42,6 +44,26 @@ impl Stock {
             plan,
             sides: IndexMap::new(alloc),
         })
+    }
+
+    /// These bitmaps, in slots 1, 2 and so on; the last is the most recently used.
+    pub fn with_bitmaps(
+        alloc: Global,
+        small: bool,
+        start: &[StartBitmap],
+    ) -> Result<Stock, NoMemory>
+        requires { IsStart start.now small }
+        ensures { IfOk result (λ stock. stock ≡ stock_with start.now small) }
+    {
+        let mut stock = Stock::new(alloc, small)?;
+        'bitmaps: for one in start {
+            match stock.keep(alloc, one.key, one.sides.width, one.sides.height) {
+                Ok(()) => {}
+                Err(Flaw::Memory) => return Err(NoMemory),
+                Err(Flaw::Refused(_)) => unreachable!(),
+            }
+        }
+        Ok(stock)
     }
 
     /// Keeps a bitmap of these sides under a key.

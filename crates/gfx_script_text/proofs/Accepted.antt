@@ -1,19 +1,25 @@
 -- What holds of every script that is read.
-use Rattle.std.proofs.Common.{◌≡◌, ℕ, suc, ◌+◌, ◌≤◌, List, [], ◌∷◌, length, Result, Ok, Err, refl, sym, ap, ◌∙◌, subst}
+use Rattle.std.proofs.Common.{◌≡◌, ℕ, suc, ◌+◌, ◌≤◌, Bool, List, [], ◌∷◌, length, Result, Ok, Err, refl, sym, ap, ◌∙◌, subst, true}
 use Rattle.std.proofs.lemmas.Bool.{leb-true}
 use Rattle.std.specs.List.{AllByRecursion}
 use Rattle.toml.specs.Data.{Data}
 use Rattle.gfx_base.specs.Results.{Has}
 use Rattle.gfx_base.proofs.ResultLemmas.{and_then_ok, and_then_at, chain, gives, check_ok}
+use Rattle.gfx_bitmap_cache.specs.Slots.{Entry}
+use Rattle.gfx_import.specs.Entries.{are_distinct, entry_keys}
+use Rattle.gfx_import.specs.Imported.{imported}
 use Rattle.gfx_quant.specs.Setting.{IsSetting}
 use Rattle.gfx_script.specs.declared.TheConstants.{MOST_STEPS}
 use Rattle.gfx_script.specs.declared.error.ScriptKind.{ScriptKind}
 use Rattle.gfx_script.specs.declared.error.ScriptKind.TheVariants.{Range, Unframed}
+use Rattle.gfx_script.specs.declared.start.StartBitmap.{StartBitmap}
 use Rattle.gfx_script.specs.declared.step.Step.{Step}
-use Rattle.gfx_script.specs.Checks.{Held, held_after, held_through}
+use Rattle.gfx_script.specs.Checks.{Held, held_after, held_from, held_through, sides_of_all}
 use Rattle.gfx_script.specs.Scripted.{Script}
-use Rattle.gfx_script.specs.Script.{is_framed, IsStep, IsAccepted}
-use Rattle.gfx_script_text.specs.Text.{Top, Head, at_step, head_of, next_step, steps_of, held_before, script_with, script_in, script_of}
+use Rattle.gfx_script.specs.Script.{held_at_start, is_framed, IsStep, IsAccepted, IsAcceptedAtStart, IsAcceptedFrom}
+use Rattle.gfx_script.specs.Starting.{IsStart, starts_of, stock_with}
+use Rattle.gfx_script.proofs.Imports.{imported_start}
+use Rattle.gfx_script_text.specs.Text.{Top, Head, at_step, head_of, next_step, start_by, steps_of, held_before, script_with, script_from, script_in, script_kept, script_of}
 use Rattle.gfx_script_text.proofs.PictureRanges.{AreGood, pictures_of-good}
 use Rattle.gfx_script_text.proofs.SettingRanges.{progressive_of-good}
 use Rattle.gfx_script_text.proofs.SessionRanges.{IsWindow, window_of-fits, AreOffers, offers_of-good, turns_of-good}
@@ -92,10 +98,14 @@ head_of-good top =
       pictures = (pictures_of-good top.picture).each gallery found_gallery;
     }))))))
 
--- a script that is read is good
-pub accepted : (text : List ℕ) (script : Script) → script_of text ≡ Ok script → IsAccepted script
-unfolding script_of script_in
-accepted text script is =
+-- a script that is read starts with what it is to start with, and is good from there
+pub record Begun (starts : Bool → List StartBitmap) (script : Script) : Type 0 where
+  pub start : script.start ≡ starts script.small
+  pub accepted : IsAcceptedFrom (held_at_start script) script
+
+pub begun : (starts : Bool → List StartBitmap) (text : List ℕ) (script : Script) → script_from starts text ≡ Ok script → Begun starts script
+unfolding script_from script_in
+begun starts text script is =
     let utf8 = and_then_ok _ _ script is in
     let table = and_then_ok _ _ script utf8.2 in
     let top = and_then_ok _ _ script table.2 in
@@ -103,26 +113,57 @@ accepted text script is =
     let steps = and_then_ok _ _ script head.2 in
     let framed = and_then_ok _ _ script steps.2 in
     let turns = and_then_ok _ _ script framed.2 in
-    let same : script_with head.0 steps.0 turns.0 ≡ script = let h = turns.2 in cc in
+    let same : script_with head.0 (start_by starts head.0) steps.0 turns.0 ≡ script = let h = turns.2 in cc in
     let before = (head_of-good top.0).each head.0 (at_step_ok 0 _ head.0 head.1) in
-    let good = steps_good head.0.gallery.names 1 (held_before head.0) top.0.step steps.0 steps.1 in
+    let good = steps_good head.0.gallery.names 1 (held_before (start_by starts head.0) head.0) top.0.step steps.0 steps.1 in
     let moved = (turns_of-good top.0.turn).each turns.0 (at_step_ok 0 _ turns.0 turns.1) in
-    subst IsAccepted same record {
-      window_from = before.window.0;
-      window_most = before.window.1;
-      some_offers = before.offers.some;
-      few_offers = before.offers.few;
-      offers = before.offers.each;
-      setting = before.setting;
-      small = refl;
-      thin = refl;
-      few_pictures = before.pictures.few;
-      pictures = before.pictures.each;
-      few = subst (λ n. n ≤ MOST_STEPS) (sym good.many) before.few;
-      numbers = good.numbers;
-      held = good.after;
-      checked = good.checked;
-      framed = check_ok Unframed (is_framed steps.0) (at_step_ok 0 _ framed.0 framed.1);
-      few_turns = moved.few;
-      turns = moved.each;
+    subst (Begun starts) same record {
+      start = refl;
+      accepted = record {
+        window_from = before.window.0;
+        window_most = before.window.1;
+        some_offers = before.offers.some;
+        few_offers = before.offers.few;
+        offers = before.offers.each;
+        setting = before.setting;
+        small = refl;
+        thin = refl;
+        few_pictures = before.pictures.few;
+        pictures = before.pictures.each;
+        few = subst (λ n. n ≤ MOST_STEPS) (sym good.many) before.few;
+        numbers = good.numbers;
+        held = good.after;
+        checked = good.checked;
+        framed = check_ok Unframed (is_framed steps.0) (at_step_ok 0 _ framed.0 framed.1);
+        few_turns = moved.few;
+        turns = moved.each;
+      };
     }
+
+-- a script that is read with nothing before its first step is good
+pub starts_with_nothing : (text : List ℕ) (script : Script) → script_of text ≡ Ok script → script.start ≡ []
+unfolding script_of
+starts_with_nothing text script is = (begun (λ small. []) text script is).start
+
+pub accepted : (text : List ℕ) (script : Script) → script_of text ≡ Ok script → IsAccepted script
+unfolding script_of
+accepted text script is =
+    let begins = begun (λ small. []) text script is in
+    subst (λ start. IsAcceptedFrom (held_from (sides_of_all script.pictures) (stock_with start script.small)) script) begins.start begins.accepted
+
+-- and so is one with what is imported
+pub starts_with_kept : (server client : List Entry) (text : List ℕ) (script : Script) → script_kept server client text ≡ Ok script
+    → script.start ≡ starts_of (imported server client script.small)
+unfolding script_kept
+starts_with_kept server client text script is = (begun (λ small. starts_of (imported server client small)) text script is).start
+
+pub accepted_with : (server client : List Entry) (text : List ℕ) (script : Script) → IsStart script.start script.small → script_kept server client text ≡ Ok script
+    → IsAcceptedAtStart script
+unfolding script_kept
+accepted_with server client text script start is =
+    record { start = start; accepted = (begun (λ small. starts_of (imported server client small)) text script is).accepted }
+
+pub accepted_kept : (server client : List Entry) (text : List ℕ) (script : Script) → are_distinct (entry_keys client) ≡ true → script_kept server client text ≡ Ok script → IsAcceptedAtStart script
+accepted_kept server client text script distinct is =
+    accepted_with server client text script
+    (subst (λ start. IsStart start script.small) (sym (starts_with_kept server client text script is)) (imported_start server client script.small distinct)) is

@@ -13,4 +13,6 @@ pub mod SettingRanges
 pub mod SessionRanges
 pub mod PictureRanges
 pub mod Accepted
+pub mod FromNothing
+pub mod Starting
 pub mod Limits

@@ -1,21 +1,25 @@
 -- The script of a text, and the order of checks: this project's own format.
-use Rattle.std.specs.Prelude.{ℕ, ℤ, ◌+◌, nat_le, List, [], ◌∷◌, length, Option, Some, None, Result, Ok, Err, codes}
+use Rattle.std.specs.Prelude.{ℕ, ℤ, ◌+◌, nat_le, Bool, List, [], ◌∷◌, length, Option, Some, None, Result, Ok, Err, codes}
 use Rattle.std.specs.Option.{ok_or}
 use Rattle.std.specs.Str.{is_utf8}
 use Rattle.toml.specs.Data.{Data, Members, get_member}
 use Rattle.toml.specs.Parse.{parse_document}
 use Rattle.gfx_base.specs.Results.{◌>>=◌, check}
+use Rattle.gfx_bitmap_cache.specs.Slots.{Entry}
 use Rattle.gfx_caps.specs.declared.offer.Offer.{Offer}
 use Rattle.gfx_caps.specs.Offers.{small_of, thin_of}
 use Rattle.gfx_script.specs.declared.TheConstants.{MOST_STEPS}
+use Rattle.gfx_import.specs.Imported.{imported}
 use Rattle.gfx_script.specs.declared.error.ScriptKind.{ScriptKind}
 use Rattle.gfx_script.specs.declared.error.ScriptKind.TheVariants.{Toml, Key, Range, Unframed}
+use Rattle.gfx_script.specs.declared.start.StartBitmap.{StartBitmap}
 use Rattle.gfx_script.specs.declared.step.Entropy.{Entropy}
 use Rattle.gfx_script.specs.declared.step.Step.{Step}
 use Rattle.gfx_script.specs.declared.turn.Turn.{Turn}
-use Rattle.gfx_script.specs.Checks.{Held, held_first, sides_of_all, held_after}
+use Rattle.gfx_script.specs.Checks.{Held, held_from, sides_of_all, held_after}
 use Rattle.gfx_script.specs.Script.{is_framed}
 use Rattle.gfx_script.specs.Scripted.{Script}
+use Rattle.gfx_script.specs.Starting.{starts_of, stock_with}
 use Rattle.gfx_script_text.specs.Clients.{offers_of}
 use Rattle.gfx_script_text.specs.Members.{items_in, has_only, items_if_any, table_if_any, whole_if_any}
 use Rattle.gfx_script_text.specs.Pictures.{Gallery, pictures_of}
@@ -101,13 +105,17 @@ steps_of names number held (value ∷ values) = do
   steps ← steps_of names (number + 1) next.1 values
   Ok (next.0 ∷ steps)
 
--- what is held before the first step
-abbrev pub held_before : Head → Held
-held_before head = held_first (sides_of_all head.gallery.pictures) (small_of head.offers)
+-- the bitmaps that a script starts with, where they are these by whether the small limits bind them
+abbrev pub start_by : (Bool → List StartBitmap) → Head → List StartBitmap
+start_by starts head = starts (small_of head.offers)
+
+-- what is held before the first step, with these bitmaps
+abbrev pub held_before : List StartBitmap → Head → Held
+held_before start head = held_from (sides_of_all head.gallery.pictures) (stock_with start (small_of head.offers))
 
 -- the script of these parts
-abbrev pub script_with : Head → List Step → List Turn → Script
-script_with head steps turns = record {
+abbrev pub script_with : Head → List StartBitmap → List Step → List Turn → Script
+script_with head start steps turns = record {
   window = head.window;
   offers = head.offers;
   setting = head.progressive.setting;
@@ -116,23 +124,32 @@ script_with head steps turns = record {
   small = small_of head.offers;
   thin = thin_of head.offers;
   entropy = head.entropy;
+  start = start;
   steps = steps;
   turns = turns;
 }
 
 -- the script of a text, or what is wrong first
-unfoldable pub script_in : List ℕ → Result Script Wrong
-script_in text = do
+unfoldable pub script_in : (Bool → List StartBitmap) → List ℕ → Result Script Wrong
+script_in starts text = do
   table ← at_step 0 (document_of text)
   top ← at_step 0 (top_of table)
   head ← at_step 0 (head_of top)
-  steps ← steps_of head.gallery.names 1 (held_before head) top.step
+  steps ← steps_of head.gallery.names 1 (held_before (start_by starts head) head) top.step
   framed ← at_step 0 (check Unframed (is_framed steps))
   turns ← at_step 0 (turns_of top.turn)
-  Ok (script_with head steps turns)
+  Ok (script_with head (start_by starts head) steps turns)
 
 -- the script of bytes, which are a text in UTF-8
-unfoldable pub script_of : List ℕ → Result Script Wrong
-script_of bytes = do
+unfoldable pub script_from : (Bool → List StartBitmap) → List ℕ → Result Script Wrong
+script_from starts bytes = do
   utf8 ← at_step 0 (check Toml (is_utf8 bytes))
-  script_in bytes
+  script_in starts bytes
+
+-- the same with no bitmap before the first step
+unfoldable pub script_of : List ℕ → Result Script Wrong
+script_of bytes = script_from (λ small. []) bytes
+
+-- the same with the bitmaps that are imported of two kept files ([MS-RDPEGFX] 3.2.5.13)
+unfoldable pub script_kept : List Entry → List Entry → List ℕ → Result Script Wrong
+script_kept server client bytes = script_from (λ small. starts_of (imported server client small)) bytes

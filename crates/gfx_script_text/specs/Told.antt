@@ -10,11 +10,9 @@ use Rattle.gfx_base.specs.declared.answer.Cause.TheVariants.{Refused, Memory}
 use Rattle.gfx_script_text.specs.declared.pictures.Gallery as read_pictures
 use Rattle.gfx_script_text.specs.declared.reading.Top as read_top
 use Rattle.gfx_script_text.specs.declared.reading.Head as read_head
-use Rattle.gfx_script.specs.Scripted.{Script}
 use Rattle.gfx_script_text.specs.Pictures.{Gallery}
 use Rattle.gfx_script_text.specs.Text.{Wrong}
 use Rattle.gfx_script_text.specs.Text as text
-use Rattle.gfx_script_text.specs.declared.reading.Parts.{Parts}
 
 -- a flaw as an error at the step of this number
 abbrev pub error_at : ℕ → Cause ScriptKind → ScriptError
@@ -26,21 +24,6 @@ abbrev pub Reads : {X Y : Type 0} → (X → Y) → Result X ScriptError → Res
 Reads view (Ok x) due = due ≡ Ok (view x)
 Reads view (Err errors.Memory) due = Unit {0}
 Reads view (Err (errors.Fault step kind)) due = due ≡ Err record { step = step; kind = kind }
-
--- the parts of a script, as contracts see them
-abbrev pub parts_seen : Parts → Script
-parts_seen parts = record {
-  window = parts.window;
-  offers = parts.offers;
-  setting = parts.setting;
-  differences = parts.differences;
-  pictures = parts.pictures.items;
-  small = parts.small;
-  thin = parts.thin;
-  entropy = parts.entropy;
-  steps = parts.steps.items;
-  turns = parts.turns.items;
-}
 
 -- pictures with their names, as contracts see them
 abbrev pub gallery_seen : read_pictures.Gallery → Gallery

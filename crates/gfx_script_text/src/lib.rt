@@ -1,5 +1,5 @@
 //! Scripts as text in TOML. `read_script` reads one whole, or says what is wrong with it and at which
-//! step.
+//! step. `read_script_kept` reads one whose session starts with kept bitmaps.
 //!
 //! In the pipe it stands before the planner, which makes each step of a script into messages. The
 //! format is this project's own (docs/SCRIPTS.md).
@@ -23,13 +23,14 @@ mod progressive;
 mod promises;
 mod reading;
 mod session;
+mod start;
 mod surface;
 mod video;
 mod words;
 
 pub use error::ScriptError;
-pub use promises::accepted_scripts_are_good;
-pub use reading::read_script;
+pub use promises::{accepted_scripts_are_good, kept_scripts_are_good};
+pub use reading::{read_script, read_script_kept};
 
 /// The most that an id or a coordinate is.
 pub const MOST_NUMBER: u16 = 65535;

@@ -1,15 +1,18 @@
 //! The whole of a script's text, and the order of checks.
 
-ghost use Rattle.std.specs.Prelude.{◌≡◌, ◌≤◌, true, length, map, IfErr, IfOk};
+ghost use Rattle.std.specs.Prelude.{◌≡◌, ◌≤◌, true, length, map, [], IfErr, IfOk};
 ghost use Rattle.std.specs.Str.{is_utf8};
 ghost use Rattle.toml.specs.Data.{get_member};
 ghost use Rattle.toml.specs.View.{table_view, view};
 ghost use Rattle.gfx_base.specs.Outcome.{Gives, Says};
+ghost use Rattle.gfx_import.specs.Imported.{imported};
 ghost use Rattle.gfx_script.specs.declared.TheConstants.{MOST_STEPS};
-ghost use Rattle.gfx_script.specs.Script.{IsAccepted};
-ghost use Rattle.gfx_script_text.specs.Text.{script_of, script_in, document_of, items_or_none, top_of, head_of, next_step, steps_of};
+ghost use Rattle.gfx_script.specs.Parts.{parts_seen};
+ghost use Rattle.gfx_script.specs.Script.{IsAccepted, IsAcceptedAtStart};
+ghost use Rattle.gfx_script.specs.Starting.{IsStart, starts_of};
+ghost use Rattle.gfx_script_text.specs.Text.{script_of, script_kept, script_in, document_of, items_or_none, top_of, head_of, next_step, steps_of};
 ghost use Rattle.gfx_script_text.specs.declared.error.ScriptError.TheVariants.{Memory};
-ghost use Rattle.gfx_script_text.specs.Told.{Reads, parts_seen, top_seen, head_seen};
+ghost use Rattle.gfx_script_text.specs.Told.{Reads, top_seen, head_seen};
 
 use crate::client::read_client;
 use crate::error::ScriptError;
@@ -18,30 +21,16 @@ use crate::names::Names;
 use crate::pictures::{Gallery, read_pictures};
 use crate::progressive::{Progressive, read_progressive};
 use crate::session::{read_turns, read_window};
+use crate::start::read_start;
 use crate::video::read_video;
 use crate::words::read_step;
 use gfx_caps::{Offers, offers_small, offers_thin};
-use gfx_quant::Setting;
+use gfx_import::Kept;
 use gfx_script::{
-    Entropy, Flaw, Held, MOST_STEPS, Picture, Script, ScriptKind, Step, Turn, is_framed,
+    Entropy, Flaw, Held, MOST_STEPS, Script, ScriptKind, ScriptParts, Step, is_framed,
 };
 use std::alloc::Global;
 use toml::{Table, Value};
-
-/// What a script is made of.
-#[derive(Drop)]
-struct Parts {
-    window: u8,
-    offers: Offers,
-    setting: Setting,
-    differences: bool,
-    pictures: Vec<Picture>,
-    small: bool,
-    thin: bool,
-    entropy: Entropy,
-    steps: Vec<Step>,
-    turns: Vec<Turn>,
-}
 
 /// What stands under the keys at the top.
 #[derive(Clone, Copy)]
@@ -69,6 +58,26 @@ struct Head<'a> {
 pub fn read_script(alloc: Global, text: &[u8]) -> Result<Script, ScriptError>
     ensures exact { Reads (λ script. script) result (script_of text.now) }
     ensures accepted { IfOk result IsAccepted }
+    ensures starts { IfOk result (λ script. script.start ≡ []) }
+    // Bytes that are no text take no memory.
+    ensures memory { IfErr result (λ error. error ≡ Memory → is_utf8 text.now ≡ true) }
+{
+    let nothing = Kept::new(alloc);
+    read_script_kept(alloc, text, &nothing, &nothing)
+}
+
+/// The same of a script whose session starts with what is imported of two kept files, the server's and the
+/// client's: before the first step these bitmaps are kept, in slots 1, 2 and so on. Of files with nothing it is
+/// what `read_script` reads.
+pub fn read_script_kept(
+    alloc: Global,
+    text: &[u8],
+    server: &Kept,
+    client: &Kept,
+) -> Result<Script, ScriptError>
+    ensures exact { Reads (λ script. script) result (script_kept server.now client.now text.now) }
+    ensures accepted { IfOk result IsAcceptedAtStart }
+    ensures start { IfOk result (λ script. script.start ≡ starts_of (imported server.now client.now script.small)) }
     // Bytes that are no text take no memory.
     ensures memory { IfErr result (λ error. error ≡ Memory → is_utf8 text.now ≡ true) }
 {
@@ -78,25 +87,20 @@ pub fn read_script(alloc: Global, text: &[u8]) -> Result<Script, ScriptError>
             kind: ScriptKind::Toml,
         });
     };
-    let parts = read_parts(alloc, text)?;
-    Ok(Script::new(
-        parts.window,
-        parts.offers,
-        parts.setting,
-        parts.differences,
-        parts.pictures,
-        parts.small,
-        parts.thin,
-        parts.entropy,
-        parts.steps,
-        parts.turns,
-    ))
+    let parts = read_parts(alloc, text, server, client)?;
+    Ok(Script::new(parts))
 }
 
-/// Reads the parts of a script.
+/// Reads the parts of a script that starts with what is imported.
 #[tactic(auto, unfolding(crate::specs::Text::script_in, gfx_base::specs::Results::and_then))]
-fn read_parts(alloc: Global, text: &str) -> Result<Parts, ScriptError>
-    ensures { Reads parts_seen result (script_in text.now) }
+fn read_parts(
+    alloc: Global,
+    text: &str,
+    server: &Kept,
+    client: &Kept,
+) -> Result<ScriptParts, ScriptError>
+    ensures exact { Reads parts_seen result (script_in (λ small. starts_of (imported server.now client.now small)) text.now) }
+    ensures start { IfOk result (λ parts. IsStart parts.start.items parts.small) }
 {
     let table = match read_document(alloc, text) {
         Ok(table) => table,
@@ -123,7 +127,10 @@ fn read_parts(alloc: Global, text: &str) -> Result<Parts, ScriptError>
     let Gallery { names, pictures } = gallery;
     let small = offers_small(offers.as_slice());
     let thin = offers_thin(offers.as_slice());
-    let Ok(held) = Held::new(alloc, &pictures, small) else {
+    let Ok(start) = read_start(alloc, server, client, small) else {
+        return Err(ScriptError::Memory);
+    };
+    let Ok(held) = Held::with_bitmaps(alloc, &pictures, small, &start) else {
         return Err(ScriptError::Memory);
     };
     let steps = read_steps(alloc, &names, held, top.step)?;
@@ -137,7 +144,7 @@ fn read_parts(alloc: Global, text: &str) -> Result<Parts, ScriptError>
         Ok(turns) => turns,
         Err(flaw) => return Err(ScriptError::at(0, flaw)),
     };
-    Ok(Parts {
+    Ok(ScriptParts {
         window,
         offers,
         setting,
@@ -146,6 +153,7 @@ fn read_parts(alloc: Global, text: &str) -> Result<Parts, ScriptError>
         small,
         thin,
         entropy,
+        start,
         steps,
         turns,
     })

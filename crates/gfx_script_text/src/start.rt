@@ -1,0 +1,37 @@
+//! The bitmaps that a script starts with.
+
+ghost use Rattle.std.specs.Prelude.{◌≡◌, IfOk};
+ghost use Rattle.gfx_import.specs.Imported.{imported};
+ghost use Rattle.gfx_script.specs.Starting.{IsStart, starts_of};
+
+use gfx_base::NoMemory;
+use gfx_import::{Kept, imported_at, imported_count};
+use gfx_script::{Sides, StartBitmap};
+use std::alloc::Global;
+
+/// The keys and the sides of the bitmaps that are imported of two kept files.
+pub fn read_start(
+    alloc: Global,
+    server: &Kept,
+    client: &Kept,
+    small: bool,
+) -> Result<Vec<StartBitmap>, NoMemory>
+    ensures all { IfOk result (λ start. start.items ≡ starts_of (imported server.now client.now small)) }
+    ensures start { IfOk result (λ start. IsStart start.items small) }
+{
+    let count = imported_count(server, client, small);
+    let most = client.len();
+    prove!(count <= most);
+    let mut start = Vec::with_capacity(alloc, count)?;
+    'places: for place in 0..count {
+        let Some((key, bitmap)) = imported_at(server, client, place) else {
+            unreachable!()
+        };
+        let sides = Sides {
+            width: bitmap.width,
+            height: bitmap.height,
+        };
+        start.push_reserved(StartBitmap { key, sides });
+    }
+    Ok(start)
+}

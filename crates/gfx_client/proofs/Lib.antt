@@ -3,3 +3,4 @@ pub mod NextEffects
 pub mod ClientLemmas
 pub mod Playing
 pub mod Bringing
+pub mod Beginning

@@ -8,7 +8,7 @@ use Rattle.gfx_base.specs.declared.answer.Cause.TheVariants as fault
 use Rattle.gfx_caps.specs.declared.offer.Offer.{Offer}
 use Rattle.gfx_pdu.specs.declared.pdu.Pdu.{Pdu}
 use Rattle.gfx_pdu.specs.Reading.{message_at}
-use Rattle.gfx_state.specs.Cursor.{Cursor, given, Opens, Needs, Refuses, what_next, Reaches, settled}
+use Rattle.gfx_state.specs.Cursor.{Cursor, before_all, given, Opens, Needs, Refuses, what_next, Reaches, settled}
 use Rattle.gfx_state.specs.Cursor as cursor
 use Rattle.gfx_state.specs.History.{coming}
 use Rattle.gfx_client.specs.declared.client.Client.{Client}
@@ -34,6 +34,11 @@ closed_by client = client.closed
 -- the versions that a client offers
 abbrev pub offers_of : Client → List Offer
 offers_of client = client.offered
+
+-- a client at the start of a stream that has taken nothing
+pub record IsUntouched (client : Client) : Type 0 where
+  pub at_start : cursor_of client ≡ before_all
+  pub not_closed : closed_by client ≡ None
 
 -- a message was refused or memory ran out: it has closed the client
 abbrev pub closed_form : ClientFault → ClientFault

@@ -2,7 +2,10 @@
 -- first of them: the names that say none are of a client that began with nothing.
 use Rattle.std.specs.Prelude.{◌≡◌, ℕ, List, [], ◌∷◌, ◌++◌, ◌⊎◌, Option, Some, None, Result, Ok, Err}
 use Rattle.gfx_base.specs.Memory.{next_count}
+use Rattle.gfx_base.specs.declared.answer.Cause.{Cause}
+use Rattle.gfx_base.specs.declared.answer.Cause.TheVariants as fault
 use Rattle.gfx_base.specs.declared.refusal.Refusal.{Refusal}
+use Rattle.gfx_bitmap_cache.specs.Slots.{Cached}
 use Rattle.gfx_client.specs.Client.{cursor_of, closed_by}
 use Rattle.gfx_client.specs.declared.client.Client.{Client}
 use Rattle.gfx_client.specs.declared.fault.ClientFault.{ClientFault}
@@ -13,7 +16,7 @@ use Rattle.gfx_client.specs.Replies.{stepped_by}
 use Rattle.gfx_state.specs.History.{Effect, history_from, coming}
 use Rattle.gfx_state.specs.Cursor.{Needs, what_next, settled}
 use Rattle.gfx_state.specs.Run.{run_from, end}
-use Rattle.gfx_state.specs.State.{State, fresh}
+use Rattle.gfx_state.specs.State.{State, fresh, started_with}
 
 -- a client that has taken these bytes from a start on, and is anywhere in them: with no more it will come to their run
 pub record StandsFrom (start : State) (client : Client) (bytes : List ℕ) : Type 0 where
@@ -92,3 +95,16 @@ ends_from start None bytes = answer_by (end (run_from start bytes)).refusal (end
 
 abbrev pub ends_by : Option ClientFault → List ℕ → Result (Unit {0}) ClientFault
 ends_by closed bytes = ends_from fresh closed bytes
+
+-- a client that begins with the bitmaps of a cache in place of none, has taken nothing, and is as before in all else
+pub record BeginsWith (cache : Cached) (old new : Client) : Type 0 where
+  pub stands : StandsFrom (started_with cache.slots cache.small) new []
+  pub brought : HasBroughtFrom (started_with cache.slots cache.small) new [] []
+  pub drained : IsDrained new
+  pub rest : cursor_of new ≡ record (cursor_of old) { state = record (cursor_of old).state { cache = cache } }
+
+-- what an import answers where this cache is due, or a refusal: any fault leaves the client as it was
+abbrev pub Imports : Result (Unit {0}) (Cause Refusal) → Client → Client → Result Cached Refusal → Type 0
+Imports (Ok done) old new due = (cache : Cached) × (due ≡ Ok cache) × BeginsWith cache old new
+Imports (Err fault.Memory) old new due = new ≡ old
+Imports (Err (fault.Refused r)) old new due = (due ≡ Err r) × (new ≡ old)

@@ -1,8 +1,9 @@
 ghost use Rattle.std.specs.Prelude.{◌≡◌, ℕ, ◌≤◌, List, [], ◌++◌, length, ◌↔◌, IsTrue, OnOk, OnErr, IfOk, None};
-ghost use Rattle.gfx_client.specs.Standing.{StandsFor, StandsFrom, HasBrought, HasBroughtFrom, Brings, IsDrained, Plays, PlaysFrom, ends_from};
+ghost use Rattle.gfx_client.specs.Standing.{StandsFor, StandsFrom, HasBrought, HasBroughtFrom, Brings, IsDrained, Plays, PlaysFrom, Imports, ends_from};
 ghost use Rattle.gfx_state.specs.History.{Effect};
 ghost use Rattle.gfx_state.specs.State.{State};
 ghost use Rattle.gfx_client.specs.Replies.{hello, reply_to, stepped_of};
+ghost use Rattle.gfx_import.specs.Started.{cache_by};
 
 use crate::fault::ClientFault;
 use crate::offered::Offered;
@@ -12,10 +13,11 @@ use gfx_base::{Bytes, Fault, NoMemory, Refusal};
 use gfx_bitmap_cache::Cache;
 use gfx_caps::{MOST_OFFERS, Offers};
 use gfx_clear::ClearState;
+use gfx_import::{Kept, import_cache};
 use gfx_pdu::{Pdu, read_pdu};
 use gfx_prog_decode::Records;
-use gfx_screen::State;
 use gfx_segment::Splitter;
+use gfx_state::State;
 use gfx_surface_map::SurfaceMap;
 use std::alloc::Global;
 
@@ -34,7 +36,7 @@ pub struct Client {
 }
 
 impl Client {
-    ghost use Rattle.gfx_client.specs.Client.{cursor_of, closed_by, offers_of, Takes, Steps, Advances, TakesMessage, OpensMessage, IsAtPayloadEnd, IsAtEnd, end_of};
+    ghost use Rattle.gfx_client.specs.Client.{cursor_of, closed_by, offers_of, IsUntouched, Takes, Steps, Advances, TakesMessage, OpensMessage, IsAtPayloadEnd, IsAtEnd, end_of};
 
     /// A client at the start of a stream, which offers these versions. It takes the room of the ClearCodec
     /// stores.
@@ -43,6 +45,7 @@ impl Client {
         ensures stands { IfOk result (λ client. StandsFor client []) }
         ensures brought { IfOk result (λ client. HasBrought client [] []) }
         ensures drained { IfOk result IsDrained }
+        ensures untouched { IfOk result IsUntouched }
         ensures offers { IfOk result (λ client. offers_of client ≡ offers) }
     {
         let state = State::new(alloc, false)?;
@@ -67,6 +70,24 @@ impl Client {
         ensures { IfOk result (λ bytes. bytes ≡ hello (offers_of self.now)) }
     {
         self.offered.hello(self.alloc)
+    }
+
+    /// Begins with bitmaps that were kept from an earlier session, before anything is taken ([MS-RDPEGFX]
+    /// 3.2.5.13): copies of the first entries of `kept` are stored at the slots of the server's reply, in its
+    /// order, and `small` says whether the small limits bind the stores from then on.
+    ///
+    /// Refusals are PduTruncated, PduLength, PduUnknown and CountMismatch of the reply; then ImportCount,
+    /// exactly where it has more slots than there are entries; then SlotRange and CacheBudget of the stores.
+    /// Any fault leaves the client as it was.
+    pub fn import(&mut self, kept: &Kept, reply: &[u8], small: bool) -> Result<(), Fault>
+        requires { IsUntouched self.old }
+        ensures imports { Imports result self.old self.new (cache_by kept.now reply.now small) }
+        ensures small { OnOk result ((cursor_of self.new).state.cache.small ≡ small) }
+        ensures offers { offers_of self.new ≡ offers_of self.old }
+    {
+        let cache = import_cache(self.alloc, kept, reply, small)?;
+        self.state.put_cache(cache);
+        Ok(())
     }
 
     /// Takes the next bytes of the stream, cut anywhere. It never refuses them.

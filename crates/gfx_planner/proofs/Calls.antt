@@ -11,7 +11,7 @@ use Rattle.gfx_script.specs.Script.{step_at}
 use Rattle.gfx_script.specs.Scripted.{Script}
 use Rattle.gfx_script.specs.declared.step.Kind.{Kind}
 use Rattle.gfx_script.specs.declared.step.Step.{Step}
-use Rattle.gfx_live.specs.Live.{Passes}
+use Rattle.gfx_prog_live.specs.Live.{Passes}
 use Rattle.gfx_slot_plan.specs.Plan.{Plan}
 use Rattle.gfx_state.specs.State.{State}
 use Rattle.gfx_state.specs.Step as message

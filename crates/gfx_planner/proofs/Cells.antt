@@ -7,8 +7,8 @@ use Rattle.std.proofs.lemmas.Bool.Decides.{nat_tests}
 use Rattle.std.proofs.lemmas.List.Folds.{list_any-append}
 use Rattle.std.proofs.lemmas.List.Sums.{sum_by-cons}
 use Rattle.gfx_base.specs.Cells.{cells_along}
-use Rattle.gfx_live_law.specs.Taken.{HasRoom, IsCell}
-use Rattle.gfx_live_law.proofs.Counting.{among, cell-among, cell-keys, few-keys, length-cell-keys}
+use Rattle.gfx_prog_law.specs.Taken.{HasRoom, IsCell}
+use Rattle.gfx_prog_law.proofs.Counting.{among, cell-among, cell-keys, few-keys, length-cell-keys}
 use Rattle.gfx_prog_decode.specs.declared.key.Key.{Key}
 use Rattle.gfx_prog_decode.specs.Records.{Records, key_cmp}
 use Rattle.gfx_surface.specs.Picture.{Picture}

@@ -23,9 +23,9 @@ use Rattle.gfx_script.specs.Kinds.{as_kind}
 use Rattle.gfx_script.specs.Scripted.{Script}
 use Rattle.gfx_script.specs.Ways.{goes_by}
 use Rattle.gfx_script.specs.Writes.{place_of}
-use Rattle.gfx_live.specs.Live.{Passes}
+use Rattle.gfx_prog_live.specs.Live.{Passes}
 use Rattle.gfx_slot_plan.specs.Plan.{Plan}
-use Rattle.gfx_state.specs.Codecs.{CLEARCODEC}
+use Rattle.gfx_pdu.specs.Codecs.{CLEAR_CODEC}
 use Rattle.gfx_state.specs.Sending.{sent, IsCarried}
 use Rattle.gfx_state.specs.State.{State}
 use Rattle.gfx_state.specs.Step.{step}
@@ -139,7 +139,7 @@ same_message : (script : Script) (state : State) (paint : ClearPaint) (may : May
 same_message script state paint may rect pixels p =
     let are = place_sides may.picture paint.at in
     (λ i. clear_message state paint.id may.surface.format (p.place i) (p.colours i) paint.layer paint.glyph)
-    ∙ (λ i. WireToSurface1 paint.id CLEARCODEC (byte_of may.surface.format) (place_of may.picture paint.at)
+    ∙ (λ i. WireToSurface1 paint.id CLEAR_CODEC (byte_of may.surface.format) (place_of may.picture paint.at)
     (stream_sent state.clear paint.layer paint.glyph (are.0 i) (are.1 i) (colours_in may.picture)).bytes)
 
 pub clear_carried : (script : Script) (state : State) (paint : ClearPaint) (may : MayPaintClear script state paint) (rect : Rect) (pixels : List Rgb) → Painting script state paint may rect pixels

@@ -12,8 +12,8 @@ use Rattle.gfx_base.specs.declared.pixel.Pixel.{Pixel}
 use Rattle.gfx_base.specs.Geometry.{IsRect, moved, sized}
 use Rattle.gfx_base.specs.declared.refusal.Refusal.{Refusal}
 use Rattle.gfx_bitmap_cache.specs.Slots.{Cached, Entry, Image, shown}
-use Rattle.gfx_live.proofs.Ending.{ended_one_by_one}
-use Rattle.gfx_live.specs.Live.{Passes, ended_in, without_surface}
+use Rattle.gfx_prog_live.proofs.Ending.{ended_one_by_one}
+use Rattle.gfx_prog_live.specs.Live.{Passes, ended_in, without_surface}
 use Rattle.gfx_script.specs.declared.held.Sides.{Sides}
 use Rattle.gfx_script.specs.declared.picture.Picture.{Picture as Source}
 use Rattle.gfx_script.specs.declared.step.Kind.{Kind}

@@ -8,6 +8,7 @@ pub mod Payloads
 pub mod MessageSending
 pub mod SlotLists
 pub mod Slots
+pub mod BitmapStarts
 pub mod Seen
 pub mod SurfaceSteps
 pub mod VideoSteps

@@ -11,15 +11,15 @@ use Rattle.gfx_base.specs.declared.geometry.Rect.{Rect}
 use Rattle.gfx_base.specs.declared.geometry.TheConstants.{CELL_SIDE}
 use Rattle.gfx_base.specs.Cells.{cell, has_pixels, meets}
 use Rattle.gfx_base.specs.Geometry.{IsRect, holds, lies_in}
-use Rattle.gfx_live.specs.Live.{Live, Passes, after_sends, improved_sends, painted_sends}
-use Rattle.gfx_live.specs.Showing.{after_showing}
-use Rattle.gfx_live_law.specs.Taken.{WasSent}
-use Rattle.gfx_live_law.proofs.Apart.{all-more}
-use Rattle.gfx_live_law.proofs.Improving.{improved-sent}
-use Rattle.gfx_live_law.proofs.Kept.{live-elsewhere, retained-live}
-use Rattle.gfx_live_law.proofs.Painting.{painted-sent}
-use Rattle.gfx_live_law.proofs.Seen.{LiveShows, live-shows-after}
-use Rattle.gfx_live_law.proofs.Squares.{InCell, rect-in-cell}
+use Rattle.gfx_prog_live.specs.Live.{Live, Passes, after_sends, improved_sends, painted_sends}
+use Rattle.gfx_prog_live.specs.Showing.{after_showing}
+use Rattle.gfx_prog_law.specs.Taken.{WasSent}
+use Rattle.gfx_prog_law.proofs.Apart.{all-more}
+use Rattle.gfx_prog_law.proofs.Improving.{improved-sent}
+use Rattle.gfx_prog_law.proofs.Kept.{live-elsewhere, retained-live}
+use Rattle.gfx_prog_law.proofs.Painting.{painted-sent}
+use Rattle.gfx_prog_law.proofs.Seen.{LiveShows, live-shows-after}
+use Rattle.gfx_prog_law.proofs.Squares.{InCell, rect-in-cell}
 use Rattle.gfx_prog_decode.specs.declared.key.Key.{Key}
 use Rattle.gfx_prog_decode.specs.Records.{Records, key_cmp}
 use Rattle.gfx_prog_decode.specs.Scene.{scene}

@@ -16,7 +16,7 @@ use Rattle.gfx_pdu.specs.Spelling.{spelling}
 use Rattle.gfx_pdu.specs.declared.pdu.Pdu.{Pdu}
 use Rattle.gfx_pdu.specs.declared.pdu.Pdu.TheVariants.{WireToSurface1}
 use Rattle.gfx_segment.specs.Framing.{wrapped}
-use Rattle.gfx_state.specs.Codecs.{CLEARCODEC}
+use Rattle.gfx_pdu.specs.Codecs.{CLEAR_CODEC}
 use Rattle.gfx_surface.specs.Picture.{Picture}
 use Rattle.gfx_planner.specs.ClearPaints.{clear_message}
 use Rattle.gfx_state.specs.State.{State}
@@ -120,13 +120,13 @@ put_sends (Err e) old new before now pdu stepped wrote kept = subst (λ z. PutsF
 
 -- the message that was put out is the one that is due, and the state is its step
 pub clear_sends : (result : Result (Unit {0}) NoMemory) (old new : State) (id : ℕ) (surface : Picture) (rect : Rect) (pixels : List Rgb) (layer : Layer) (glyph : Option ℕ) (codec byte : ℕ) (payload before now : List ℕ) (o : Option Picture)
-    → o ≡ Some surface → codec ≡ CLEARCODEC → byte ≡ byte_of surface.format → payload ≡ (stream_sent old.clear layer glyph (width_of rect) (height_of rect) pixels).bytes
-    → ((b : ℕ) → IsSome (format_of b) → step old (WireToSurface1 id CLEARCODEC b rect payload) ≡ Ok new)
+    → o ≡ Some surface → codec ≡ CLEAR_CODEC → byte ≡ byte_of surface.format → payload ≡ (stream_sent old.clear layer glyph (width_of rect) (height_of rect) pixels).bytes
+    → ((b : ℕ) → IsSome (format_of b) → step old (WireToSurface1 id CLEAR_CODEC b rect payload) ≡ Ok new)
     → OnOk result (now ≡ before ++ wrapped (spelling (WireToSurface1 id codec byte rect payload))) → OnErr result (now ≡ before)
     → IfSome o (λ surface. SendsMessages result old new before now (clear_message old id surface.format rect pixels layer glyph ∷ []))
 clear_sends result old new id surface rect pixels layer glyph codec byte payload before now o there by_codec by_format is steps wrote kept =
     let same : WireToSurface1 id codec byte rect payload ≡ clear_message old id surface.format rect pixels layer glyph = λ i. WireToSurface1 id (by_codec i) (by_format i) rect (is i) in
     let stepped : step old (clear_message old id surface.format rect pixels layer glyph) ≡ Ok new =
-    ap (λ z. step old (WireToSurface1 id CLEARCODEC (byte_of surface.format) rect z)) (sym is) ∙ steps (byte_of surface.format) (ap is_some (format_back surface.format)) in
+    ap (λ z. step old (WireToSurface1 id CLEAR_CODEC (byte_of surface.format) rect z)) (sym is) ∙ steps (byte_of surface.format) (ap is_some (format_back surface.format)) in
     subst (λ o. IfSome o (λ surface. SendsMessages result old new before now (clear_message old id surface.format rect pixels layer glyph ∷ []))) (sym there)
     (put_sends result old new before now _ stepped (subst (λ z. OnOk result (now ≡ before ++ wrapped (spelling z))) same wrote) kept)

@@ -37,7 +37,7 @@ use Rattle.gfx_script.specs.declared.error.ScriptKind.TheVariants as fault
 use Rattle.gfx_script.specs.declared.step.Step.TheVariants.{Paint}
 use Rattle.gfx_state.specs.State.{State}
 use Rattle.gfx_state.specs.Step as message
-use Rattle.gfx_state.specs.Codecs.{id_of}
+use Rattle.gfx_pdu.specs.Codecs.{id_of}
 use Rattle.gfx_state.specs.Sending.{IsCarried}
 use Rattle.gfx_planner.specs.Agree.{sides_of, HoldsSurfaces}
 use Rattle.gfx_script.specs.declared.way.Way.{Way}

@@ -30,8 +30,8 @@ use Rattle.gfx_script.specs.Patterns.{pixel_of}
 use Rattle.gfx_script.specs.Writes.{place_of}
 use Rattle.gfx_state.specs.State.{State}
 use Rattle.gfx_state.specs.Step as message
-use Rattle.gfx_state.specs.Codecs.{UNCOMPRESSED, CLEARCODEC, codec_of}
-use Rattle.gfx_state.specs.declared.codec.Codec.TheVariants.{Uncompressed, ClearCodec}
+use Rattle.gfx_pdu.specs.Codecs.{UNCOMPRESSED, CLEAR_CODEC, codec_of}
+use Rattle.gfx_pdu.specs.declared.codec.Codec.TheVariants.{Uncompressed, ClearCodec}
 use Rattle.gfx_state.specs.Step.{data_painted, bytes_painted, stream_painted}
 use Rattle.gfx_planner.specs.Want.{pixels_in, colours_in}
 use Rattle.gfx_planner.proofs.Ways.{shown_by}
@@ -121,7 +121,7 @@ painted_clear state id surface picture at layer glyph there inside are may wide 
     let may_there = subst (λ w. MaySendStream w (height_of rect) colours glyph) (sym across) (subst (λ h. MaySendStream picture.width h colours glyph) (sym down) may) in
     let due = stream_sent state.clear layer glyph picture.width picture.height colours in
     and_then_at (ok_or (get state.shown.surfaces id) refusal.NoSurface) surface _ (ap (λ o. ok_or o refusal.NoSurface) there)
-    ∙ and_then_at (ok_or (codec_of CLEARCODEC) refusal.CodecRefused) ClearCodec _ refl
+    ∙ and_then_at (ok_or (codec_of CLEAR_CODEC) refusal.CodecRefused) ClearCodec _ refl
     ∙ and_then_at (ok_or (format_of (byte_of surface.format)) refusal.PixelFormat) surface.format _ (ap (λ o. ok_or o refusal.PixelFormat) (format_back surface.format))
     ∙ and_then_at (check refusal.RectOutside (lies_in surface.width surface.height rect)) tt _ (ap (check refusal.RectOutside) inside)
     ∙ and_then_at (decoded (scene state.clear surface) rect due.bytes) (scene due.state (overlaid surface rect (map opaque colours))) _

@@ -7,7 +7,7 @@ use Rattle.gfx_base.specs.declared.format.Format.{Format}
 use Rattle.gfx_base.specs.declared.geometry.Point.{Point}
 use Rattle.gfx_base.specs.declared.geometry.Rect.{Rect}
 use Rattle.gfx_base.specs.Geometry.{moved, sized}
-use Rattle.gfx_live.specs.Live.{Passes, improve_all, improved_sends, paint_all, painted_sends, passes_after}
+use Rattle.gfx_prog_live.specs.Live.{Passes, improve_all, improved_sends, paint_all, painted_sends, passes_after}
 use Rattle.gfx_pdu.specs.declared.pdu.Pdu.{Pdu}
 use Rattle.gfx_quant.specs.declared.setting.Setting.{Setting}
 use Rattle.gfx_script.specs.declared.held.Sides.{Sides}

@@ -7,8 +7,8 @@ use Rattle.std.proofs.lemmas.Bool.Decides.{nat_tests}
 use Rattle.gfx_base.specs.declared.geometry.Point.{Point}
 use Rattle.gfx_base.specs.Cells.{has_pixels}
 use Rattle.gfx_base.specs.Geometry.{IsRect}
-use Rattle.gfx_live.specs.Inside.{AreBy, IsBy}
-use Rattle.gfx_live.specs.Live.{Live, Passes}
+use Rattle.gfx_prog_live.specs.Inside.{AreBy, IsBy}
+use Rattle.gfx_prog_live.specs.Live.{Live, Passes}
 use Rattle.gfx_prog_decode.specs.Records.{Records}
 use Rattle.gfx_prog_encode.specs.declared.send.TileSend.{TileSend}
 use Rattle.gfx_quant.specs.declared.setting.Setting.{Setting}

@@ -9,13 +9,13 @@ use Rattle.gfx_base.specs.Results.{check}
 use Rattle.gfx_base.proofs.ResultLemmas.{and_then_ok, check_ok}
 use Rattle.gfx_base.specs.declared.geometry.Point.{Point}
 use Rattle.gfx_base.specs.Cells.{has_pixels}
-use Rattle.gfx_live.specs.Live.{Passes, improve_all, improved_sends, paint_all, painted_sends, passes_after}
-use Rattle.gfx_live.specs.Showing.{after_showing, after_tiles}
-use Rattle.gfx_live_law.specs.Taken.{AreTaken, HasRoom, WasSent}
-use Rattle.gfx_live_law.proofs.Groups.{number-fits}
-use Rattle.gfx_live_law.proofs.Improving.{improvements-taken}
-use Rattle.gfx_live_law.proofs.Painting.{paints-taken}
-use Rattle.gfx_live_law.proofs.Seen.{tiles-picture}
+use Rattle.gfx_prog_live.specs.Live.{Passes, improve_all, improved_sends, paint_all, painted_sends, passes_after}
+use Rattle.gfx_prog_live.specs.Showing.{after_showing, after_tiles}
+use Rattle.gfx_prog_law.specs.Taken.{AreTaken, HasRoom, WasSent}
+use Rattle.gfx_prog_law.proofs.Groups.{number-fits}
+use Rattle.gfx_prog_law.proofs.Improving.{improvements-taken}
+use Rattle.gfx_prog_law.proofs.Painting.{paints-taken}
+use Rattle.gfx_prog_law.proofs.Seen.{tiles-picture}
 use Rattle.gfx_prog_decode.specs.Scene.{Scene, scene}
 use Rattle.gfx_prog_encode.specs.declared.send.TileSend.{TileSend}
 use Rattle.gfx_surface.specs.declared.TheConstants.{MOST_SIDE}

@@ -8,7 +8,7 @@ use Rattle.gfx_base.proofs.ResultLemmas.{and_then_at, and_then_ok}
 use Rattle.gfx_clear_store.specs.Rings.{AreRings}
 use Rattle.gfx_clear.proofs.Keeping.{rings_fresh}
 use Rattle.gfx_pdu.specs.declared.pdu.Pdu.{Pdu}
-use Rattle.gfx_live.specs.Live.{Passes}
+use Rattle.gfx_prog_live.specs.Live.{Passes}
 use Rattle.gfx_prog_decode.specs.Records.{Records}
 use Rattle.gfx_script.specs.Checks.{Held, held_first, sides_of_all, held_after, held_through}
 use Rattle.gfx_script.specs.Kinds.{KindedStep, HasKind, Fits}

@@ -11,7 +11,7 @@ use Rattle.gfx_base.specs.Results.{check}
 use Rattle.gfx_base.specs.declared.format.Format.{Format}
 use Rattle.gfx_base.specs.declared.refusal.Refusal.TheVariants as refusal
 use Rattle.gfx_base.proofs.ResultLemmas.{and_then_at, and_then_ok}
-use Rattle.gfx_live_law.specs.Taken.{place_of}
+use Rattle.gfx_prog_law.specs.Taken.{place_of}
 use Rattle.gfx_prog_decode.specs.Progressive.{after_message}
 use Rattle.gfx_prog_decode.specs.Scene.{Scene, in_turn, scene}
 use Rattle.gfx_surface.specs.Picture.{Picture}

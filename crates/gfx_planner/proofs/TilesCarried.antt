@@ -4,12 +4,12 @@ use Rattle.std.specs.List.{AllByRecursion}
 use Rattle.std.proofs.lemmas.List.Elements.{All-from_recursion}
 use Rattle.gfx_base.specs.Format.{byte_of}
 use Rattle.gfx_base.specs.declared.format.Format.{Format}
-use Rattle.gfx_live.specs.Live.{Live, following, groups_of, improve_all, improved_sends, numbered, paint_all}
-use Rattle.gfx_live_law.specs.Taken.{LiveIn, WasSent}
-use Rattle.gfx_live_law.proofs.Apart.{all-drop, all-map, all-more, all-take, all-with}
-use Rattle.gfx_live_law.proofs.Improving.{improved-asked, improved-sent}
-use Rattle.gfx_live_law.proofs.Kept.{Asked}
-use Rattle.gfx_live_law.proofs.Sends.{is-send}
+use Rattle.gfx_prog_live.specs.Live.{Live, following, groups_of, improve_all, improved_sends, numbered, paint_all}
+use Rattle.gfx_prog_law.specs.Taken.{LiveIn, WasSent}
+use Rattle.gfx_prog_law.proofs.Apart.{all-drop, all-map, all-more, all-take, all-with}
+use Rattle.gfx_prog_law.proofs.Improving.{improved-asked, improved-sent}
+use Rattle.gfx_prog_law.proofs.Kept.{Asked}
+use Rattle.gfx_prog_law.proofs.Sends.{is-send}
 use Rattle.gfx_pdu.specs.declared.pdu.Pdu.TheVariants.{WireToSurface2}
 use Rattle.gfx_pdu.specs.Spelling.{size}
 use Rattle.gfx_prog_decode.specs.Records.{Records}

@@ -7,9 +7,9 @@ use Rattle.std.specs.Ordering.{nat_cmp, eq_by_cmp}
 use Rattle.std.proofs.lemmas.Bool.{cases_eq}
 use Rattle.std.proofs.lemmas.Bool.Decides.{nat_tests}
 use Rattle.gfx_base.specs.Cells.{cell, meets}
-use Rattle.gfx_live.specs.Live.{Live, Passes, without_surface}
-use Rattle.gfx_live_law.specs.Taken.{LiveIn}
-use Rattle.gfx_live_law.proofs.Kept.{retained-live}
+use Rattle.gfx_prog_live.specs.Live.{Live, Passes, without_surface}
+use Rattle.gfx_prog_law.specs.Taken.{LiveIn}
+use Rattle.gfx_prog_law.proofs.Kept.{retained-live}
 use Rattle.gfx_prog_decode.specs.declared.key.Key.{Key}
 use Rattle.gfx_prog_decode.specs.Records.{Records, key_cmp, without_surface as records_but}
 use Rattle.gfx_prog_decode.proofs.Keys.{key_same}

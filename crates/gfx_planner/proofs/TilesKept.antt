@@ -4,12 +4,12 @@ use Rattle.std.specs.FinMap.{get, insert}
 use Rattle.std.specs.List.{AllByRecursion}
 use Rattle.std.proofs.lemmas.Bool.{cases_eq}
 use Rattle.std.proofs.lemmas.List.Elements.{recursion_from_All}
-use Rattle.gfx_live.specs.Live.{Live, after_sends}
-use Rattle.gfx_live.specs.Showing.{after_tiles}
-use Rattle.gfx_live_law.specs.Taken.{AreTaken, IsCell, LiveIn, WasSent}
-use Rattle.gfx_live_law.proofs.Apart.{all-more}
-use Rattle.gfx_live_law.proofs.Groups.{HasSides, tiles-sides}
-use Rattle.gfx_live_law.proofs.Kept.{BeginsIn, keys-after, live-beside, live-elsewhere}
+use Rattle.gfx_prog_live.specs.Live.{Live, after_sends}
+use Rattle.gfx_prog_live.specs.Showing.{after_tiles}
+use Rattle.gfx_prog_law.specs.Taken.{AreTaken, IsCell, LiveIn, WasSent}
+use Rattle.gfx_prog_law.proofs.Apart.{all-more}
+use Rattle.gfx_prog_law.proofs.Groups.{HasSides, tiles-sides}
+use Rattle.gfx_prog_law.proofs.Kept.{BeginsIn, keys-after, live-beside, live-elsewhere}
 use Rattle.gfx_prog_decode.specs.declared.key.Key.{Key}
 use Rattle.gfx_prog_decode.specs.Records.{Records}
 use Rattle.gfx_prog_decode.specs.Scene.{Scene, scene}

@@ -6,9 +6,9 @@ use Rattle.std.proofs.lemmas.Bool.Decides.{nat_tests}
 use Rattle.gfx_base.specs.Geometry.{holds}
 use Rattle.gfx_base.specs.declared.geometry.Point.{Point}
 use Rattle.gfx_base.specs.declared.geometry.Rect.{Rect}
-use Rattle.gfx_live.specs.Live.{Live, improved_sends, painted_sends}
-use Rattle.gfx_live.specs.Showing.{after_showing}
-use Rattle.gfx_live_law.proofs.Seen.{passes-wrote, showing-shape}
+use Rattle.gfx_prog_live.specs.Live.{Live, improved_sends, painted_sends}
+use Rattle.gfx_prog_live.specs.Showing.{after_showing}
+use Rattle.gfx_prog_law.proofs.Seen.{passes-wrote, showing-shape}
 use Rattle.gfx_prog_encode.specs.declared.send.TileSend.{TileSend}
 use Rattle.gfx_surface.specs.declared.TheConstants.{MOST_SIDE}
 use Rattle.gfx_surface.specs.Picture.{Picture}

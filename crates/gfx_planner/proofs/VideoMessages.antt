@@ -8,7 +8,7 @@ use Rattle.gfx_base.specs.Geometry.{IsRect, moved, sized}
 use Rattle.gfx_base.specs.declared.format.Format.{Format}
 use Rattle.gfx_base.specs.declared.geometry.Point.{Point}
 use Rattle.gfx_base.specs.declared.geometry.Rect.{Rect}
-use Rattle.gfx_live.specs.Live.{Passes}
+use Rattle.gfx_prog_live.specs.Live.{Passes}
 use Rattle.gfx_pdu.specs.declared.pdu.Pdu.{Pdu}
 use Rattle.gfx_script.specs.declared.held.Sides.{Sides}
 use Rattle.gfx_script.specs.declared.picture.Picture.{Picture as Source}

@@ -12,7 +12,7 @@ use Rattle.gfx_base.specs.declared.format.Format.{Format}
 use Rattle.gfx_base.specs.declared.geometry.Rect.{Rect}
 use Rattle.gfx_base.specs.declared.refusal.Refusal.TheVariants as refusal
 use Rattle.gfx_base.proofs.ResultLemmas.{and_then_at, and_then_ok}
-use Rattle.gfx_live_law.proofs.Apart.{all-map}
+use Rattle.gfx_prog_law.proofs.Apart.{all-map}
 use Rattle.gfx_quant.specs.declared.setting.Setting.{Setting}
 use Rattle.gfx_rfx_video.specs.declared.video_tile.VideoTile.{VideoTile}
 use Rattle.gfx_rfx_video.specs.Message.{head_of}
@@ -24,9 +24,9 @@ use Rattle.gfx_state.proofs.VideoSides.{video_shape}
 use Rattle.gfx_state.specs.State.{State}
 use Rattle.gfx_state.specs.Step as message
 use Rattle.gfx_state.specs.Step.{data_painted, video_painted}
-use Rattle.gfx_state.specs.Codecs.{VIDEO, codec_of}
+use Rattle.gfx_pdu.specs.Codecs.{VIDEO, codec_of}
 use Rattle.gfx_state.specs.Sending.{all_steps, IsCarried}
-use Rattle.gfx_state.specs.declared.codec.Codec.TheVariants.{Video}
+use Rattle.gfx_pdu.specs.declared.codec.Codec.TheVariants.{Video}
 use Rattle.gfx_surface.specs.Picture.{Picture, shade}
 use Rattle.gfx_surface_map.specs.Shown.{with_picture}
 use Rattle.gfx_tile_make.specs.Levels.{direct_pixel}

@@ -12,7 +12,7 @@ use Rattle.gfx_clear.specs.declared.layer.Layer.{Layer}
 use Rattle.gfx_clear.specs.Sending.{MaySend as MaySendStream, sent as stream_sent}
 use Rattle.gfx_pdu.specs.declared.pdu.Pdu.{Pdu}
 use Rattle.gfx_pdu.specs.declared.pdu.Pdu.TheVariants.{WireToSurface1}
-use Rattle.gfx_state.specs.Codecs.{CLEARCODEC}
+use Rattle.gfx_pdu.specs.Codecs.{CLEAR_CODEC}
 use Rattle.gfx_planner.specs.declared.clear_paint.ClearPaint.{ClearPaint}
 use Rattle.gfx_script.specs.declared.picture.Picture.{Picture as Source}
 use Rattle.gfx_script.specs.declared.step.Kind.{Kind}
@@ -45,7 +45,7 @@ clear_paint_of thin step kind = None
 -- the message that paints colours in a rectangle of a surface by a layer
 abbrev pub clear_message : State → ℕ → Format → Rect → List Rgb → Layer → Option ℕ → Pdu
 clear_message state id format rect pixels layer glyph =
-    WireToSurface1 id CLEARCODEC (byte_of format) rect (stream_sent state.clear layer glyph (width_of rect) (height_of rect) pixels).bytes
+    WireToSurface1 id CLEAR_CODEC (byte_of format) rect (stream_sent state.clear layer glyph (width_of rect) (height_of rect) pixels).bytes
 
 -- it can be sent: the surface and the picture are there, the picture lies on the surface, and its message fits a
 -- channel message

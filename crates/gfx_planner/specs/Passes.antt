@@ -6,8 +6,8 @@ use Rattle.std.specs.List.{AllByRecursion, slice_get}
 use Rattle.gfx_base.specs.declared.geometry.Point.{Point}
 use Rattle.gfx_base.specs.Cells.{has_pixels}
 use Rattle.gfx_base.specs.Geometry.{IsRect}
-use Rattle.gfx_live.specs.Inside.{AreBy}
-use Rattle.gfx_live.specs.Live.{Passes, ended_in, improved_sends, painted_sends, passes_after, without_surface}
+use Rattle.gfx_prog_live.specs.Inside.{AreBy}
+use Rattle.gfx_prog_live.specs.Live.{Passes, ended_in, improved_sends, painted_sends, passes_after, without_surface}
 use Rattle.gfx_quant.specs.Setting.{is_accepted}
 use Rattle.gfx_script.specs.declared.held.Sides.{Sides}
 use Rattle.gfx_script.specs.declared.picture.Picture.{Picture as Source}

@@ -3,8 +3,8 @@ use Rattle.std.specs.Prelude.{◌≡◌, refl, ℕ, Bool, true, false, List, ◌
 use Rattle.std.specs.List.{AllByRecursion}
 use Rattle.std.specs.Coded.{Coded, code_by, coded×, coded_ℕ, coded_bool}
 use Rattle.gfx_base.specs.declared.answer.NoMemory.{NoMemory}
-use Rattle.gfx_live.specs.Codes.{passes_code}
-use Rattle.gfx_live.specs.Live.{Passes}
+use Rattle.gfx_prog_live.specs.Codes.{passes_code}
+use Rattle.gfx_prog_live.specs.Live.{Passes}
 use Rattle.gfx_pdu.specs.declared.pdu.Pdu.{Pdu}
 use Rattle.gfx_script.specs.Checks.{Held, held_after}
 use Rattle.gfx_script.specs.Kinds.{KindedStep}

@@ -1,8 +1,8 @@
 -- When the live tiles of a server's end agree with its records: this project's own rule.
 use Rattle.std.specs.Prelude.{◌≡◌, ℕ, true, Option, Some, None}
 use Rattle.std.specs.FinMap.{contains_key, get}
-use Rattle.gfx_live.specs.Live.{Live}
-use Rattle.gfx_live_law.specs.Taken.{IsCell, LiveIn}
+use Rattle.gfx_prog_live.specs.Live.{Live}
+use Rattle.gfx_prog_law.specs.Taken.{IsCell, LiveIn}
 use Rattle.gfx_prog_decode.specs.declared.key.Key.{Key}
 use Rattle.gfx_prog_decode.specs.Records.{Records}
 use Rattle.gfx_prog_encode.specs.declared.send.TileSend.{TileSend}

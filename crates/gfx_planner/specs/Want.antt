@@ -22,8 +22,8 @@ use Rattle.gfx_surface.specs.Picture.{Picture, blank, drawn, overlaid}
 use Rattle.gfx_surface_map.specs.Shown.{Shown, nothing_shown, with_picture, copied_to, stamped}
 use Rattle.gfx_surface_map.specs.declared.place.Place.{Place}
 use Rattle.gfx_surface_map.specs.Surfaces.{painted}
-use Rattle.gfx_live.specs.Live.{Passes, at_start, improved_sends, painted_sends}
-use Rattle.gfx_live.specs.Showing.{after_showing}
+use Rattle.gfx_prog_live.specs.Live.{Passes, at_start, improved_sends, painted_sends}
+use Rattle.gfx_prog_live.specs.Showing.{after_showing}
 use Rattle.gfx_script.specs.declared.held.Sides.{Sides}
 use Rattle.gfx_script.specs.declared.picture.Picture.{Picture as Source}
 use Rattle.gfx_script.specs.declared.step.Kind.{Kind}

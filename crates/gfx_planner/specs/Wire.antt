@@ -10,11 +10,13 @@ use Rattle.gfx_base.specs.declared.geometry.Rect.{Rect}
 use Rattle.gfx_base.specs.declared.pixel.Pixel.{Pixel}
 use Rattle.gfx_base.specs.declared.refusal.Refusal.{Refusal}
 use Rattle.gfx_base.specs.Geometry.{width_of, height_of}
+use Rattle.gfx_bitmap_cache.specs.Slots.{Entry}
 use Rattle.gfx_clear.specs.declared.layer.Layer.{Layer}
 use Rattle.gfx_clear.specs.State.{State as ClearState}
 use Rattle.gfx_clear.specs.Sending.{sent as stream_sent}
-use Rattle.gfx_live.specs.Live.{Passes, improve_all, improved_sends, paint_all, painted_sends}
-use Rattle.gfx_live.specs.Live.{at_start as no_passes}
+use Rattle.gfx_import.specs.Started.{in_slots}
+use Rattle.gfx_prog_live.specs.Live.{Passes, improve_all, improved_sends, paint_all, painted_sends}
+use Rattle.gfx_prog_live.specs.Live.{at_start as no_passes}
 use Rattle.gfx_pdu.specs.declared.pdu.Pdu.{Pdu}
 use Rattle.gfx_pdu.specs.declared.pdu.Pdu.TheVariants.{WireToSurface1, WireToSurface2, SolidFill, SurfaceToSurface, SurfaceToCache, CacheToSurface, EvictCacheEntry, CreateSurface, DeleteSurface, StartFrame, EndFrame, ResetGraphics, MapSurfaceToOutput}
 use Rattle.gfx_pdu.specs.declared.pdu.Monitor.{Monitor}
@@ -26,21 +28,22 @@ use Rattle.gfx_script.specs.declared.step.Step.{Step}
 use Rattle.gfx_script.specs.declared.step.Step.TheVariants.{Surface, Delete, Reset, Map, Fill, Copy, Keep, Show, Forget, Paint, Improve, Frame}
 use Rattle.gfx_script.specs.Kinds.{KindedStep}
 use Rattle.gfx_script.specs.Scripted.{Script}
+use Rattle.gfx_script.specs.Starting.{starts_of, stock_with}
 use Rattle.gfx_script.specs.Ways.{goes_by}
 use Rattle.gfx_script.specs.Writes.{place_of}
 use Rattle.gfx_script.specs.declared.way.Way.{Way}
 use Rattle.gfx_script.specs.declared.way.Way.TheVariants as ways
 use Rattle.gfx_slot_plan.specs.declared.kept.Kept.{Kept}
 use Rattle.gfx_slot_plan.specs.Plan.{Plan, plan, keeps, slot_of, touched, forgotten}
-use Rattle.gfx_state.specs.State.{State, started}
+use Rattle.gfx_state.specs.State.{State, started, started_with}
 use Rattle.gfx_state.specs.Sending.{all_steps, IsCarried}
 use Rattle.gfx_rlgr.specs.declared.mode.Mode.{Mode}
 use Rattle.gfx_rlgr.specs.declared.mode.Mode.TheVariants.{Rlgr1, Rlgr3}
 use Rattle.gfx_script.specs.declared.step.Entropy.{Entropy}
 use Rattle.gfx_script.specs.declared.step.Entropy.TheVariants.{One, Three}
-use Rattle.gfx_state.specs.Codecs.{PROGRESSIVE, VIDEO, id_of}
-use Rattle.gfx_state.specs.declared.codec.Codec.{Codec}
-use Rattle.gfx_state.specs.declared.codec.Codec.TheVariants.{Uncompressed, ClearCodec}
+use Rattle.gfx_pdu.specs.Codecs.{PROGRESSIVE, VIDEO, id_of}
+use Rattle.gfx_pdu.specs.declared.codec.Codec.{Codec}
+use Rattle.gfx_pdu.specs.declared.codec.Codec.TheVariants.{Uncompressed, ClearCodec}
 use Rattle.gfx_surface.specs.Picture.{Picture}
 use Rattle.gfx_video_paint.specs.Video.{video_payloads}
 use Rattle.gfx_planner.specs.Passes.{passes_as}
@@ -61,6 +64,10 @@ server_from state kept = record { state = state; plan = kept; passes = no_passes
 -- the same with no bitmap; the small limits on bitmaps bind, or the large ones
 abbrev pub at_start : Bool → Server
 at_start small = server_from (started small) (plan [] small)
+
+-- the same with these bitmaps in slots 1, 2 and so on; the last is the most recently used
+abbrev pub server_with : List Entry → Bool → Server
+server_with entries small = server_from (started_with (in_slots entries) small) (stock_with (starts_of entries) small).plan
 
 -- the one monitor of an output of these sides, which is the primary one
 abbrev pub one_monitor : ℕ → ℕ → Monitor

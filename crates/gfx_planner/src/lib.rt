@@ -6,6 +6,7 @@
 #![tactic(auto)]
 
 mod clear_paint;
+mod importing;
 mod laws;
 mod messages;
 mod paint;

@@ -4,7 +4,7 @@ ghost use Rattle.std.specs.FinMap.{get};
 ghost use Rattle.std.specs.List.{slice_get};
 ghost use Rattle.gfx_base.specs.Format.{byte_of};
 ghost use Rattle.gfx_base.specs.Geometry.{width_of, height_of};
-ghost use Rattle.gfx_live.specs.Live.{at_start};
+ghost use Rattle.gfx_prog_live.specs.Live.{at_start};
 ghost use Rattle.gfx_slot_plan.specs.Plan.{keeps, slot_of, touched, forgotten};
 ghost use Rattle.gfx_script.specs.Script.{IsStep};
 ghost use Rattle.gfx_state.specs.Sending.{IsCarried};
@@ -15,11 +15,10 @@ ghost use Rattle.gfx_planner.specs.Wire.{CanBeSent, made, made_as, one_monitor, 
 
 use crate::paint::raw_payload;
 use gfx_base::{Fault, Format, NoMemory, Pixel, Point, Points, Rect, Rects};
-use gfx_pdu::{Monitor, Monitors, Pdu};
-use gfx_screen::State;
+use gfx_pdu::{Codec, Monitor, Monitors, Pdu};
 use gfx_script::{Kind, Script, Step};
 use gfx_slot_plan::SlotPlan;
-use gfx_state::Codec;
+use gfx_state::State;
 use gfx_surface_map::MOST_OUTPUT_SIDE;
 use std::alloc::Global;
 

@@ -4,7 +4,7 @@ ghost use Rattle.std.specs.FinMap.{get};
 ghost use Rattle.std.specs.List.{AllByRecursion, slice_get};
 ghost use Rattle.gfx_base.specs.Cells.{has_pixels};
 ghost use Rattle.gfx_base.specs.Geometry.{IsRect, sized};
-ghost use Rattle.gfx_live.specs.Inside.{AreBy};
+ghost use Rattle.gfx_prog_live.specs.Inside.{AreBy};
 ghost use Rattle.gfx_quant.specs.Setting.{is_accepted};
 ghost use Rattle.gfx_script.specs.declared.step.Kind.{Kind};
 ghost use Rattle.gfx_script.specs.Ways.{goes_by};
@@ -16,12 +16,12 @@ ghost use Rattle.gfx_planner.specs.Want.{sides_kept};
 ghost use Rattle.gfx_planner.specs.Wire.{CanBeSent, improving, made, made_as, painting_in_passes, passes_message};
 
 use gfx_base::{Bytes, Format, NoMemory, Point, Rect, moved_to};
-use gfx_live::Passes;
 use gfx_pdu::{PROGRESSIVE, Pdu};
 use gfx_prog_encode::CONTEXT;
-use gfx_screen::State;
+use gfx_prog_live::Passes;
 use gfx_script::{Kind, Script, Step};
 use gfx_slot_plan::SlotPlan;
+use gfx_state::State;
 use std::alloc::Global;
 
 /// Whether a step that goes as a kind sends tiles that may be raised: a paint in passes, or an improvement. A client may

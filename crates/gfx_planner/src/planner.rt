@@ -1,16 +1,19 @@
-ghost use Rattle.std.specs.Prelude.{◌≡◌, ◌<◌, ◌+◌, [], ◌∷◌, IfOk, None, false};
+ghost use Rattle.std.specs.Prelude.{◌≡◌, ◌<◌, ◌+◌, [], ◌∷◌, IfOk, OnOk, OnErr, None, true, false};
 ghost use Rattle.std.specs.Option.{is_some};
+ghost use Rattle.gfx_import.specs.Imported.{imported};
 ghost use Rattle.gfx_planner.specs.Agree.{IsAllowedStep, IsInFrame, kinded_at};
 ghost use Rattle.gfx_planner.specs.Planned.{ready, Sends, PutsStep};
-ghost use Rattle.gfx_planner.specs.Wire.{at_start, frame_start, frame_end, after_open, after_close};
+ghost use Rattle.gfx_planner.specs.Wire.{at_start, server_with, frame_start, frame_end, after_open, after_close};
 
+use crate::importing::keep_imported;
 use crate::sender::Sender;
 use crate::step_sending::send_step;
 use gfx_base::{Bytes, NoMemory};
-use gfx_bitmap_cache::Cache;
+use gfx_bitmap_cache::{Cache, MOST_SLOTS};
 use gfx_clear::ClearState;
-use gfx_live::Passes;
+use gfx_import::{Kept, fill_cache};
 use gfx_pdu::Pdu;
+use gfx_prog_live::Passes;
 use gfx_script::{Kind, Script};
 use gfx_slot_plan::SlotPlan;
 use gfx_surface_map::SurfaceMap;
@@ -62,6 +65,30 @@ impl Planner {
             frames: 0,
             spent: false,
         })
+    }
+
+    /// Begins with the bitmaps that are imported of two kept files, before anything is put ([MS-RDPEGFX]
+    /// 3.2.5.13): the client's first keys, each with the server's bitmap, as `gfx_import::imported` says. They
+    /// are in slots 1, 2 and so on, and count as used in that order. Nothing else is copied.
+    pub fn import(&mut self, server: &Kept, client: &Kept) -> Result<(), NoMemory>
+        requires { self.old ≡ ready (at_start self.old.server.plan.small) }
+        ensures ok { OnOk result (self.new ≡ ready (server_with (imported server.now client.now self.old.server.plan.small) self.old.server.plan.small)) }
+        ensures err { OnErr result (self.new.spent ≡ true) }
+    {
+        let small = self.has_small_cache();
+        self.spent = true;
+        let cache = fill_cache(self.alloc, server, client, small)?;
+        self.sender.put_cache(cache);
+        keep_imported(self.alloc, &mut self.plan, server, client, small)?;
+        self.spent = false;
+        Ok(())
+    }
+
+    /// Whether the small limits on bitmaps bind: under the large ones a store takes the last slot of all.
+    fn has_small_cache(&self) -> bool
+        ensures { result ≡ self.now.server.state.cache.small }
+    {
+        !self.cache().takes_slot(MOST_SLOTS)
     }
 
     /// The surfaces that the messages so far give.

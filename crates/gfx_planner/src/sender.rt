@@ -12,11 +12,11 @@ ghost use Rattle.gfx_planner.specs.Planned.{MaySend, SendsMessages};
 ghost use Rattle.gfx_planner.specs.ClearPaints.{clear_message};
 
 use gfx_base::{Bytes, Fault, NoMemory, Rect, Rgb};
+use gfx_bitmap_cache::Cache;
 use gfx_clear::Layer;
-use gfx_pdu::{Pdu, write_pdu};
-use gfx_screen::State;
+use gfx_pdu::{Codec, Pdu, write_pdu};
 use gfx_segment::wrap;
-use gfx_state::Codec;
+use gfx_state::State;
 use std::alloc::Global;
 use std::marker::Model;
 
@@ -57,6 +57,13 @@ impl Sender {
         ensures { result.now ≡ self.now }
     {
         &self.state
+    }
+
+    /// The bitmaps that a session begins with take the place of those that were held.
+    pub fn put_cache(&mut self, cache: Cache)
+        ensures { self.new ≡ record self.old { cache = cache } }
+    {
+        self.state.put_cache(cache);
     }
 
     /// Puts out messages, one after another, each in a channel message of its own, and applies them.

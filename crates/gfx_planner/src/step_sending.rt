@@ -3,7 +3,7 @@
 ghost use Rattle.std.specs.Prelude.{◌≡◌, ◌∷◌, [], IfSome, OnOk, false, true};
 ghost use Rattle.std.specs.FinMap.{get};
 ghost use Rattle.std.specs.List.{slice_get};
-ghost use Rattle.gfx_live.specs.Live.{at_start};
+ghost use Rattle.gfx_prog_live.specs.Live.{at_start};
 ghost use Rattle.gfx_script.specs.Script.{IsStep};
 ghost use Rattle.gfx_planner.specs.ClearPaints.{MayPaintClear, clear_paint_of};
 ghost use Rattle.gfx_planner.specs.Passes.{FitsAt, MayGoAsTiles, is_video_paint, sends_tiles, passes_as};
@@ -19,7 +19,7 @@ use crate::passes::{end_touched, passes_messages, sends_tiles};
 use crate::sender::Sender;
 use crate::video::{is_video_paint, video_paint_messages};
 use gfx_base::{Bytes, NoMemory, Rect, moved_to};
-use gfx_live::Passes;
+use gfx_prog_live::Passes;
 use gfx_script::{Kind, Script, Step};
 use gfx_slot_plan::SlotPlan;
 use std::alloc::Global;

@@ -15,13 +15,12 @@ ghost use Rattle.gfx_planner.specs.Wire.{CanBeSent, made, made_as, mode_of, pain
 
 use crate::passes::end_painted;
 use gfx_base::{Bytes, Format, NoMemory, Point, Rect, moved_to};
-use gfx_live::Passes;
-use gfx_pdu::Pdu;
+use gfx_pdu::{Codec, Pdu};
+use gfx_prog_live::Passes;
 use gfx_rlgr::Mode;
-use gfx_screen::State;
 use gfx_script::{Entropy, Kind, Script, Step};
 use gfx_slot_plan::SlotPlan;
-use gfx_state::Codec;
+use gfx_state::State;
 use gfx_video_paint::video_messages;
 use std::alloc::Global;
 

@@ -1,5 +1,5 @@
 use Rattle.gfx_base.specs.Geometry.{width_of, height_of}
-use Rattle.gfx_live.specs.Live.{at_start}
+use Rattle.gfx_prog_live.specs.Live.{at_start}
 use Rattle.gfx_slot_plan.specs.Plan.{keeps, slot_of}
 use Rattle.gfx_planner.specs.Wire.{made_as}
 use Rattle.gfx_planner.proofs.StepMessages.{is_chosen, is_shown_from, is_emptied, raw_made, raw_made_is}

@@ -1,6 +1,6 @@
 use Rattle.std.proofs.Common.{◌≡◌, ◌∙◌, Some, ap, sym, subst}
 use Rattle.std.specs.Prelude.{IfSome}
-use Rattle.gfx_live.specs.Live.{at_start}
+use Rattle.gfx_prog_live.specs.Live.{at_start}
 use Rattle.gfx_planner.specs.ClearPaints.{MayPaintClear, clear_paint_of}
 use Rattle.gfx_planner.proofs.ClearPaintLemmas.{made_sent}
 use Rattle.gfx_planner.proofs.step_sending.send_apart.Goals as goal

@@ -6,7 +6,7 @@ use Rattle.gfx_base.specs.declared.geometry.Point.{Point}
 use Rattle.gfx_base.specs.declared.pixel.Pixel.{Pixel}
 use Rattle.gfx_base.specs.Cells.{cell}
 use Rattle.gfx_base.specs.Geometry.{holds}
-use Rattle.gfx_live.specs.Tiles.{cell_pixels, nearest}
+use Rattle.gfx_prog_live.specs.Tiles.{cell_pixels, nearest}
 use Rattle.gfx_script.specs.declared.picture.Picture.{Picture as Source}
 use Rattle.gfx_script.specs.Patterns.{pixel_of}
 use Rattle.gfx_script.specs.Writes.{place_of}

@@ -6,12 +6,12 @@ use Rattle.gfx_base.specs.declared.geometry.Point.{Point}
 use Rattle.gfx_base.specs.declared.pixel.Pixel.{Pixel}
 use Rattle.gfx_base.specs.Cells.{cell}
 use Rattle.gfx_base.specs.Geometry.{holds}
-use Rattle.gfx_live.specs.Cells.{cell_key}
-use Rattle.gfx_live.specs.Live.{Live, painted_sends, send_of}
-use Rattle.gfx_live.specs.Showing.{after_showing}
-use Rattle.gfx_live.specs.Tiles.{cell_pixels, gone_on}
-use Rattle.gfx_live_law.proofs.Going.{gone-by}
-use Rattle.gfx_live_law.proofs.Seen.{SameShape, painted-pixel, passes-wrote, showing-shape}
+use Rattle.gfx_prog_live.specs.Cells.{cell_key}
+use Rattle.gfx_prog_live.specs.Live.{Live, painted_sends, send_of}
+use Rattle.gfx_prog_live.specs.Showing.{after_showing}
+use Rattle.gfx_prog_live.specs.Tiles.{cell_pixels, gone_on}
+use Rattle.gfx_prog_law.proofs.Going.{gone-by}
+use Rattle.gfx_prog_law.proofs.Seen.{SameShape, painted-pixel, passes-wrote, showing-shape}
 use Rattle.gfx_prog_encode.specs.declared.send.TileSend.{TileSend}
 use Rattle.gfx_quant.specs.declared.quant.Component.{Component}
 use Rattle.gfx_quant.specs.declared.quant.Component.TheVariants.{Y, Cb, Cr}

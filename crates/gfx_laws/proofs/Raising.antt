@@ -9,15 +9,15 @@ use Rattle.std.proofs.lemmas.Bool.Decides.{nat_tests}
 use Rattle.gfx_base.specs.declared.geometry.Cell.{Cell}
 use Rattle.gfx_base.specs.Cells.{cell, cells_met}
 use Rattle.gfx_base.specs.Geometry.{holds, sized}
-use Rattle.gfx_live.specs.Cells.{cell_key}
-use Rattle.gfx_live.specs.Live.{Live, after_sends, improved_sends, raised, with_live}
-use Rattle.gfx_live.specs.Showing.{after_showing}
-use Rattle.gfx_live_law.specs.Taken.{LiveIn}
-use Rattle.gfx_live_law.proofs.Apart.{CellsApart, DifferBy, Met, all-any, all-kept, all-more, all-with, at-cell, cells-apart}
-use Rattle.gfx_live_law.proofs.Improving.{IsRaised, own-cell, raised-from}
-use Rattle.gfx_live_law.proofs.Kept.{live-elsewhere}
-use Rattle.gfx_live_law.proofs.Seen.{showing-outside}
-use Rattle.gfx_live_law.proofs.Sends.{begins-column, begins-row}
+use Rattle.gfx_prog_live.specs.Cells.{cell_key}
+use Rattle.gfx_prog_live.specs.Live.{Live, after_sends, improved_sends, raised, with_live}
+use Rattle.gfx_prog_live.specs.Showing.{after_showing}
+use Rattle.gfx_prog_law.specs.Taken.{LiveIn}
+use Rattle.gfx_prog_law.proofs.Apart.{CellsApart, DifferBy, Met, all-any, all-kept, all-more, all-with, at-cell, cells-apart}
+use Rattle.gfx_prog_law.proofs.Improving.{IsRaised, own-cell, raised-from}
+use Rattle.gfx_prog_law.proofs.Kept.{live-elsewhere}
+use Rattle.gfx_prog_law.proofs.Seen.{showing-outside}
+use Rattle.gfx_prog_law.proofs.Sends.{begins-column, begins-row}
 use Rattle.gfx_prog_decode.specs.declared.key.Key.{Key}
 use Rattle.gfx_prog_decode.specs.Records.{Records, key_cmp}
 use Rattle.gfx_prog_decode.proofs.Keys.{itself, key_total, tied}

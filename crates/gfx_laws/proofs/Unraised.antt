@@ -6,9 +6,9 @@ use Rattle.std.specs.Option.{option_and_then}
 use Rattle.gfx_base.specs.declared.geometry.Cell.{Cell}
 use Rattle.gfx_base.specs.Cells.{cells_met}
 use Rattle.gfx_base.specs.Geometry.{sized}
-use Rattle.gfx_live.specs.Cells.{cell_key}
-use Rattle.gfx_live.specs.Live.{Live, Passes, improved_sends, passes_after, raised, without_surface}
-use Rattle.gfx_live_law.proofs.Kept.{retained-live}
+use Rattle.gfx_prog_live.specs.Cells.{cell_key}
+use Rattle.gfx_prog_live.specs.Live.{Live, Passes, improved_sends, passes_after, raised, without_surface}
+use Rattle.gfx_prog_law.proofs.Kept.{retained-live}
 use Rattle.gfx_prog_decode.specs.Records.{key_cmp}
 use Rattle.gfx_prog_encode.specs.declared.send.TileSend.{TileSend}
 use Rattle.gfx_script.specs.declared.held.Sides.{Sides}

@@ -8,7 +8,7 @@ use Rattle.gfx_base.specs.declared.geometry.Point.{Point}
 use Rattle.gfx_base.specs.declared.pixel.Pixel.{Pixel}
 use Rattle.gfx_base.specs.Cells.{cell}
 use Rattle.gfx_base.specs.Geometry.{holds}
-use Rattle.gfx_live.specs.Tiles.{cell_pixels, nearest}
+use Rattle.gfx_prog_live.specs.Tiles.{cell_pixels, nearest}
 use Rattle.gfx_quant.specs.declared.setting.Setting.{Setting}
 use Rattle.gfx_rfx_video.specs.Showing.{drawn_where}
 use Rattle.gfx_script.specs.declared.picture.Picture.{Picture as Source}

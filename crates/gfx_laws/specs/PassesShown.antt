@@ -6,7 +6,7 @@ use Rattle.gfx_base.specs.declared.geometry.Point.{Point}
 use Rattle.gfx_base.specs.declared.pixel.Pixel.{Pixel}
 use Rattle.gfx_base.specs.Cells.{cell}
 use Rattle.gfx_base.specs.Geometry.{holds}
-use Rattle.gfx_live.specs.Cells.{cell_key}
+use Rattle.gfx_prog_live.specs.Cells.{cell_key}
 use Rattle.gfx_prog_encode.specs.declared.send.TileSend.{TileSend}
 use Rattle.gfx_quant.specs.declared.quant.Component.{Component}
 use Rattle.gfx_quant.specs.declared.setting.Setting.{Setting}

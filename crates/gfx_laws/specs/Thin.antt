@@ -1,7 +1,7 @@
 -- To a thin client nothing goes in passes: this project's own promise.
 use Rattle.std.specs.Prelude.{◌≡◌, ℕ, true, List, [], None}
 use Rattle.std.specs.FinMap.{get}
-use Rattle.gfx_live.specs.Live.{Live, improved_sends}
+use Rattle.gfx_prog_live.specs.Live.{Live, improved_sends}
 use Rattle.gfx_prog_decode.specs.declared.key.Key.{Key}
 use Rattle.gfx_script.specs.Kinds.{KindedStep}
 use Rattle.gfx_script.specs.Scripted.{Script}

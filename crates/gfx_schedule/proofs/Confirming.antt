@@ -11,10 +11,10 @@ use Rattle.gfx_bitmap_cache.specs.Slots.{cached}
 use Rattle.gfx_layout.specs.Shape.{digits, u32}
 use Rattle.gfx_caps.specs.declared.choice.Chosen.{Chosen}
 use Rattle.gfx_caps.specs.declared.offer.Offer.{Offer}
-use Rattle.gfx_caps.specs.declared.versions.TheConstants.{VERSION_8, VERSION_8_1, VERSION_10, FLAGS_SIZE, THIN_CLIENT, SMALL_CACHE, AVC_DISABLED}
+use Rattle.gfx_caps.specs.declared.versions.TheConstants.{VERSION_8, VERSION_8_1, VERSION_10, FLAGS_SIZE}
 use Rattle.gfx_caps.specs.Choice.{allows, binds_small, choice, confirmed}
 use Rattle.gfx_caps.specs.Offers.{set_offered, is_small, offer_of, offers_version, IsOffer, advertised}
-use Rattle.gfx_caps.proofs.OfferLaws.{body_from, found}
+use Rattle.gfx_caps.proofs.OfferLaws.{found, kept_from}
 use Rattle.gfx_pdu.specs.declared.pdu.Pdu.TheVariants.{CapsConfirm}
 use Rattle.gfx_pdu.specs.Spelling.{size}
 use Rattle.gfx_pdu.proofs.Laws.{length-spelling}
@@ -40,11 +40,7 @@ pub record IsChosen (chosen : Chosen) : Type 0 where
   pub word : length (digits u32 chosen.flags) ≡ FLAGS_SIZE
   pub flags : number_at w32 (digits u32 chosen.flags) 0 ≡ chosen.flags
 
--- the flags that are kept of an offer that is small or not, thin or not, and of version 10 or not
-abbrev kept_from : Bool → Bool → Bool → Bool → ℕ
-kept_from small thin ten keeps =
-    bit_and (number_at w32 (body_from small thin ten) 0) (if keeps then SMALL_CACHE + AVC_DISABLED else SMALL_CACHE + THIN_CLIENT)
-
+-- the flags that are kept of an offer are one word
 word_of : (small thin ten keeps : Bool) → (length (digits u32 (kept_from small thin ten keeps)) ≡ FLAGS_SIZE) × (number_at w32 (digits u32 (kept_from small thin ten keeps)) 0 ≡ kept_from small thin ten keeps)
 word_of true true true true = (refl, refl)
 word_of true true true false = (refl, refl)
@@ -139,7 +135,7 @@ confirm_carried chosen good =
     }
 
 -- the client's state behind it: only the limits may be others
-abbrev limited : State → Bool → State
+abbrev pub limited : State → Bool → State
 limited client small = record client { cache = cached client.cache.slots small }
 
 both_hold : (a b : Bool) → a ≡ true → b ≡ true → (a && b) ≡ true
@@ -160,7 +156,8 @@ pub record Confirms (script : Script) : Type 0 where
   pub is : choice (map set_offered script.offers) ≡ Ok chosen
   pub allowed : (binds_small chosen.flags && not script.small) ≡ false
   pub carried : IsCarried (confirm chosen)
-  pub extends : (client : State) → Wider (started script.small) client → Extends Wider client (started script.small) (confirm chosen ∷ []) (λ last. [])
+  pub good : IsChosen chosen
+  pub small : binds_small chosen.flags ≡ script.small
 
 never_both : (a b : Bool) → a ≡ b → (a && not b) ≡ false
 never_both true true e = refl
@@ -176,15 +173,20 @@ confirms script held good =
       is = some.is;
       allowed = never_both (binds_small some.chosen.flags) script.small small;
       carried = confirm_carried some.chosen some.good;
-      extends = λ client wider.
-          let stepped = step_confirm client some.chosen some.good in
-          let accepted = all_steps-one client (limited client (binds_small some.chosen.flags)) (confirm some.chosen) stepped in
-          record {
-            last = limited client (binds_small some.chosen.flags);
-            accepted = accepted;
-            related = record { shown = wider.shown; slots = wider.slots; clear = wider.clear; records = wider.records; frame = wider.frame; decoded = wider.decoded; only_small = λ e. sym small ∙ e };
-            frames = frames_inside client (limited client (binds_small some.chosen.flags)) (confirm some.chosen ∷ []) (refl, tt) accepted;
-          };
+      good = some.good;
+      small = small;
+    }
+
+-- the confirmation at a client, which stays in a relation to the server's state that its new limits keep
+pub confirm_extends : (R : State → State → Type 0) (script : Script) (c : Confirms script) (server client : State) → R server (limited client script.small) → Extends R client server (confirm c.chosen ∷ []) (λ last. [])
+confirm_extends R script c server client related =
+    let stepped : step client (confirm c.chosen) ≡ Ok (limited client script.small) = step_confirm client c.chosen c.good ∙ ap (λ b. Ok (limited client b)) c.small in
+    let accepted = all_steps-one client (limited client script.small) (confirm c.chosen) stepped in
+    record {
+      last = limited client script.small;
+      accepted = accepted;
+      related = related;
+      frames = frames_inside client (limited client script.small) (confirm c.chosen ∷ []) (refl, tt) accepted;
     }
 
 -- the server's end behind the offers

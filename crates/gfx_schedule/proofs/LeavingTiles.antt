@@ -10,7 +10,7 @@ use Rattle.gfx_base.specs.declared.geometry.Cell.{Cell}
 use Rattle.gfx_base.specs.declared.geometry.Rect.{Rect}
 use Rattle.gfx_base.specs.declared.geometry.TheConstants.{CELL_SIDE}
 use Rattle.gfx_base.specs.Cells.{cell, meets}
-use Rattle.gfx_live.specs.Live.{Live, Passes, ended_in}
+use Rattle.gfx_prog_live.specs.Live.{Live, Passes, ended_in}
 use Rattle.gfx_planner.specs.Passes.{ended_by}
 use Rattle.gfx_prog_decode.specs.Records.{key_cmp}
 use Rattle.gfx_prog_decode.specs.declared.key.Key.{Key}

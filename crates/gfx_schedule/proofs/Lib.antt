@@ -15,3 +15,4 @@ pub mod Confirming
 pub mod Turns
 pub mod Rounds
 pub mod Unseen
+pub mod Importing

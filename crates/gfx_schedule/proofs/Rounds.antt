@@ -15,7 +15,7 @@ use Rattle.gfx_segment.specs.Framing.{Whole, front, ReadBack}
 use Rattle.gfx_segment.proofs.ReadBackLemmas.{read_back}
 use Rattle.gfx_state.specs.History.{effects, spelled}
 use Rattle.gfx_state.specs.Run.{Run, run_from}
-use Rattle.gfx_state.specs.Same.{Wider}
+use Rattle.gfx_state.specs.Alike.{Alike}
 use Rattle.gfx_state.specs.Sending.{sent, IsCarried}
 use Rattle.gfx_state.specs.State.{State}
 use Rattle.gfx_state.proofs.Effects.{nothing}
@@ -24,14 +24,14 @@ use Rattle.gfx_window.specs.Window.{has_room}
 use Rattle.gfx_schedule.specs.Frames.{frames_of}
 use Rattle.gfx_schedule.specs.Hearing.{Heard, listening, hears}
 use Rattle.gfx_schedule.specs.Schedule.{rounds_for, RoundsEnd}
-use Rattle.gfx_schedule.specs.Starts.{Start, from_nothing}
+use Rattle.gfx_schedule.specs.Starts.{Start}
 use Rattle.gfx_schedule.specs.ServerEnd.{ServerEnd, is_none, behind_frame, queued, can_send, serves, with_sent}
 use Rattle.gfx_schedule.specs.Words.{said}
-use Rattle.gfx_schedule.specs.World.{World, server_turns, client_takes, server_heard, happens, world, round, drained, is_ended}
+use Rattle.gfx_schedule.specs.World.{World, server_turns, client_takes, server_heard, happens, world_from, round, drained, is_ended}
 use Rattle.gfx_schedule.proofs.Confirming.{confirms, tell_offers}
 use Rattle.gfx_schedule.proofs.Flights.{Flight, pair_of, Downward}
 use Rattle.gfx_schedule.proofs.Keeping.{word_of}
-use Rattle.gfx_schedule.proofs.Turns.{Phase, Greeting, Going, Upward, Keeps, takes, serving, hearing, frames_heard, Offered, NotYet, Now, offers_heard, sends_yes, sends_no, Begins, begins, keeps_from}
+use Rattle.gfx_schedule.proofs.Turns.{Phase, Greeting, Going, Upward, Keeps, takes, serving, hearing, frames_heard, Offered, NotYet, Now, offers_heard, sends_yes, sends_no, Begins, begins_alike, keeps_from}
 
 -- no bytes in flight ---------------------------------------------------------------------------------------------
 
@@ -318,7 +318,9 @@ ends R start script kinded most w good fits keeps few =
     ]
 
 pub rounds_end : RoundsEnd
-rounds_end script kinded turns good fits =
-    let keeps = keeps_from Wider (from_nothing script) script kinded turns (begins script good) fits in
+rounds_end start script kinded turns may =
+    let good = begins_alike start script kinded may in
+    let keeps = keeps_from Alike start script kinded turns good may.fits in
+    let w : World = world_from start script kinded turns in
     let count : rounds_for script ≡ suc (suc (length script.steps + 2)) = omega arith in
-    ap (λ n. is_ended (drained script n (world script kinded turns))) count ∙ ends Wider (from_nothing script) script kinded (length script.steps + 2) (world script kinded turns) (begins script good) fits keeps (omega arith)
+    ap (λ n. is_ended (drained script n w)) count ∙ ends Alike start script kinded (length script.steps + 2) w good may.fits keeps (omega arith)

@@ -23,18 +23,20 @@ use Rattle.gfx_state.specs.History.{history, history_from, ended}
 use Rattle.gfx_state.specs.Run.{Run, begun_from, run_from, eats}
 use Rattle.gfx_state.specs.Same.{StepsAlike, Wider}
 use Rattle.gfx_state.specs.Sending.{all_steps, sent}
-use Rattle.gfx_state.specs.State.{State, started}
+use Rattle.gfx_state.specs.Alike.{Alike}
+use Rattle.gfx_state.specs.State.{State, fresh, started}
 use Rattle.gfx_state.proofs.Effects.{history-nil, history-append, nothing}
 use Rattle.gfx_state.proofs.Runs.{eats-append, eats-nil}
 use Rattle.gfx_state.proofs.Sent.{sent-nil}
 use Rattle.gfx_state.proofs.Wider.{Wider_same, started_fresh, wider_alike}
+use Rattle.gfx_alike.proofs.Steps.{alike_steps, wider_is_alike}
 use Rattle.gfx_planner.specs.Joined.{frame_of, after_frame}
-use Rattle.gfx_live.specs.Live.{Passes}
+use Rattle.gfx_prog_live.specs.Live.{Passes}
 use Rattle.gfx_prog_decode.specs.Records.{Records}
 use Rattle.gfx_planner.specs.Agree.{Agree, Holds}
 use Rattle.gfx_planner.specs.Tiles.{HoldsLive}
 use Rattle.gfx_planner.specs.Want.{want_from}
-use Rattle.gfx_planner.specs.Wire.{Server as Planned}
+use Rattle.gfx_planner.specs.Wire.{Server as Planned, at_start}
 use Rattle.gfx_planner.proofs.Effects.{all_steps-none}
 use Rattle.gfx_planner.proofs.Lists.{all_both, all_front, all_behind}
 use Rattle.gfx_planner.proofs.Streams.{stands_at_start}
@@ -45,12 +47,12 @@ use Rattle.gfx_schedule.specs.Frames.{frames_of}
 use Rattle.gfx_schedule.specs.Hearing.{Heard, listening, confirm, hears}
 use Rattle.gfx_schedule.specs.Plan.{InPlanFrom}
 use Rattle.gfx_schedule.specs.Rising.{AreRising}
-use Rattle.gfx_schedule.specs.Schedule.{ShowsWanted, wanted_at, IsShownFrom, KeepsWorldFrom, EverySchedule, EveryScheduleFrom}
-use Rattle.gfx_schedule.specs.Starts.{MayStart, Start, from_nothing}
+use Rattle.gfx_schedule.specs.Schedule.{ShowsWanted, wanted_at, IsShownFrom, IsAlikeFrom, KeepsWorldBy, KeepsWorldFrom, KeepsAlikeFrom, EverySchedule, EveryScheduleFrom, EveryScheduleAlike}
+use Rattle.gfx_schedule.specs.Starts.{MayBegin, MayStart, Start, from_nothing}
 use Rattle.gfx_schedule.specs.ServerEnd.{ServerEnd, server_end_from, is_none, queued, can_send, due, sends, bytes_sent, with_sent, first_frame}
 use Rattle.gfx_schedule.specs.Words.{said, IsWord, holding, tell, tells, TakesAll, IsListening}
 use Rattle.gfx_schedule.specs.World.{World, Acknowledged, acknowledgements, greeting, begin_from, server_turns, client_takes, server_heard, happens, world_from}
-use Rattle.gfx_schedule.proofs.Confirming.{Confirms, confirms, tell_offers, version_fits}
+use Rattle.gfx_schedule.proofs.Confirming.{Confirms, confirm_extends, confirms, tell_offers, version_fits}
 use Rattle.gfx_schedule.proofs.Flights.{frames_of-append, end_states-frames, Flight, pair_of, Downward, draws, follows, Extends}
 use Rattle.gfx_schedule.proofs.Items.{length-numbered}
 use Rattle.gfx_schedule.proofs.Keeping.{word_in, replies_said, said-append, word_of, words_of, FitsWord, words_carried, having, HasFlying, tells_all, takes_all}
@@ -135,17 +137,28 @@ shown_wider start script kinded (ack ∷ acks) all =
       shown_wider start script kinded acks all.1,
     )
 
-pub promised : (start : Start) (script : Script) (kinded : List KindedStep) (w : World) → Keeps Wider start script kinded w → KeepsWorldFrom start script kinded w
-promised start script kinded w keeps = record {
+shown_alike : (start : Start) (script : Script) (kinded : List KindedStep) (acks : List Acknowledged) → AllByRecursion (IsSeen Alike start script kinded) acks → AllByRecursion (IsAlikeFrom start script kinded) acks
+shown_alike start script kinded [] all = tt
+shown_alike start script kinded (ack ∷ acks) all = (record { alike = all.0.related; server = all.0.shows }, shown_alike start script kinded acks all.1)
+
+-- whatever is said of the acknowledged frames
+promised_by : (R : State → State → Type 0) (IsSo : Acknowledged → Type 0) (start : Start) (script : Script) (kinded : List KindedStep) (w : World) → AllByRecursion IsSo w.acks → Keeps R start script kinded w → KeepsWorldBy IsSo start script w
+promised_by R IsSo start script kinded w shown keeps = record {
   started = keeps.started;
   client_goes_on = keeps.downward.inside.goes_on;
   server_goes_on = keeps.upward.goes_on;
   behind = map pair_of keeps.drawn;
   there = keeps.there;
-  shown = shown_wider start script kinded w.acks keeps.acks;
+  shown = shown;
   window = keeps.window;
   rising = rises_first 0 (map (λ (a : Acknowledged). a.step) w.acks) _ keeps.rising;
 }
+
+pub promised : (start : Start) (script : Script) (kinded : List KindedStep) (w : World) → Keeps Wider start script kinded w → KeepsWorldFrom start script kinded w
+promised start script kinded w keeps = promised_by Wider (IsShownFrom start script kinded) start script kinded w (shown_wider start script kinded w.acks keeps.acks) keeps
+
+pub promised_alike : (start : Start) (script : Script) (kinded : List KindedStep) (w : World) → Keeps Alike start script kinded w → KeepsAlikeFrom start script kinded w
+promised_alike start script kinded w keeps = promised_by Alike (IsAlikeFrom start script kinded) start script kinded w (shown_alike start script kinded w.acks keeps.acks) keeps
 
 -- the client takes bytes -----------------------------------------------------------------------------------------
 
@@ -685,9 +698,37 @@ begins_wider start script good may wider = record {
   may = may;
   alike = wider_alike;
   related = wider;
-  greets = λ unconfirmed c client w.
-      let at : start.server.state ≡ started script.small = ap (λ z. z.state) (may.greets unconfirmed) in
-      subst (λ z. Extends Wider client z (confirm c.chosen ∷ []) (λ last. [])) (sym at) (c.extends client (subst (λ z. Wider z client) at w));
+  greets = λ unconfirmed c client w. confirm_extends Wider script c start.server.state client record {
+    shown = w.shown;
+    slots = w.slots;
+    clear = w.clear;
+    records = w.records;
+    frame = w.frame;
+    decoded = w.decoded;
+    only_small = λ small. ap (λ z. z.state.cache.small) (may.greets unconfirmed) ∙ small;
+  };
+}
+
+-- and so is that of states that are alike
+pub begins_alike : (start : Start) (script : Script) (kinded : List KindedStep) → MayBegin start script kinded → Begins Alike start script
+begins_alike start script kinded may = record {
+  good = may.accepted;
+  may = may.may;
+  alike = alike_steps;
+  related = may.alike;
+  greets = λ unconfirmed c client a. confirm_extends Alike script c start.server.state client record {
+    surfaces = a.surfaces;
+    output = a.output;
+    maps = a.maps;
+    slots = a.slots;
+    rings = a.rings;
+    glyphs = a.glyphs;
+    expected = a.expected;
+    records = a.records;
+    frame = a.frame;
+    decoded = a.decoded;
+    only_small = λ small. ap (λ z. z.state.cache.small) (may.may.greets unconfirmed) ∙ small;
+  };
 }
 
 pub every_schedule_from : EveryScheduleFrom
@@ -709,3 +750,11 @@ begins script good = begins_wider (from_nothing script) script good (may_start s
 
 pub every_schedule : EverySchedule
 every_schedule script kinded turns good fits = every_schedule_from (from_nothing script) script kinded turns good fits (may_start script good) (started_fresh script.small)
+
+-- a session may begin so
+pub may_begin : (script : Script) (kinded : List KindedStep) → IsAccepted script → Fits kinded script.steps → MayBegin (from_nothing script) script kinded
+may_begin script kinded good fits = record { accepted = good; fits = fits; may = may_start script good; alike = wider_is_alike (at_start script.small).state fresh (started_fresh script.small) }
+
+pub every_schedule_alike : EveryScheduleAlike
+every_schedule_alike start script kinded turns may =
+    promised_alike start script kinded (world_from start script kinded turns) (keeps_from Alike start script kinded turns (begins_alike start script kinded may) may.fits)

@@ -22,7 +22,8 @@ use Rattle.gfx_window.specs.Window.{Window, with_pending, acknowledged}
 use Rattle.gfx_window.specs.declared.window.AckUnknown.{AckUnknown}
 use Rattle.gfx_schedule.specs.Hearing.{Heard, listening, stop, confirm, confirms, acknowledges, told, judge, hear, hears}
 use Rattle.gfx_schedule.specs.ServerEnd.{ServerEnd, Refused, first_frame, behind_frame, numbered, queued, can_send, due, with_sent, sends, bytes_sent, serves}
-use Rattle.gfx_schedule.specs.World.{World, begin, server_turns, client_takes, server_heard, happens, world}
+use Rattle.gfx_schedule.specs.Starts.{Start}
+use Rattle.gfx_schedule.specs.World.{World, begin_from, server_turns, client_takes, server_heard, happens, world_from}
 use Rattle.gfx_schedule.proofs.Items.{frame_parts}
 
 -- the same world, with other steps left
@@ -188,16 +189,16 @@ all_behind : (script : Script) (kinded : List KindedStep) (w : World) (turns : L
 all_behind script kinded w [] behind = behind
 all_behind script kinded w (turn ∷ turns) behind = all_behind script kinded (happens script w turn) turns (turn_behind script kinded w turn behind)
 
-start_behind : (script : Script) (kinded : List KindedStep) → Behind kinded (begin script kinded)
-start_behind script kinded = record { left = refl; within = omega arith }
+start_behind : (start : Start) (script : Script) (kinded : List KindedStep) → Behind kinded (begin_from start script kinded)
+start_behind start script kinded = record { left = refl; within = omega arith }
 
 -- what is left is what stands behind what was queued
-pub left_behind : (script : Script) (kinded : List KindedStep) (turns : List Turn) → (world script kinded turns).server.left ≡ drop (world script kinded turns).server.last kinded
-left_behind script kinded turns = (all_behind script kinded (begin script kinded) turns (start_behind script kinded)).left
+pub left_behind : (start : Start) (script : Script) (kinded : List KindedStep) (turns : List Turn) → (world_from start script kinded turns).server.left ≡ drop (world_from start script kinded turns).server.last kinded
+left_behind start script kinded turns = (all_behind script kinded (begin_from start script kinded) turns (start_behind start script kinded)).left
 
 -- no more were queued than there are
-pub last_within_all : (script : Script) (kinded : List KindedStep) (turns : List Turn) → (world script kinded turns).server.last ≤ length kinded
-last_within_all script kinded turns = (all_behind script kinded (begin script kinded) turns (start_behind script kinded)).within
+pub last_within_all : (start : Start) (script : Script) (kinded : List KindedStep) (turns : List Turn) → (world_from start script kinded turns).server.last ≤ length kinded
+last_within_all start script kinded turns = (all_behind script kinded (begin_from start script kinded) turns (start_behind start script kinded)).within
 
 -- what was queued stays queued ----------------------------------------------------------------------------------
 
@@ -274,8 +275,8 @@ all_unseen script kinded other w (turn ∷ turns) same behind agree =
     ap (λ z. fold (happens script) z turns) (turn_unseen script kinded other w turn same behind now) ∙ all_unseen script kinded other next turns same (turn_behind script kinded w turn behind) agree
 
 -- steps that are the same, and go as the same kinds as far as they were queued, make the same session
-pub unseen : (script : Script) (kinded other : List KindedStep) (turns : List Turn)
+pub unseen : (start : Start) (script : Script) (kinded other : List KindedStep) (turns : List Turn)
     → map (λ (one : KindedStep). one.step) other ≡ map (λ (one : KindedStep). one.step) kinded
-    → take (world script kinded turns).server.last other ≡ take (world script kinded turns).server.last kinded
-    → world script other turns ≡ with_left (drop (world script kinded turns).server.last other) (world script kinded turns)
-unseen script kinded other turns same agree = all_unseen script kinded other (begin script kinded) turns same (start_behind script kinded) agree
+    → take (world_from start script kinded turns).server.last other ≡ take (world_from start script kinded turns).server.last kinded
+    → world_from start script other turns ≡ with_left (drop (world_from start script kinded turns).server.last other) (world_from start script kinded turns)
+unseen start script kinded other turns same agree = all_unseen script kinded other (begin_from start script kinded) turns same (start_behind start script kinded) agree

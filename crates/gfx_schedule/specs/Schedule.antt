@@ -2,19 +2,22 @@
 -- project's own promise.
 use Rattle.std.specs.Prelude.{◌≡◌, ◌≤◌, ℕ, List, ◌++◌, ◌+◌, true, length, map, take, None}
 use Rattle.std.specs.List.{AllByRecursion}
+use Rattle.gfx_bitmap_cache.specs.Slots.{Entry}
+use Rattle.gfx_import.specs.Agreed.{agree}
 use Rattle.gfx_planner.specs.Tiles.{HoldsLive}
 use Rattle.gfx_planner.specs.Want.{Wanted, want_from}
 use Rattle.gfx_script.specs.Kinds.{KindedStep, Fits}
 use Rattle.gfx_script.specs.Script.{IsAccepted, IsAcceptedFrom}
 use Rattle.gfx_script.specs.Scripted.{Script}
 use Rattle.gfx_script.specs.declared.turn.Turn.{Turn}
+use Rattle.gfx_state.specs.Alike.{Alike}
 use Rattle.gfx_state.specs.History.{history_from}
 use Rattle.gfx_state.specs.Run.{run_from}
 use Rattle.gfx_state.specs.Same.{Same, Wider}
 use Rattle.gfx_state.specs.State.{State}
 use Rattle.gfx_schedule.specs.Frames.{frames_of}
 use Rattle.gfx_schedule.specs.Rising.{AreRising}
-use Rattle.gfx_schedule.specs.Starts.{MayStart, Start, from_nothing}
+use Rattle.gfx_schedule.specs.Starts.{MayStart, MayBegin, MayImport, Start, from_nothing, from_kept}
 use Rattle.gfx_schedule.specs.World.{World, Acknowledged, world, world_from, is_ended, drained}
 
 -- a state shows what is wanted: its surfaces, its output, what is mapped to it, and its slots; and it has the records of
@@ -35,7 +38,13 @@ pub record IsShownFrom (start : Start) (script : Script) (kinded : List KindedSt
   pub server : ShowsWanted ack.server (wanted_at start script kinded ack.step)
   pub client : ShowsWanted ack.client (wanted_at start script kinded ack.step)
 
-pub record KeepsWorldFrom (start : Start) (script : Script) (kinded : List KindedStep) (w : World) : Type 0 where
+-- the same where the two ends were alike, and the server's showed what is wanted: the client's may have other pixels
+pub record IsAlikeFrom (start : Start) (script : Script) (kinded : List KindedStep) (ack : Acknowledged) : Type 0 where
+  pub alike : Alike ack.server ack.client
+  pub server : ShowsWanted ack.server (wanted_at start script kinded ack.step)
+
+-- what holds of a session from a start, where this is said of each acknowledged frame
+pub record KeepsWorldBy (IsSeen : Acknowledged → Type 0) (start : Start) (script : Script) (w : World) : Type 0 where
   -- the client stands at the run of the bytes that it has taken, from its start
   pub started : w.start ≡ start.client
   -- neither end refuses anything
@@ -44,11 +53,18 @@ pub record KeepsWorldFrom (start : Start) (script : Script) (kinded : List Kinde
   -- the acknowledged frames are the first that the client has ended, in order, with its states right after them
   pub behind : List (ℕ × State)
   pub there : frames_of (history_from w.start w.taken) ≡ map (λ ack. (ack.frame, ack.client)) w.acks ++ behind
-  -- the two ends agree at each, and show the script
-  pub shown : AllByRecursion (IsShownFrom start script kinded) w.acks
+  -- at each the two ends are so
+  pub shown : AllByRecursion IsSeen w.acks
   -- the window is kept
   pub window : length w.server.window.flying ≤ script.window
   pub rising : AreRising 0 (map (λ ack. ack.step) w.acks)
+
+-- the two ends agree at each frame, and show the script; or they are alike
+abbrev pub KeepsWorldFrom : Start → Script → List KindedStep → World → Type 0
+KeepsWorldFrom start script kinded w = KeepsWorldBy (IsShownFrom start script kinded) start script w
+
+abbrev pub KeepsAlikeFrom : Start → Script → List KindedStep → World → Type 0
+KeepsAlikeFrom start script kinded w = KeepsWorldBy (IsAlikeFrom start script kinded) start script w
 
 -- so from each start that a script may have, at which the client's state is the server's but for limits that may be
 -- wider; whatever kinds its steps go as that they may go as, and after every list of turns
@@ -57,6 +73,30 @@ EveryScheduleFrom =
     (start : Start) (script : Script) (kinded : List KindedStep) (turns : List Turn) → IsAcceptedFrom start.held script → Fits kinded script.steps
     → MayStart script start → Wider start.server.state start.client
     → KeepsWorldFrom start script kinded (world_from start script kinded turns)
+
+-- they are alike from each start at which they are
+abbrev pub EveryScheduleAlike : Type 0
+EveryScheduleAlike =
+    (start : Start) (script : Script) (kinded : List KindedStep) (turns : List Turn) → MayBegin start script kinded
+    → KeepsAlikeFrom start script kinded (world_from start script kinded turns)
+
+-- the same of a session that starts from kept bitmaps: whichever they are, neither end refuses anything, and the two are
+-- alike at each frame; and where the two files agree, the two ends agree
+pub record ImportHolds (script : Script) (server client : List Entry) (kinded : List KindedStep) (turns : List Turn) : Type 0 where
+  pub alike : KeepsAlikeFrom (from_kept script server client) script kinded (world_from (from_kept script server client) script kinded turns)
+  pub agreed : agree server client ≡ true
+      → KeepsWorldFrom (from_kept script server client) script kinded (world_from (from_kept script server client) script kinded turns)
+
+abbrev pub EveryImport : Type 0
+EveryImport =
+    (script : Script) (server client : List Entry) (kinded : List KindedStep) (turns : List Turn) → MayImport script server client → Fits kinded script.steps
+    → ImportHolds script server client kinded turns
+
+-- and a session may begin so
+abbrev pub ImportMayBegin : Type 0
+ImportMayBegin =
+    (script : Script) (server client : List Entry) (kinded : List KindedStep) → MayImport script server client → Fits kinded script.steps
+    → MayBegin (from_kept script server client) script kinded
 
 -- the same of a session that starts from nothing
 abbrev pub IsShown : Script → List KindedStep → Acknowledged → Type 0
@@ -75,7 +115,8 @@ EverySchedule = (script : Script) (kinded : List KindedStep) (turns : List Turn)
 abbrev pub rounds_for : Script → ℕ
 rounds_for script = length script.steps + 4
 
--- after that many rounds it is ended
+-- after that many rounds it is ended, from each start
 abbrev pub RoundsEnd : Type 0
-RoundsEnd = (script : Script) (kinded : List KindedStep) (turns : List Turn) → IsAccepted script → Fits kinded script.steps
-    → is_ended (drained script (rounds_for script) (world script kinded turns)) ≡ true
+RoundsEnd =
+    (start : Start) (script : Script) (kinded : List KindedStep) (turns : List Turn) → MayBegin start script kinded
+    → is_ended (drained script (rounds_for script) (world_from start script kinded turns)) ≡ true

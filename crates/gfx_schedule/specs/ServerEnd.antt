@@ -83,8 +83,11 @@ abbrev pub is_none : {X : Type 0} → List X → Bool
 is_none items = length items == 0
 
 -- a frame can go: the version is confirmed, a step waits, and the window has room
+abbrev pub may_send : Bool → Window → Bool
+may_send confirmed window = confirmed && (not (is_none window.pending) && has_room window)
+
 abbrev pub can_send : ServerEnd → Bool
-can_send end = end.confirmed && (not (is_none end.window.pending) && has_room end.window)
+can_send end = may_send end.confirmed end.window
 
 -- the steps of the frame that goes then: those that wait without exactly those that a later one covers
 abbrev pub due : Script → ServerEnd → List KindedStep

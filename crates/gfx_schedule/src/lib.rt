@@ -11,7 +11,9 @@ mod laws;
 mod leaving;
 mod turned;
 
-pub use laws::{every_schedule, every_schedule_from_a_start, rounds_end};
+pub use laws::{
+    every_import, every_schedule, every_schedule_alike, every_schedule_from_a_start, rounds_end,
+};
 pub use leaving::{
     leaving_is_allowed, leaving_is_not_seen, leaving_is_superseding, leaving_only_leaves,
 };

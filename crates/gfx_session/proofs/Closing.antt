@@ -2,10 +2,10 @@
 use Rattle.std.proofs.Common.{◌≡◌, ℕ, Bool, true, false, List, [], ◌∷◌, length, map, Some, None, is_some, Ok, Err, refl, sym, ap, ◌∙◌, subst, arith}
 use Rattle.std.proofs.lemmas.List.{length-map}
 use Rattle.gfx_schedule.specs.Hearing.{Heard, listening, hears}
-use Rattle.gfx_schedule.specs.Plan.{InPlan}
+use Rattle.gfx_schedule.specs.Plan.{InPlanFrom}
+use Rattle.gfx_schedule.specs.Starts.{MayBegin}
 use Rattle.gfx_schedule.specs.ServerEnd.{Stop, Refused as refuses, Unknown as unknown}
-use Rattle.gfx_script.specs.Kinds.{Fits}
-use Rattle.gfx_script.specs.Script.{IsAccepted}
+use Rattle.gfx_script.specs.Script.{IsAcceptedFrom}
 use Rattle.gfx_script.specs.Scripted.{Script}
 use Rattle.gfx_window.specs.declared.window.Sent.{Sent}
 use Rattle.gfx_session.specs.Kept.{digest_in, InStep, IsServerEnd, ListensAs, PlansAsBefore}
@@ -19,12 +19,13 @@ use Rattle.gfx_session.specs.declared.server_end.listening.Taken.{Taken}
 -- what every server's end has stays
 in_step : (script : Script) (old new : ServerEnd) (had has : List Taken) → Beside old new had has → InStep old → InStep new
 in_step script old new had has b i = record {
+  origin = i.origin;
   kinded = i.kinded;
-  fits = subst (λ z. Fits i.kinded z.steps) (sym b.script) i.fits;
+  begins = subst (λ z. MayBegin i.origin z i.kinded) (sym b.script) i.begins;
   at = record i.at { window = new.window };
   gone = i.gone;
   waiting = i.waiting;
-  plan = subst (λ z. InPlan z i.kinded (record i.at { window = new.window }) i.gone i.waiting) (sym b.script) (record {
+  plan = subst (λ z. InPlanFrom i.origin z i.kinded (record i.at { window = new.window }) i.gone i.waiting) (sym b.script) (record {
     cut = i.plan.cut;
     last = i.plan.last;
     pending = b.pending ∙ ap (λ z. z.pending) i.window ∙ i.plan.pending;
@@ -42,14 +43,21 @@ in_step script old new had has b i = record {
 
 pub keeps : (old new : ServerEnd) (had has : List Taken) → Beside old new had has → IsServerEnd old → IsServerEnd new
 keeps old new had has b i = record {
-  good = subst IsAccepted (sym b.script) i.good;
+  held = i.held;
+  good = subst (IsAcceptedFrom i.held) (sym b.script) i.good;
   in_step = λ fresh. in_step old.script old new had has b (i.in_step (sym b.spent ∙ fresh));
 }
 
+-- and so it is of one that is spent
+pub spent_end : (old new : ServerEnd) → IsServerEnd old → new.script ≡ old.script → new.spent ≡ true → IsServerEnd new
+spent_end old new i same spent =
+    record { held = i.held; good = subst (IsAcceptedFrom i.held) (sym same) i.good; in_step = λ fresh. absurd (let e = sym spent ∙ fresh in cc) }
+
 pub closed_too : (new : ServerEnd) (closed : Bool) → IsServerEnd new → IsServerEnd (record new { closed = closed })
 closed_too new closed i = record {
+  held = i.held;
   good = i.good;
-  in_step = λ fresh. let s = i.in_step fresh in record { kinded = s.kinded; fits = s.fits; at = s.at; gone = s.gone; waiting = s.waiting; plan = s.plan; last = s.last; window = s.window; planned = s.planned };
+  in_step = λ fresh. let s = i.in_step fresh in record { origin = s.origin; kinded = s.kinded; begins = s.begins; at = s.at; gone = s.gone; waiting = s.waiting; plan = s.plan; last = s.last; window = s.window; planned = s.planned };
 }
 
 -- a server's end that a fault closes hears as the schedule's that has stopped

@@ -10,3 +10,4 @@ pub mod DrawnSteps
 pub mod HeardPlan
 pub mod ChosenKinds
 pub mod TurnLemmas
+pub mod KeptClient

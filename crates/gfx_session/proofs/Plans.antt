@@ -1,5 +1,5 @@
 -- A server's end that is in step with its script: what may go as a frame, the start, and choosers that are brought.
-use Rattle.std.proofs.Common.{◌≡◌, ◌+◌, ◌≤◌, ◌<◌, Bool, true, false, ◌&&◌, not, List, [], ◌∷◌, ◌++◌, length, drop, Some, IsSome, Ok, refl, sym, ap, ◌∙◌, subst, append_assoc, arith, length-append}
+use Rattle.std.proofs.Common.{◌≡◌, ◌+◌, ◌≤◌, ◌<◌, Bool, true, false, ◌&&◌, not, List, [], ◌∷◌, ◌++◌, length, drop, map, Some, IsSome, Ok, refl, sym, ap, ◌∙◌, subst, append_assoc, arith, length-append}
 use Rattle.std.specs.List.{AllByRecursion}
 use Rattle.std.specs.Option.{option_map}
 use Rattle.std.proofs.Math.Seq.{drop-append_seam}
@@ -9,22 +9,25 @@ use Rattle.gfx_chooser.specs.Choosing.{Chooser}
 use Rattle.gfx_chooser.specs.Kinded.{kinded as chosen}
 use Rattle.gfx_chooser.proofs.Asking.{bare_kinded, kinds_kinded}
 use Rattle.gfx_planner.specs.Joined.{after_frame, JoinsFrame}
-use Rattle.gfx_planner.specs.Planned.{Planned}
-use Rattle.gfx_planner.specs.Want.{want}
+use Rattle.gfx_planner.specs.Planned.{Planned, ready}
+use Rattle.gfx_planner.specs.Want.{want_from}
 use Rattle.gfx_planner.proofs.Lists.{all_both, all_front, all_behind}
-use Rattle.gfx_planner.proofs.Streams.{bare, first_held, stands_at_start}
+use Rattle.gfx_planner.proofs.Streams.{bare}
 use Rattle.gfx_schedule.specs.Leaving.{step_of}
-use Rattle.gfx_schedule.specs.Plan.{InPlan}
-use Rattle.gfx_schedule.specs.Starts.{from_nothing}
-use Rattle.gfx_schedule.specs.ServerEnd.{ServerEnd as EndOfSchedule, server_at_start, numbered, is_none, due}
+use Rattle.gfx_schedule.specs.Plan.{InPlanFrom}
+use Rattle.gfx_schedule.specs.Starts.{MayBegin, MayStart, Start}
+use Rattle.gfx_schedule.specs.ServerEnd.{ServerEnd as EndOfSchedule, server_end_from, numbered, is_none, due, may_send}
 use Rattle.gfx_schedule.proofs.Items.{length-numbered, step_at-middle}
 use Rattle.gfx_schedule.proofs.Planning.{Ahead, ahead, joins}
-use Rattle.gfx_script.specs.Checks.{held_through}
-use Rattle.gfx_script.specs.Kinds.{KindedStep, HasKind, Fits, as_kind}
-use Rattle.gfx_script.specs.Script.{IsAccepted, step_at}
+use Rattle.gfx_script.specs.Checks.{Held, held_through}
+use Rattle.gfx_script.specs.Kinds.{KindedStep, HasKind, Fits, as_kind, own}
+use Rattle.gfx_script.specs.Script.{IsAcceptedFrom, step_at}
 use Rattle.gfx_script.specs.Scripted.{Script}
-use Rattle.gfx_session.specs.Frames.{due_of, MayFrame, can_go}
-use Rattle.gfx_session.specs.Kept.{GoesBy, InStep}
+use Rattle.gfx_session.specs.Frames.{due_of, MayFrame}
+use Rattle.gfx_script.proofs.OwnKinds.{own_steps_fit}
+use Rattle.gfx_segment.proofs.FrontLemmas.{front-nil}
+use Rattle.gfx_session.specs.Beginning.{IsOpened, no_frames}
+use Rattle.gfx_session.specs.Kept.{GoesBy, InStep, IsServerEnd, Stands}
 use Rattle.gfx_session.specs.declared.server_end.ServerEnd.{ServerEnd}
 use Rattle.gfx_window.specs.Window.{Window, has_room}
 
@@ -56,14 +59,14 @@ some_wait (x ∷ xs) e = omega arith
 
 -- the plan ----------------------------------------------------------------------------------------------
 
-last_within : (script : Script) (kinded : List KindedStep) (at : EndOfSchedule) (gone waiting : List KindedStep) → Fits kinded script.steps → InPlan script kinded at gone waiting → at.last ≤ length script.steps
-last_within script kinded at gone waiting fits plan =
+last_within : (origin : Start) (script : Script) (kinded : List KindedStep) (at : EndOfSchedule) (gone waiting : List KindedStep) → Fits kinded script.steps → InPlanFrom origin script kinded at gone waiting → at.last ≤ length script.steps
+last_within origin script kinded at gone waiting fits plan =
     let all : length script.steps ≡ length gone + (length waiting + length at.left) =
     ap length (sym fits.same) ∙ length-map kinded (λ (z : KindedStep). z.step) ∙ ap length plan.cut ∙ length-append gone (waiting ++ at.left) ∙ ap (λ n. length gone + n) (length-append waiting at.left) in
     omega (arith, plan.last, all)
 
 pub within : (end : ServerEnd) → InStep end → end.last ≤ length end.script.steps
-within end is = subst (λ n. n ≤ length end.script.steps) (sym is.last) (last_within end.script is.kinded is.at is.gone is.waiting is.fits is.plan)
+within end is = subst (λ n. n ≤ length end.script.steps) (sym is.last) (last_within is.origin end.script is.kinded is.at is.gone is.waiting is.begins.fits is.plan)
 
 -- each item that waits is a step of the script
 are_steps : (script : Script) (gone waiting left : List KindedStep) → bare (gone ++ (waiting ++ left)) ≡ script.steps → AllByRecursion (λ item. IsSome (step_of script item)) (numbered (length gone + 1) waiting)
@@ -81,16 +84,16 @@ are_steps script gone (one ∷ more) left same =
     )
 
 -- what waits may go as a frame
-pub record May (script : Script) (kinded : List KindedStep) (at : EndOfSchedule) (gone waiting : List KindedStep) (plan : InPlan script kinded at gone waiting) : Type 0 where
+pub record May (origin : Start) (script : Script) (kinded : List KindedStep) (at : EndOfSchedule) (gone waiting : List KindedStep) (plan : InPlanFrom origin script kinded at gone waiting) : Type 0 where
   pub may : MayFrame script at.server at.window
-  pub ahead : Ahead (from_nothing script) script kinded at gone waiting plan.held
-  pub joins : JoinsFrame script at.server (due script at) ahead.after (want script (gone ++ waiting))
+  pub ahead : Ahead origin script kinded at gone waiting plan.held
+  pub joins : JoinsFrame script at.server (due script at) ahead.after (want_from script origin.wanted (gone ++ waiting))
   pub some : 0 < length waiting
 
-may_at : (script : Script) (kinded : List KindedStep) (at : EndOfSchedule) (gone waiting : List KindedStep) (plan : InPlan script kinded at gone waiting) → IsAccepted script → Fits kinded script.steps → is_none at.window.pending ≡ false
-    → May script kinded at gone waiting plan
-may_at script kinded at gone waiting plan good fits wait =
-    let a = ahead (from_nothing script) script kinded at gone waiting good fits plan in
+may_at : (origin : Start) (script : Script) (kinded : List KindedStep) (at : EndOfSchedule) (gone waiting : List KindedStep) (plan : InPlanFrom origin script kinded at gone waiting) → IsAcceptedFrom origin.held script → Fits kinded script.steps → is_none at.window.pending ≡ false
+    → May origin script kinded at gone waiting plan
+may_at origin script kinded at gone waiting plan good fits wait =
+    let a = ahead origin script kinded at gone waiting good fits plan in
     let some : 0 < length waiting = omega (arith, some_wait at.window.pending wait, ap length plan.pending, length-numbered (length gone + 1) waiting) in
     record {
       may = record {
@@ -100,46 +103,86 @@ may_at script kinded at gone waiting plan good fits wait =
         may = record { numbers = a.numbers; kinds = a.kinds; held = plan.held; holds = plan.holds; after = a.after; checked = a.checked };
       };
       ahead = a;
-      joins = joins (from_nothing script) script kinded at gone waiting good fits plan a;
+      joins = joins origin script kinded at gone waiting good fits plan a;
       some = some;
     }
 
 -- where a frame can go
-waits : (end : ServerEnd) → can_go end ≡ true → is_none end.window.pending ≡ false
+waits : (end : ServerEnd) → may_send end.confirmed end.window ≡ true → is_none end.window.pending ≡ false
 waits end can =
     let tests = both_true end.confirmed (not (is_none end.window.pending) && has_room end.window) can in
     not_true (is_none end.window.pending) (both_true (not (is_none end.window.pending)) (has_room end.window) tests.1).0
 
-pub goes_at : (end : ServerEnd) → IsAccepted end.script → (is : InStep end) → can_go end ≡ true → May end.script is.kinded is.at is.gone is.waiting is.plan
-goes_at end good is can = may_at end.script is.kinded is.at is.gone is.waiting is.plan good is.fits (ap (λ (w : Window). is_none w.pending) (sym is.window) ∙ waits end can)
+pub goes_at : (end : ServerEnd) → (is : InStep end) → may_send end.confirmed end.window ≡ true → May is.origin end.script is.kinded is.at is.gone is.waiting is.plan
+goes_at end is can = may_at is.origin end.script is.kinded is.at is.gone is.waiting is.plan is.begins.accepted is.begins.fits (ap (λ (w : Window). is_none w.pending) (sym is.window) ∙ waits end can)
 
-pub may_frame : (end : ServerEnd) → IsAccepted end.script → InStep end → can_go end ≡ true → MayFrame end.script end.planner.server end.window
-may_frame end good is can =
+pub may_frame : (end : ServerEnd) → InStep end → may_send end.confirmed end.window ≡ true → MayFrame end.script end.planner.server end.window
+may_frame end is can =
     subst (λ (p : Planned). MayFrame end.script p.server end.window) (sym is.planned)
-    (subst (MayFrame end.script is.at.server) (sym is.window) (goes_at end good is can).may)
+    (subst (MayFrame end.script is.at.server) (sym is.window) (goes_at end is can).may)
 
 -- its frame takes the next id
-pub next_id : (end : ServerEnd) → IsAccepted end.script → InStep end → can_go end ≡ true → (after_frame end.script end.planner.server (due_of end.script end.window)).frames ≡ end.planner.server.frames + 1
-next_id end good is can =
+pub next_id : (end : ServerEnd) → InStep end → may_send end.confirmed end.window ≡ true → (after_frame end.script end.planner.server (due_of end.script end.window)).frames ≡ end.planner.server.frames + 1
+next_id end is can =
     subst (λ (p : Planned). (after_frame end.script p.server (due_of end.script end.window)).frames ≡ p.server.frames + 1) (sym is.planned)
-    (subst (λ (w : Window). (after_frame end.script is.at.server (due_of end.script w)).frames ≡ is.at.server.frames + 1) (sym is.window) (goes_at end good is can).joins.frames)
+    (subst (λ (w : Window). (after_frame end.script is.at.server (due_of end.script w)).frames ≡ is.at.server.frames + 1) (sym is.window) (goes_at end is can).joins.frames)
 
 -- the start -------------------------------------------------------------------------------------------------
 
-through_none : (script : Script) → held_through (first_held script) [] ≡ Ok (first_held script)
+through_none : (held : Held) → held_through held [] ≡ Ok held
 unfolding held_through
-through_none script = refl
+through_none held = refl
 
-pub starts : (script : Script) (kinded : List KindedStep) → IsAccepted script → InPlan script kinded (server_at_start script kinded) [] []
-starts script kinded good =
-    let start = stands_at_start script good in
-    record { cut = refl; last = refl; pending = refl; held = first_held script; checked = through_none script; holds = start.holds; agrees = start.agrees; frame = refl; frames = omega arith }
+pub starts : (origin : Start) (script : Script) (kinded : List KindedStep) → MayStart script origin → InPlanFrom origin script kinded (server_end_from origin script kinded) [] []
+starts origin script kinded may =
+    record { cut = refl; last = refl; pending = refl; held = origin.held; checked = through_none origin.held; holds = may.holds; agrees = may.agrees; frame = may.closed; frames = omega (arith, may.frames) }
+
+-- a server's end that was opened stands for the schedule's at this start
+pub opened_stands : (end : ServerEnd) (script : Script) (planned : Planned) (known : Bool) (origin : Start) (kinded : List KindedStep) → IsOpened end script planned known → planned ≡ ready origin.server → known ≡ origin.confirmed → Fits kinded script.steps
+    → Stands end (server_end_from origin script kinded)
+opened_stands end script planned known origin kinded o planner_is known_is fits = record {
+  fresh = o.fresh;
+  left = fits.same ∙ ap (λ (s : Script). s.steps) (sym o.script);
+  last = o.last;
+  window = o.window;
+  planned = o.planner ∙ planner_is;
+  ends = o.ends;
+  even = refl;
+  confirmed = o.confirmed ∙ known_is;
+  closed = o.unclosed;
+  heard = λ none. o.splitter;
+  short = λ none. front-nil;
+}
+
+-- and is in step
+pub opened_is : (end : ServerEnd) (script : Script) (planned : Planned) (known : Bool) (origin : Start) → IsOpened end script planned known → planned ≡ ready origin.server → ((kinded : List KindedStep) → Fits kinded script.steps → MayBegin origin script kinded)
+    → IsServerEnd end
+opened_is end script planned known origin o planner_is begins =
+    let kinded : List KindedStep = map own script.steps in
+    let may : MayBegin origin script kinded = begins kinded (own_steps_fit script.steps) in
+    let is : MayBegin origin end.script kinded = subst (λ (s : Script). MayBegin origin s kinded) (sym o.script) may in
+    record {
+      held = origin.held;
+      good = is.accepted;
+      in_step = λ fresh. record {
+        origin = origin;
+        kinded = kinded;
+        begins = is;
+        at = server_end_from origin end.script kinded;
+        gone = [];
+        waiting = [];
+        plan = starts origin end.script kinded is.may;
+        last = o.last;
+        window = o.window ∙ ap (λ (s : Script). no_frames s.window) (sym o.script);
+        planned = o.planner ∙ planner_is;
+      };
+    }
 
 -- choosers are brought -----------------------------------------------------------------------------------------
 
 -- the steps that are left
-left_steps : (script : Script) (kinded : List KindedStep) (at : EndOfSchedule) (gone waiting : List KindedStep) → Fits kinded script.steps → InPlan script kinded at gone waiting → bare at.left ≡ drop at.last script.steps
-left_steps script kinded at gone waiting fits plan =
+left_steps : (origin : Start) (script : Script) (kinded : List KindedStep) (at : EndOfSchedule) (gone waiting : List KindedStep) → Fits kinded script.steps → InPlanFrom origin script kinded at gone waiting → bare at.left ≡ drop at.last script.steps
+left_steps origin script kinded at gone waiting fits plan =
     let step = λ (one : KindedStep). one.step in
     let cut : script.steps ≡ bare (gone ++ waiting) ++ bare at.left = sym fits.same ∙ ap bare (plan.cut ∙ sym (append_assoc gone waiting at.left)) ∙ map-append step (gone ++ waiting) at.left in
     let count : at.last ≡ length (bare (gone ++ waiting)) = plan.last ∙ sym (length-append gone waiting) ∙ sym (length-map (gone ++ waiting) step) in
@@ -150,6 +193,10 @@ same_behind : (front one other : List KindedStep) → bare one ≡ bare other �
 same_behind [] one other e = e
 same_behind (x ∷ front) one other e = ap (λ steps. x.step ∷ steps) (same_behind front one other e)
 
+-- a session may begin as well whose steps go as other kinds
+pub moved : {origin : Start} {script : Script} {kinded other : List KindedStep} → MayBegin origin script kinded → Fits other script.steps → MayBegin origin script other
+moved m fits = record { accepted = m.accepted; fits = fits; may = m.may; alike = m.alike }
+
 -- of a server's end that is in step what is left may go as any choosers choose
 pub record InStepBy (end : ServerEnd) (choosers : List Chooser) : Type 0 where
   pub in_step : InStep end
@@ -159,14 +206,15 @@ pub brings : (end : ServerEnd) (choosers : List Chooser) → InStep end → InSt
 brings end choosers is =
     let steps = drop is.at.last end.script.steps in
     let left : List KindedStep = chosen end.script (is.at.last + 1) choosers steps in
-    let same : bare left ≡ bare is.at.left = bare_kinded end.script (is.at.last + 1) choosers steps ∙ sym (left_steps end.script is.kinded is.at is.gone is.waiting is.fits is.plan) in
-    let kinds : AllByRecursion HasKind (is.gone ++ (is.waiting ++ is.at.left)) = subst (AllByRecursion HasKind) is.plan.cut is.fits.kinds in
+    let same : bare left ≡ bare is.at.left = bare_kinded end.script (is.at.last + 1) choosers steps ∙ sym (left_steps is.origin end.script is.kinded is.at is.gone is.waiting is.begins.fits is.plan) in
+    let kinds : AllByRecursion HasKind (is.gone ++ (is.waiting ++ is.at.left)) = subst (AllByRecursion HasKind) is.plan.cut is.begins.fits.kinds in
     let waiting_kinds = all_front HasKind is.waiting is.at.left (all_behind HasKind is.gone (is.waiting ++ is.at.left) kinds) in
     record {
       in_step = record {
+        origin = is.origin;
         kinded = is.gone ++ (is.waiting ++ left);
-        fits = record {
-          same = same_behind is.gone (is.waiting ++ left) (is.waiting ++ is.at.left) (same_behind is.waiting left is.at.left same) ∙ ap bare (sym is.plan.cut) ∙ is.fits.same;
+        begins = moved is.begins record {
+          same = same_behind is.gone (is.waiting ++ left) (is.waiting ++ is.at.left) (same_behind is.waiting left is.at.left same) ∙ ap bare (sym is.plan.cut) ∙ is.begins.fits.same;
           kinds = all_both HasKind is.gone (is.waiting ++ left) (all_front HasKind is.gone (is.waiting ++ is.at.left) kinds)
               (all_both HasKind is.waiting left waiting_kinds (kinds_kinded end.script (is.at.last + 1) choosers steps));
         };

@@ -9,31 +9,32 @@ use Rattle.gfx_chooser.specs.Kinded.{Asks}
 use Rattle.gfx_chooser.proofs.Asking.{asks_none, asks_on}
 use Rattle.gfx_client.specs.Client.{cursor_of, closed_by, offers_of}
 use Rattle.gfx_client.specs.Replies.{hello, replies}
-use Rattle.gfx_client.specs.Standing.{StandsFor, HasBroughtFrom, IsDrained}
+use Rattle.gfx_client.specs.Standing.{StandsFrom, HasBroughtFrom, IsDrained}
 use Rattle.gfx_client.specs.declared.client.Client.{Client}
 use Rattle.gfx_client.proofs.Bringing.{brought_drained}
-use Rattle.gfx_schedule.proofs.Turns.{every_schedule}
+use Rattle.gfx_schedule.proofs.Turns.{every_schedule_alike}
 use Rattle.gfx_schedule.proofs.Unseen.{left_behind, last_within_all}
 use Rattle.gfx_schedule.specs.Hearing.{listening, hears}
-use Rattle.gfx_schedule.specs.Schedule.{KeepsWorld, RoundsEnd, rounds_for}
-use Rattle.gfx_schedule.specs.ServerEnd.{ServerEnd as EndOfSchedule, server_at_start, is_none, serving, has_served, can_serve, queued}
-use Rattle.gfx_schedule.specs.World.{World, acknowledgements, begin, happens, server_turns, client_takes, server_heard, world, is_ended, answer, round, drained}
+use Rattle.gfx_schedule.specs.Schedule.{KeepsAlikeFrom, RoundsEnd, rounds_for}
+use Rattle.gfx_schedule.specs.Starts.{MayBegin, Start}
+use Rattle.gfx_schedule.specs.ServerEnd.{ServerEnd as EndOfSchedule, server_end_from, is_none, serving, has_served, can_serve, queued}
+use Rattle.gfx_schedule.specs.World.{World, acknowledgements, greeting, begin_from, happens, server_turns, client_takes, server_heard, world_from, is_ended, answer, round, drained}
 use Rattle.gfx_schedule.specs.declared.turned.Turned.{Turned}
 use Rattle.gfx_schedule.specs.declared.turned.Turned.TheVariants.{Moved, Waiting, Ended}
 use Rattle.gfx_script.specs.Kinds.{KindedStep, Fits, own}
 use Rattle.gfx_script.proofs.OwnKinds.{own_steps_fit}
-use Rattle.gfx_script.specs.Script.{IsAccepted}
 use Rattle.gfx_script.specs.Scripted.{Script}
 use Rattle.gfx_script.specs.declared.turn.Turn.{Turn}
 use Rattle.gfx_script.specs.declared.turn.Turn.TheVariants.{Server, Client as ToClient, Answer}
 use Rattle.gfx_state.specs.Cursor.{settled}
 use Rattle.gfx_state.specs.History.{Effect, history, history_from, end_states, ended}
 use Rattle.gfx_state.specs.Run.{Run, begun_from, run_from}
-use Rattle.gfx_state.specs.State.{State, fresh as fresh_state}
+use Rattle.gfx_state.specs.State.{State}
 use Rattle.gfx_state.proofs.Coming.{coming_needs}
 use Rattle.gfx_state.proofs.Effects.{history-append}
 use Rattle.gfx_window.specs.Window.{has_room}
 use Rattle.gfx_window.specs.declared.window.Sent.{Sent}
+use Rattle.gfx_session.specs.Beginning.{IsBegun}
 use Rattle.gfx_session.specs.Kept.{digest_in, InStep, IsServerEnd, PlansAsBefore}
 use Rattle.gfx_session.specs.Kept as kept
 use Rattle.gfx_session.specs.Serving.{Serves, ListensOpen, taken_of}
@@ -84,8 +85,8 @@ served old mid cs ds before out turned moved none serves down_is moved_are = (
   (
     refl,
     serves.1,
-    λ kinded turns fits s goes.
-        let w : World = world (script_of old) kinded turns in
+    λ origin kinded turns may s goes.
+        let w : World = world_from origin (script_of old) kinded turns in
         let does = serves.3 w.server s.server goes in (
           record {
             fresh = refl;
@@ -147,8 +148,8 @@ drawn_on old mid taken most moved t offered run drained draws down_is moved_are 
   (
     refl,
     refl,
-    λ kinded turns fits s known.
-        (client_takes_on old mid taken most (world (script_of old) kinded turns) t offered run drained draws down_is s, moved_are ∙ ap (λ z. not (is_none z)) s.down),
+    λ origin kinded turns may s known.
+        (client_takes_on old mid taken most (world_from origin (script_of old) kinded turns) t offered run drained draws down_is s, moved_are ∙ ap (λ z. not (is_none z)) s.down),
   ),
   refl,
 )
@@ -165,15 +166,15 @@ pub will_take : (old : Session) → IsSession old → old.spent ≡ false → cl
 will_take old is fresh = (is.under_way fresh).stands.drained.not_closed
 
 -- the law, of one more turn
-keeps_next : (script : Script) (kinded : List KindedStep) (turns : List Turn) (turn : Turn) → IsAccepted script → Fits kinded script.steps → KeepsWorld script kinded (happens script (world script kinded turns) turn)
-keeps_next script kinded turns turn good fits = subst (KeepsWorld script kinded) (one_more script kinded turns turn) (every_schedule script kinded (turns ++ turn ∷ []) good fits)
+keeps_next : (origin : Start) (script : Script) (kinded : List KindedStep) (turns : List Turn) (turn : Turn) → MayBegin origin script kinded → KeepsAlikeFrom origin script kinded (happens script (world_from origin script kinded turns) turn)
+keeps_next origin script kinded turns turn may = subst (KeepsAlikeFrom origin script kinded) (one_more origin script kinded turns turn) (every_schedule_alike origin script kinded (turns ++ turn ∷ []) may)
 
 pub will_draw : (old : Session) (taken : Client) (most : ℕ) (piece : List ℕ) → IsSession old → old.spent ≡ false → piece ≡ take most old.down → TakesBytes old.client taken piece → (settled (cursor_of taken)).refusal ≡ None
 unfolding happens client_takes
 will_draw old taken most piece is fresh same t =
     let u = is.under_way fresh in
-    let w : World = world (script_of old) u.kinded u.turns in
-    let goes = (keeps_next (script_of old) u.kinded u.turns (ToClient most) is.server.good u.fits).client_goes_on in
+    let w : World = world_from u.origin (script_of old) u.kinded u.turns in
+    let goes = (keeps_next u.origin (script_of old) u.kinded u.turns (ToClient most) u.begins).client_goes_on in
     ap (λ (z : Run). z.refusal) ((t.stands w.start w.taken u.stands.client).run ∙ ap (λ z. run_from w.start (w.taken ++ z)) (same ∙ ap (take most) u.stands.down)) ∙ goes
 
 -- the server's end takes bytes --------------------------------------------------------------------------------
@@ -183,13 +184,13 @@ unfolding happens server_heard
 will_hear old most piece is fresh same =
     let script : Script = script_of old in
     let u = is.under_way fresh in
-    let w : World = world script u.kinded u.turns in
+    let w : World = world_from u.origin script u.kinded u.turns in
     record {
       at = w.server;
       stands = u.stands.server;
       listens = listens_as old.server w.server u.stands.server;
-      goes_on = (every_schedule script u.kinded u.turns is.server.good u.fits).server_goes_on;
-      will = subst (λ z. (hears script (listening w.server) z).end.stopped ≡ None) (sym (same ∙ ap (take most) u.stands.up)) (keeps_next script u.kinded u.turns (Answer most) is.server.good u.fits).server_goes_on;
+      goes_on = (every_schedule_alike u.origin script u.kinded u.turns u.begins).server_goes_on;
+      will = subst (λ z. (hears script (listening w.server) z).end.stopped ≡ None) (sym (same ∙ ap (take most) u.stands.up)) (keeps_next u.origin script u.kinded u.turns (Answer most) u.begins).server_goes_on;
     }
 
 -- the frames that are noted, with what was drawn
@@ -239,8 +240,8 @@ heard_on old mid out notes most moved will listens plans up_is down_is acks_are 
   (
     refl,
     plans.script,
-    λ kinded turns fits s known.
-        (server_heard_on old mid out notes most (world (script_of old) kinded turns) listens up_is down_is acks_are drawn_are plans s, moved_are ∙ ap (λ z. not (is_none z)) s.up),
+    λ origin kinded turns may s known.
+        (server_heard_on old mid out notes most (world_from origin (script_of old) kinded turns) listens up_is down_is acks_are drawn_are plans s, moved_are ∙ ap (λ z. not (is_none z)) s.up),
   ),
   plans.last,
 )
@@ -259,7 +260,7 @@ heard old mid before out piece had notes most moved none nothing is will listens
 
 pub within : (end : ServerEnd) → InStep end → end.last ≤ length end.script.steps
 within end is =
-    omega (arith, is.last, is.plan.last, ap length is.plan.cut, ap length is.fits.same, length-map is.kinded (λ (one : KindedStep). one.step), length-append is.gone (is.waiting ++ is.at.left), length-append is.waiting is.at.left)
+    omega (arith, is.last, is.plan.last, ap length is.plan.cut, ap length is.begins.fits.same, length-map is.kinded (λ (one : KindedStep). one.step), length-append is.gone (is.waiting ++ is.at.left), length-append is.waiting is.at.left)
 
 pub server_within : (session : Session) → IsSession session → session.spent ≡ false → session.server.last ≤ length session.server.script.steps
 server_within session is fresh = within session.server (is.server.in_step (is.under_way fresh).stands.server.fresh)
@@ -273,20 +274,21 @@ turns_told old new cs ds turn ended moved turned fresh ends does told = (
   fresh,
   does.1.1,
   does.0,
-  λ kinded turns fits s.
-      let did = does.1.2 kinded turns fits s.stands s.goes_by in (
-        stands_by old new cs ds moved turn kinded turns does fits s,
-        told ∙ (λ i. if ends (world (script_of old) kinded turns) s.stands i then Ended else (if did.1 i then Moved else Waiting)),
+  λ origin kinded turns may s.
+      let did = does.1.2 origin kinded turns may s.stands s.goes_by in (
+        stands_by old new cs ds moved turn origin kinded turns does may s,
+        told ∙ (λ i. if ends (world_from origin (script_of old) kinded turns) s.stands i then Ended else (if did.1 i then Moved else Waiting)),
       ),
 )
 
 -- rounds -----------------------------------------------------------------------------------------------------------
 
 -- what a turn does, said of a script
-does_at : (old new : Session) (cs ds : List Chooser) (moved : Bool) (turn : Turn) (script : Script) (kinded : List KindedStep) (turns : List Turn) → script_of old ≡ script → DoesBy (Ok moved) old new cs ds turn → Fits kinded script.steps
-    → StandsBy old cs script (world script kinded turns) → StandsBy new ds script (world script kinded (turns ++ turn ∷ []))
-does_at old new cs ds moved turn script kinded turns same does =
-    subst (λ (z : Script). Fits kinded z.steps → StandsBy old cs z (world z kinded turns) → StandsBy new ds z (world z kinded (turns ++ turn ∷ []))) same (stands_by old new cs ds moved turn kinded turns does)
+does_at : (old new : Session) (cs ds : List Chooser) (moved : Bool) (turn : Turn) (origin : Start) (script : Script) (kinded : List KindedStep) (turns : List Turn) → script_of old ≡ script → DoesBy (Ok moved) old new cs ds turn → MayBegin origin script kinded
+    → StandsBy old cs script (world_from origin script kinded turns) → StandsBy new ds script (world_from origin script kinded (turns ++ turn ∷ []))
+does_at old new cs ds moved turn origin script kinded turns same does =
+    subst (λ (z : Script). MayBegin origin z kinded → StandsBy old cs z (world_from origin z kinded turns) → StandsBy new ds z (world_from origin z kinded (turns ++ turn ∷ []))) same
+    (stands_by old new cs ds moved turn origin kinded turns does)
 
 pub round_on : (a b c d : Session) (cs ds : List Chooser) (one two three : Bool) (down up : ℕ) → DoesBy (Ok one) a b cs ds Server → down ≡ length b.down → Does (Ok two) b c (ToClient down) → up ≡ length c.up → Does (Ok three) c d (Answer up)
     → GoesRound (Ok tt) a d cs ds
@@ -295,29 +297,29 @@ round_on a b c d cs ds one two three down up first down_is second up_is third = 
   third.0.0,
   third.0.1 ∙ second.0.1 ∙ first.1.1,
   subst (λ n. Asks (script_of a) a.server.last n cs ds) (sym (third.1 ∙ second.1)) first.0,
-  λ kinded turns fits s.
+  λ origin kinded turns may s.
       let script : Script = script_of a in
       let drawing : World → World = λ sent. happens script sent (ToClient (length sent.down)) in
       let hearing : World → World = λ drawn. happens script drawn (Answer (length drawn.up)) in
       let t1 : List Turn = turns ++ Server ∷ [] in
       let t2 : List Turn = t1 ++ ToClient down ∷ [] in
       let t3 : List Turn = t2 ++ Answer up ∷ [] in
-      let s1 : StandsBy b ds script (world script kinded t1) = stands_by a b cs ds one Server kinded turns first fits s in
-      let s2 : StandsBy c ds script (world script kinded t2) = does_at b c ds ds two (ToClient down) script kinded t1 first.1.1 (by_any b c ds two (ToClient down) second) fits s1 in
-      let s3 : StandsBy d ds script (world script kinded t3) = does_at c d ds ds three (Answer up) script kinded t2 (second.0.1 ∙ first.1.1) (by_any c d ds three (Answer up) third) fits s2 in
-      let w1 : world script kinded t1 ≡ happens script (world script kinded turns) Server = one_more script kinded turns Server in
-      let w2 : world script kinded t2 ≡ drawing (world script kinded t1) =
-      one_more script kinded t1 (ToClient down) ∙ ap (λ n. happens script (world script kinded t1) (ToClient n)) (down_is ∙ ap length s1.stands.down) in
-      let w3 : world script kinded t3 ≡ hearing (world script kinded t2) =
-      one_more script kinded t2 (Answer up) ∙ ap (λ n. happens script (world script kinded t2) (Answer n)) (up_is ∙ ap length s2.stands.up) in
+      let s1 : StandsBy b ds script (world_from origin script kinded t1) = stands_by a b cs ds one Server origin kinded turns first may s in
+      let s2 : StandsBy c ds script (world_from origin script kinded t2) = does_at b c ds ds two (ToClient down) origin script kinded t1 first.1.1 (by_any b c ds two (ToClient down) second) may s1 in
+      let s3 : StandsBy d ds script (world_from origin script kinded t3) = does_at c d ds ds three (Answer up) origin script kinded t2 (second.0.1 ∙ first.1.1) (by_any c d ds three (Answer up) third) may s2 in
+      let w1 : world_from origin script kinded t1 ≡ happens script (world_from origin script kinded turns) Server = one_more origin script kinded turns Server in
+      let w2 : world_from origin script kinded t2 ≡ drawing (world_from origin script kinded t1) =
+      one_more origin script kinded t1 (ToClient down) ∙ ap (λ n. happens script (world_from origin script kinded t1) (ToClient n)) (down_is ∙ ap length s1.stands.down) in
+      let w3 : world_from origin script kinded t3 ≡ hearing (world_from origin script kinded t2) =
+      one_more origin script kinded t2 (Answer up) ∙ ap (λ n. happens script (world_from origin script kinded t2) (Answer n)) (up_is ∙ ap length s2.stands.up) in
       (t3, (sym (w3 ∙ ap hearing w2 ∙ ap (λ z. hearing (drawing z)) w1), s3)),
 )
 
 -- the session has come so far that as many rounds are left
 abbrev pub Draining : Session → Session → List Chooser → List Chooser → ℕ → Type 0
 Draining start now choosers left count =
-    (kinded : List KindedStep) (turns : List Turn) → Fits kinded (script_of start).steps → StandsBy start choosers (script_of start) (world (script_of start) kinded turns)
-    → (more : List Turn) × (StandsBy now left (script_of start) (world (script_of start) kinded more) × (drained (script_of start) (rounds_for (script_of start)) (world (script_of start) kinded turns) ≡ drained (script_of start) count (world (script_of start) kinded more)))
+    (origin : Start) (kinded : List KindedStep) (turns : List Turn) → MayBegin origin (script_of start) kinded → StandsBy start choosers (script_of start) (world_from origin (script_of start) kinded turns)
+    → (more : List Turn) × (StandsBy now left (script_of start) (world_from origin (script_of start) kinded more) × (drained (script_of start) (rounds_for (script_of start)) (world_from origin (script_of start) kinded turns) ≡ drained (script_of start) count (world_from origin (script_of start) kinded more)))
 
 -- and is a session of the same script
 pub record HasDrained (start now : Session) (choosers left : List Chooser) (count : ℕ) : Type 0 where
@@ -334,17 +336,18 @@ drains_none start cs count is fresh all = record {
   fresh = fresh;
   same = refl;
   asks = asks_none (script_of start) start.server.last cs;
-  goes = λ kinded turns fits s. (turns, (s, ap (λ n. drained (script_of start) n (world (script_of start) kinded turns)) (sym all)));
+  goes = λ origin kinded turns may s. (turns, (s, ap (λ n. drained (script_of start) n (world_from origin (script_of start) kinded turns)) (sym all)));
 }
 
 goes_next : (start now next : Session) (cs ds es : List Chooser) (count less : ℕ) → count ≡ less + 1 → script_of now ≡ script_of start → Draining start now cs ds count → ((w : World) → Stands now w → false ≡ is_ended w) → GoesRound (Ok tt) now next ds es
     → Draining start next cs es less
-goes_next start now next cs ds es count less fewer same before ends goes = λ kinded turns fits s.
-    let b = before kinded turns fits s in
+goes_next start now next cs ds es count less fewer same before ends goes = λ origin kinded turns may s.
+    let b = before origin kinded turns may s in
     let script : Script = script_of start in
-    let w : World = world script kinded b.0 in
-    let did = subst (λ (z : Script). Fits kinded z.steps → StandsBy now ds z (world z kinded b.0) → (more : List Turn) × ((round z (world z kinded b.0) ≡ world z kinded more) × StandsBy next es z (world z kinded more))) same
-    (goes.3 kinded b.0) fits b.1.0 in (
+    let w : World = world_from origin script kinded b.0 in
+    let did = subst (λ (z : Script). MayBegin origin z kinded → StandsBy now ds z (world_from origin z kinded b.0)
+    → (more : List Turn) × ((round z (world_from origin z kinded b.0) ≡ world_from origin z kinded more) × StandsBy next es z (world_from origin z kinded more))) same
+    (goes.3 origin kinded b.0) may b.1.0 in (
       did.0,
       (
         did.1.1,
@@ -369,14 +372,14 @@ drained_ended script zero w ended = refl
 drained_ended script (suc left) w ended = ap (λ z. if z then w else drained script left (round script w)) ended
 
 -- where a session is ended all steps were queued
-all_queued : (session : Session) (script : Script) (kinded : List KindedStep) (turns : List Turn) → Fits kinded script.steps → Stands session (world script kinded turns) → is_ended (world script kinded turns) ≡ true
+all_queued : (session : Session) (origin : Start) (script : Script) (kinded : List KindedStep) (turns : List Turn) → Fits kinded script.steps → Stands session (world_from origin script kinded turns) → is_ended (world_from origin script kinded turns) ≡ true
     → session.server.last ≡ length script.steps
-all_queued session script kinded turns fits s ended =
-    let w : World = world script kinded turns in
+all_queued session origin script kinded turns fits s ended =
+    let w : World = world_from origin script kinded turns in
     let served = both_true (is_none w.server.left) _ (both_true (has_served w.server) _ ended).0 in
-    let none : drop w.server.last kinded ≡ [] = sym (left_behind script kinded turns) ∙ none_of w.server.left served.0 in
+    let none : drop w.server.last kinded ≡ [] = sym (left_behind origin script kinded turns) ∙ none_of w.server.left served.0 in
     let count : length kinded ≡ length script.steps = sym (length-map kinded (λ (one : KindedStep). one.step)) ∙ ap length fits.same in
-    omega (arith, s.server.last, ap length none, length-drop w.server.last kinded, last_within_all script kinded turns, count)
+    omega (arith, s.server.last, ap length none, length-drop w.server.last kinded, last_within_all origin script kinded turns, count)
 
 -- no more rounds are due
 pub drains : (start now : Session) (cs ds : List Chooser) (count : ℕ) → RoundsEnd → IsSession start → start.spent ≡ false → HasDrained start now cs ds count → ((w : World) → Stands now w → drained (script_of start) count w ≡ w) → Drains (Ok tt) start now cs ds
@@ -385,23 +388,23 @@ drains start now cs ds count law is fresh before rests = (
   before.same,
   before.asks,
   queued_all (by_choosers start cs (is.under_way fresh)),
-  λ kinded turns fits s. (stands_there kinded turns fits s, law script kinded turns is.server.good fits),
+  λ origin kinded turns may s. (stands_there origin kinded turns may s, law origin script kinded turns may),
 )
   where
     script : Script
     script = script_of start
 
-    ends_there : (kinded : List KindedStep) (turns : List Turn) (fits : Fits kinded script.steps) (s : StandsBy start cs script (world script kinded turns))
-        → drained script (rounds_for script) (world script kinded turns) ≡ world script kinded (before.goes kinded turns fits s).0
-    ends_there kinded turns fits s = let b = before.goes kinded turns fits s in b.1.1 ∙ rests (world script kinded b.0) b.1.0.stands
+    ends_there : (origin : Start) (kinded : List KindedStep) (turns : List Turn) (may : MayBegin origin script kinded) (s : StandsBy start cs script (world_from origin script kinded turns))
+        → drained script (rounds_for script) (world_from origin script kinded turns) ≡ world_from origin script kinded (before.goes origin kinded turns may s).0
+    ends_there origin kinded turns may s = let b = before.goes origin kinded turns may s in b.1.1 ∙ rests (world_from origin script kinded b.0) b.1.0.stands
 
-    stands_there : (kinded : List KindedStep) (turns : List Turn) (fits : Fits kinded script.steps) (s : StandsBy start cs script (world script kinded turns)) → Stands now (drained script (rounds_for script) (world script kinded turns))
-    stands_there kinded turns fits s = subst (Stands now) (sym (ends_there kinded turns fits s)) (before.goes kinded turns fits s).1.0.stands
+    stands_there : (origin : Start) (kinded : List KindedStep) (turns : List Turn) (may : MayBegin origin script kinded) (s : StandsBy start cs script (world_from origin script kinded turns)) → Stands now (drained script (rounds_for script) (world_from origin script kinded turns))
+    stands_there origin kinded turns may s = subst (Stands now) (sym (ends_there origin kinded turns may s)) (before.goes origin kinded turns may s).1.0.stands
 
     queued_all : IsUnderWayBy start cs → now.server.last ≡ length script.steps
     queued_all u =
-        let b = before.goes u.kinded u.turns u.fits u.stands in
-        all_queued now script u.kinded b.0 u.fits b.1.0.stands (ap is_ended (sym (ends_there u.kinded u.turns u.fits u.stands)) ∙ law script u.kinded u.turns is.server.good u.fits)
+        let b = before.goes u.origin u.kinded u.turns u.begins u.stands in
+        all_queued now u.origin script u.kinded b.0 u.begins.fits b.1.0.stands (ap is_ended (sym (ends_there u.origin u.kinded u.turns u.begins u.stands)) ∙ law u.origin script u.kinded u.turns u.begins)
 
 pub drains_ended : (start now : Session) (cs ds : List Chooser) (count : ℕ) → RoundsEnd → IsSession start → start.spent ≡ false → HasDrained start now cs ds count → ((w : World) → Stands now w → true ≡ is_ended w) → Drains (Ok tt) start now cs ds
 drains_ended start now cs ds count law is fresh before ends = drains start now cs ds count law is fresh before (λ w s. drained_ended (script_of start) count w (sym (ends w s)))
@@ -411,44 +414,45 @@ drains_last start now cs ds law is fresh before = drains start now cs ds 0 law i
 
 -- the start ----------------------------------------------------------------------------------------------------------
 
-pub starts : (session : Session) (script : Script) (kinded : List KindedStep) → session.spent ≡ false → kept.Stands session.server (server_at_start script kinded) → offers_of session.client ≡ (script_of session).offers → StandsFor session.client [] → IsDrained session.client → session.down ≡ [] → session.up ≡ hello script.offers
-    → session.drawn.items ≡ [] → session.acks ≡ [] → Stands session (begin script kinded)
-starts session script kinded fresh server offers client drained down up drawn acks = record {
-  fresh = fresh;
-  server = server;
-  offers = offers;
-  client = client;
-  brought = brought_drained fresh_state session.client [] drained;
-  drained = drained;
-  down = down;
-  up = up;
-  drawn = drawn;
-  acks = acks;
+-- of a session that was begun so
+pub starts : (session : Session) (end : ServerEnd) (client : Client) (up : List ℕ) (origin : Start) (script : Script) (kinded : List KindedStep) → IsBegun session end client up → end.script ≡ script → kept.Stands end (server_end_from origin script kinded)
+    → offers_of client ≡ script.offers → StandsFrom origin.client client [] → IsDrained client → up ≡ greeting origin.confirmed script → Stands session (begin_from origin script kinded)
+starts session end client up origin script kinded b same server offers stands drained first = record {
+  fresh = b.fresh;
+  server = subst (λ (z : ServerEnd). kept.Stands z (server_end_from origin script kinded)) (sym b.server) server;
+  offers = ap offers_of b.client ∙ offers ∙ ap (λ (z : Script). z.offers) (sym same) ∙ ap (λ (z : ServerEnd). z.script.offers) (sym b.server);
+  client = subst (λ (z : Client). StandsFrom origin.client z []) (sym b.client) stands;
+  brought = brought_drained origin.client session.client [] (subst IsDrained (sym b.client) drained);
+  drained = subst IsDrained (sym b.client) drained;
+  down = b.down;
+  up = b.up ∙ first;
+  drawn = b.drawn;
+  acks = b.acks;
 }
 
-pub is_started : (session : Session) (script : Script) → IsServerEnd session.server → session.server.script ≡ script → ((kinded : List KindedStep) → Fits kinded script.steps → Stands session (begin script kinded)) → IsSession session × (script_of session ≡ script)
-is_started session script server same stands =
+pub is_started : (session : Session) (end : ServerEnd) (client : Client) (up : List ℕ) (origin : Start) (script : Script) → IsBegun session end client up → IsServerEnd end → end.script ≡ script
+    → ((kinded : List KindedStep) → Fits kinded script.steps → MayBegin origin script kinded) → ((kinded : List KindedStep) → Fits kinded script.steps → Stands session (begin_from origin script kinded)) → IsSession session × (script_of session ≡ script)
+is_started session end client up origin script b server same begins stands =
     let all : List KindedStep = map own script.steps in
-    let fits : Fits all script.steps = own_steps_fit script.steps in (
+    let fits : Fits all script.steps = own_steps_fit script.steps in
+    let is : script_of session ≡ script = ap (λ (z : ServerEnd). z.script) b.server ∙ same in (
       record {
-        server = server;
+        server = subst IsServerEnd (sym b.server) server;
         under_way = λ fresh. record {
+          origin = origin;
           kinded = all;
-          fits = subst (λ (z : Script). Fits all z.steps) (sym same) fits;
+          begins = subst (λ (z : Script). MayBegin origin z all) (sym is) (begins all fits);
           turns = [];
-          stands = subst (λ (z : Script). Stands session (begin z all)) (sym same) (stands all fits);
+          stands = subst (λ (z : Script). Stands session (begin_from origin z all)) (sym is) (stands all fits);
         };
       },
-      same,
+      is,
     )
 
 -- nothing is queued
-pub last_started : (server : ServerEnd) (script : Script) → ((kinded : List KindedStep) → Fits kinded script.steps → kept.Stands server (server_at_start script kinded)) → server.last ≡ 0
-last_started server script stands = (stands (map own script.steps) (own_steps_fit script.steps)).last
+pub last_started : (session : Session) (end : ServerEnd) (client : Client) (up : List ℕ) (origin : Start) (script : Script) → IsBegun session end client up → ((kinded : List KindedStep) → Fits kinded script.steps → kept.Stands end (server_end_from origin script kinded))
+    → session.server.last ≡ 0
+last_started session end client up origin script b stands = ap (λ (z : ServerEnd). z.last) b.server ∙ (stands (map own script.steps) (own_steps_fit script.steps)).last
 
-pub starts_up : (up before bytes : List ℕ) (offered had piece offers : List Offer) → up ≡ before ++ bytes → before ≡ [] → bytes ≡ hello offered → offered ≡ had ++ piece → had ≡ [] → piece ≡ offers → up ≡ hello offers
-starts_up up before bytes offered had piece offers put none says are nothing told = put ∙ ap (λ z. z ++ bytes) none ∙ says ∙ ap hello (are ∙ (λ i. nothing i ++ told i))
-
--- the client was made of the offers of the script
-pub starts_offers : (offered had piece : List Offer) (script kept : Script) → offered ≡ had ++ piece → had ≡ [] → piece ≡ script.offers → kept ≡ script → offered ≡ kept.offers
-starts_offers offered had piece script kept are nothing told same = are ∙ (λ i. nothing i ++ told i) ∙ ap (λ (z : Script). z.offers) (sym same)
+pub starts_up : (up before bytes : List ℕ) (offered offers : List Offer) → up ≡ before ++ bytes → before ≡ [] → bytes ≡ hello offered → offered ≡ offers → up ≡ hello offers
+starts_up up before bytes offered offers put none says are = put ∙ ap (λ z. z ++ bytes) none ∙ says ∙ ap hello are

@@ -11,19 +11,19 @@ use Rattle.gfx_planner.specs.Joined.{frame_of, after_frame}
 use Rattle.gfx_planner.specs.Planned.{PutsFront, ready}
 use Rattle.gfx_planner.specs.Wire.{Server}
 use Rattle.gfx_planner.proofs.Streams.{bare}
-use Rattle.gfx_schedule.specs.Plan.{InPlan}
-use Rattle.gfx_schedule.specs.Starts.{from_nothing}
-use Rattle.gfx_schedule.specs.ServerEnd.{ServerEnd as EndOfSchedule, first_frame, behind_frame, numbered, queued, is_none, can_send, due, with_sent, sends, bytes_sent, serves, serving, can_serve, has_served}
+use Rattle.gfx_schedule.specs.Plan.{InPlanFrom}
+use Rattle.gfx_schedule.specs.Starts.{MayBegin}
+use Rattle.gfx_schedule.specs.ServerEnd.{ServerEnd as EndOfSchedule, first_frame, behind_frame, numbered, queued, is_none, can_send, due, with_sent, sends, bytes_sent, serves, serving, can_serve, has_served, may_send}
 use Rattle.gfx_schedule.specs.declared.turned.Turned.{Turned}
 use Rattle.gfx_schedule.specs.declared.turned.Turned.TheVariants.{Moved, Waiting, Ended}
 use Rattle.gfx_schedule.proofs.Items.{frame_parts}
 use Rattle.gfx_schedule.proofs.Planning.{queues, goes}
-use Rattle.gfx_script.specs.Kinds.{KindedStep, Fits}
-use Rattle.gfx_script.specs.Script.{IsAccepted}
+use Rattle.gfx_script.specs.Kinds.{KindedStep}
+use Rattle.gfx_script.specs.Script.{IsAcceptedFrom}
 use Rattle.gfx_script.specs.Scripted.{Script}
 use Rattle.gfx_script.specs.declared.step.Step.{Step}
 use Rattle.gfx_segment.specs.Framing.{front, holding}
-use Rattle.gfx_session.specs.Frames.{next_steps, HearsAsBefore, QueuesFrame, due_of, can_go, Flies, frame_due, SendsFrame}
+use Rattle.gfx_session.specs.Frames.{next_steps, HearsAsBefore, QueuesFrame, due_of, Flies, frame_due, SendsFrame}
 use Rattle.gfx_session.specs.Kept.{digest_in, GoesBy, Stands, InStep, IsServerEnd}
 use Rattle.gfx_session.specs.Serving.{ListensOn, Serves, answers}
 use Rattle.gfx_session.specs.declared.server_end.ServerEnd.{ServerEnd}
@@ -109,12 +109,13 @@ queued_in_step end number choosers left window was q =
     let is : InStep end = by.in_step in
     let new = queued_is end.script end.last number choosers left end.window window is.at by.goes_by is.last is.window q in
     record {
+      origin = is.origin;
       kinded = is.kinded;
-      fits = is.fits;
+      begins = is.begins;
       at = queued is.at;
       gone = is.gone;
       waiting = is.waiting ++ first_frame is.at.left;
-      plan = queues (from_nothing end.script) end.script is.kinded is.at is.gone is.waiting is.plan;
+      plan = queues is.origin end.script is.kinded is.at is.gone is.waiting is.plan;
       last = new.0;
       window = new.1;
       planned = is.planned ∙ ap ready (sym (queued_same is.at).server);
@@ -122,7 +123,7 @@ queued_in_step end number choosers left window was q =
 
 -- a frame goes --------------------------------------------------------------------------------------------------
 
-can_is : (end : ServerEnd) (at : EndOfSchedule) → Stands (awake end) at → can_go end ≡ can_send at
+can_is : (end : ServerEnd) (at : EndOfSchedule) → Stands (awake end) at → may_send end.confirmed end.window ≡ can_send at
 can_is end at st = λ i. st.confirmed i && (not (is_none (st.window i).pending) && has_room (st.window i))
 
 sends_is : (script : Script) (at : EndOfSchedule) → can_send at ≡ true → (sends script at ≡ with_sent at (after_frame script at.server (due script at))) × (bytes_sent script at ≡ sent (frame_of script at.server (due script at)))
@@ -155,17 +156,17 @@ flown mid new at server st flies id = record {
 abbrev pub Follows : ServerEnd → ServerEnd → Bool → List ℕ → List ℕ → EndOfSchedule → Type 0
 Follows mid new went before now at = Stands (awake new) (sends mid.script at) × (now ≡ before ++ bytes_sent mid.script at) × (went ≡ can_send at)
 
-follows : (mid new : ServerEnd) (went : Bool) (before now : List ℕ) (at : EndOfSchedule) → IsAccepted mid.script → InStep mid → Stands (awake mid) at → SendsFrame (Ok went) mid new before now → Follows mid new went before now at
-follows mid new true before now at good is st s =
+follows : (mid new : ServerEnd) (went : Bool) (before now : List ℕ) (at : EndOfSchedule) → InStep mid → Stands (awake mid) at → SendsFrame (Ok went) mid new before now → Follows mid new went before now at
+follows mid new true before now at is st s =
     let can = sym (can_is mid at st) ∙ s.0 in
     let due_is = sends_is mid.script at can in
     let same : after_frame mid.script mid.planner.server (due_of mid.script mid.window) ≡ after_frame mid.script at.server (due mid.script at) = λ i. after_frame mid.script ((st.planned i).server) (due_of mid.script (st.window i)) in
     let put : frame_due mid ≡ bytes_sent mid.script at = (λ i. sent (frame_of mid.script ((st.planned i).server) (due_of mid.script (st.window i)))) ∙ sym due_is.1 in (
-      subst (Stands (awake new)) (ap (with_sent at) same ∙ sym due_is.0) (flown mid new at _ st s.1 (next_id mid good is s.0)),
+      subst (Stands (awake new)) (ap (with_sent at) same ∙ sym due_is.0) (flown mid new at _ st s.1 (next_id mid is s.0)),
       s.2 ∙ ap (λ z. before ++ z) put,
       sym can,
     )
-follows mid new false before now at good is st s =
+follows mid new false before now at is st s =
     let can = sym (can_is mid at st) ∙ s.0 in
     let due_is = rests_is mid.script at can in (
       subst (λ (n : ServerEnd). Stands (awake n) (sends mid.script at)) (sym s.1) (subst (Stands (awake mid)) (sym due_is.0) st),
@@ -174,27 +175,28 @@ follows mid new false before now at good is st s =
     )
 
 -- and it stays in step
-stays : (mid new : ServerEnd) (went : Bool) (before now : List ℕ) → IsAccepted mid.script → InStep mid → SendsFrame (Ok went) mid new before now → InStep (awake new)
+stays : (mid new : ServerEnd) (went : Bool) (before now : List ℕ) → InStep mid → SendsFrame (Ok went) mid new before now → InStep (awake new)
 unfolding with_sent
-stays mid new true before now good is s =
+stays mid new true before now is s =
     let flies = s.1 in
-    let m = goes_at mid good is s.0 in
+    let m = goes_at mid is s.0 in
     let server = after_frame mid.script is.at.server (due mid.script is.at) in
     let same : after_frame mid.script mid.planner.server (due_of mid.script mid.window) ≡ server = λ i. after_frame mid.script ((is.planned i).server) (due_of mid.script (is.window i)) in
     record {
+      origin = is.origin;
       kinded = is.kinded;
-      fits = subst (λ (s : Script). Fits is.kinded s.steps) (sym flies.script) is.fits;
+      begins = subst (λ (s : Script). MayBegin is.origin s is.kinded) (sym flies.script) is.begins;
       at = with_sent is.at server;
       gone = is.gone ++ is.waiting;
       waiting = [];
-      plan = subst (λ (s : Script). InPlan s is.kinded (with_sent is.at server) (is.gone ++ is.waiting) []) (sym flies.script)
-          (goes (from_nothing mid.script) mid.script is.kinded is.at is.gone is.waiting is.plan m.ahead m.some m.joins);
+      plan = subst (λ (s : Script). InPlanFrom is.origin s is.kinded (with_sent is.at server) (is.gone ++ is.waiting) []) (sym flies.script)
+          (goes is.origin mid.script is.kinded is.at is.gone is.waiting is.plan m.ahead m.some m.joins);
       last = flies.last ∙ is.last;
       window = flies.window ∙ (λ i. with_frame (is.window i) ((is.planned i).server.frames + 1) (is.last i)) ∙ ap (λ n. with_frame is.at.window n is.at.last) (sym m.joins.frames);
       planned = flies.planned ∙ ap ready same;
     }
-stays mid new false before now good is s =
-    subst InStep (sym (ap awake s.1)) record { kinded = is.kinded; fits = is.fits; at = is.at; gone = is.gone; waiting = is.waiting; plan = is.plan; last = is.last; window = is.window; planned = is.planned }
+stays mid new false before now is s =
+    subst InStep (sym (ap awake s.1)) record { origin = is.origin; kinded = is.kinded; begins = is.begins; at = is.at; gone = is.gone; waiting = is.waiting; plan = is.plan; last = is.last; window = is.window; planned = is.planned }
 
 -- the turn --------------------------------------------------------------------------------------------------------
 
@@ -274,7 +276,7 @@ turn end new number choosers left window went before now is fresh more q s kept_
     by at st goes =
         let steps = is.in_step fresh in
         let stands = queued_stands end at number choosers left window (within end steps) st goes q in
-        let f = follows mid new went before now (queued at) is.good (queued_in_step end number choosers left window steps q) stands s in
+        let f = follows mid new went before now (queued at) (queued_in_step end number choosers left window steps q) stands s in
         let waits : at.left ≡ kinded end.script (end.last + 1) choosers (drop end.last end.script.steps) = goes ∙ ap (λ n. kinded end.script (n + 1) choosers (drop n end.script.steps)) (sym st.last) in
         let some : nat_lt end.last number ≡ not (is_none at.left) = some_queued at.left end.last number (q.0 ∙ ap (λ z. end.last + length (first_frame z)) (sym waits)) in
         let moved : (nat_lt end.last number || went) ≡ can_serve at = (λ i. some i || f.2 i) ∙ either_is (is_none at.left) (can_send (queued at)) in
@@ -287,8 +289,9 @@ turn end new number choosers left window went before now is fresh more q s kept_
 pub turned_is : (end new : ServerEnd) (number : ℕ) (choosers left : List Chooser) (window : Window) (went : Bool) (before now : List ℕ) → IsServerEnd end → end.spent ≡ false
     → QueuesFrame (Ok number) end.script end.last choosers left end.window window → SendsFrame (Ok went) (with_queued end number window) new before now → new.script ≡ end.script → IsServerEnd (awake new)
 turned_is end new number choosers left window went before now is fresh q s kept_script = record {
-  good = subst IsAccepted (sym kept_script) is.good;
-  in_step = λ again. stays (with_queued end number window) new went before now is.good (queued_in_step end number choosers left window (is.in_step fresh) q) s;
+  held = is.held;
+  good = subst (IsAcceptedFrom is.held) (sym kept_script) is.good;
+  in_step = λ again. stays (with_queued end number window) new went before now (queued_in_step end number choosers left window (is.in_step fresh) q) s;
 }
 
 -- without memory ------------------------------------------------------------------------------------------------------

@@ -1,5 +1,5 @@
 -- What the parts of a turn of a server's end do.
-use Rattle.std.specs.Prelude.{◌≡◌, ◌<◌, ◌+◌, ℕ, Bool, true, false, ◌&&◌, not, List, [], ◌∷◌, ◌++◌, drop, length, map, None, IsSome, Result, Ok, Err}
+use Rattle.std.specs.Prelude.{◌≡◌, ◌<◌, ◌+◌, ℕ, Bool, true, false, List, [], ◌∷◌, ◌++◌, drop, length, map, None, IsSome, Result, Ok, Err}
 use Rattle.std.specs.List.{AllByRecursion}
 use Rattle.gfx_base.specs.declared.answer.NoMemory.{NoMemory}
 use Rattle.gfx_chooser.specs.Choosing.{Chooser}
@@ -10,7 +10,7 @@ use Rattle.gfx_planner.specs.Planned.{Planned, PutsFront, AllSent, ready}
 use Rattle.gfx_planner.specs.Wire.{Server}
 use Rattle.gfx_planner.specs.declared.planner.TheConstants.{MOST_FRAMES}
 use Rattle.gfx_schedule.specs.Leaving.{kept, step_of, steps_of}
-use Rattle.gfx_schedule.specs.ServerEnd.{first_frame, numbered, is_none}
+use Rattle.gfx_schedule.specs.ServerEnd.{first_frame, numbered, may_send}
 use Rattle.gfx_script.specs.Checks.{Held, held_through}
 use Rattle.gfx_script.specs.Kinds.{KindedStep, HasKind}
 use Rattle.gfx_script.specs.Script.{IsStep}
@@ -18,7 +18,7 @@ use Rattle.gfx_script.specs.Scripted.{Script}
 use Rattle.gfx_session.specs.Kept.{digest_in}
 use Rattle.gfx_session.specs.declared.server_end.ServerEnd.{ServerEnd}
 use Rattle.gfx_state.specs.Sending.{sent}
-use Rattle.gfx_window.specs.Window.{Window, has_room, with_pending}
+use Rattle.gfx_window.specs.Window.{Window, with_pending}
 use Rattle.gfx_window.specs.Window.{sent as with_frame}
 
 -- the steps of a script behind this number, up to and including the next of the word `frame`, as these choosers
@@ -62,10 +62,6 @@ PutsFrame (Ok frame) script steps server new before now =
     (frame ≡ server.frames + 1) × AllSent new before now (frame_of script server steps) (after_frame script server steps)
 PutsFrame (Err e) script steps server new before now = PutsFront before now (sent (frame_of script server steps))
 
--- a frame can go: the version is confirmed, a step waits, and the window has room
-abbrev pub can_go : ServerEnd → Bool
-can_go end = end.confirmed && (not (is_none end.window.pending) && has_room end.window)
-
 -- a frame of all that waited is in flight, and the planner is then this one
 pub record Flies (old new : ServerEnd) (server : Server) : Type 0 where
   pub script : new.script ≡ old.script
@@ -93,7 +89,7 @@ pub record HearsAsBefore (old new : ServerEnd) : Type 0 where
 -- it goes where it can, and whether it did is told; or a front of it is put out, and no frame is in flight for it
 abbrev pub SendsFrame : Result Bool NoMemory → ServerEnd → ServerEnd → List ℕ → List ℕ → Type 0
 SendsFrame (Ok true) old new before now =
-    (can_go old ≡ true) × Flies old new (after_frame old.script old.planner.server (due_of old.script old.window)) × (now ≡ before ++ frame_due old)
-SendsFrame (Ok false) old new before now = (can_go old ≡ false) × (new ≡ old) × (now ≡ before)
+    (may_send old.confirmed old.window ≡ true) × Flies old new (after_frame old.script old.planner.server (due_of old.script old.window)) × (now ≡ before ++ frame_due old)
+SendsFrame (Ok false) old new before now = (may_send old.confirmed old.window ≡ false) × (new ≡ old) × (now ≡ before)
 SendsFrame (Err e) old new before now =
-    (can_go old ≡ true) × (new.script ≡ old.script) × (new.spent ≡ old.spent) × PutsFront before now (frame_due old) × HearsAsBefore old new
+    (may_send old.confirmed old.window ≡ true) × (new.script ≡ old.script) × (new.spent ≡ old.spent) × PutsFront before now (frame_due old) × HearsAsBefore old new

@@ -5,10 +5,12 @@ use Rattle.gfx_chooser.specs.Choosing.{Chooser}
 use Rattle.gfx_chooser.specs.Kinded as chosen
 use Rattle.gfx_planner.specs.Planned.{ready}
 use Rattle.gfx_report.specs.StateBytes.{digest_of}
-use Rattle.gfx_schedule.specs.Plan.{InPlan}
+use Rattle.gfx_schedule.specs.Plan.{InPlanFrom}
 use Rattle.gfx_schedule.specs.ServerEnd.{ServerEnd as EndOfSchedule}
-use Rattle.gfx_script.specs.Kinds.{KindedStep, Fits}
-use Rattle.gfx_script.specs.Script.{IsAccepted}
+use Rattle.gfx_schedule.specs.Starts.{MayBegin, Start}
+use Rattle.gfx_script.specs.Checks.{Held}
+use Rattle.gfx_script.specs.Kinds.{KindedStep}
+use Rattle.gfx_script.specs.Script.{IsAcceptedFrom}
 use Rattle.gfx_script.specs.Scripted.{Script}
 use Rattle.gfx_segment.specs.Framing.{Short, front, holding}
 use Rattle.gfx_session.specs.declared.server_end.ServerEnd.{ServerEnd}
@@ -55,20 +57,22 @@ pub record Stands (end : ServerEnd) (at : EndOfSchedule) : Type 0 where
   pub heard : at.stopped ≡ None → end.splitter ≡ holding at.heard
   pub short : at.stopped ≡ None → front at.heard ≡ Short
 
--- what the planner of a server's end has is in step with the script, whose steps go as these kinds
+-- what the planner of a server's end has is in step with the script, which began so and whose steps go as these kinds
 pub record InStep (end : ServerEnd) : Type 0 where
+  pub origin : Start
   pub kinded : List KindedStep
-  pub fits : Fits kinded end.script.steps
+  pub begins : MayBegin origin end.script kinded
   pub at : EndOfSchedule
   pub gone : List KindedStep
   pub waiting : List KindedStep
-  pub plan : InPlan end.script kinded at gone waiting
+  pub plan : InPlanFrom origin end.script kinded at gone waiting
   pub last : end.last ≡ at.last
   pub window : end.window ≡ at.window
   pub planned : end.planner ≡ ready at.server
 
--- what holds of every server's end that is made, and stays through each of its calls: its script is accepted,
--- and while it isn't spent it is in step with it
+-- what holds of every server's end that is made, and stays through each of its calls: its script is accepted, as checked
+-- against what it began with, and while it isn't spent it is in step with it
 pub record IsServerEnd (end : ServerEnd) : Type 0 where
-  pub good : IsAccepted end.script
+  pub held : Held
+  pub good : IsAcceptedFrom held end.script
   pub in_step : end.spent ≡ false → InStep end

@@ -3,5 +3,6 @@ pub mod Serving
 pub mod Frames
 pub mod Listening
 pub mod Session
+pub mod Beginning
 pub mod Turning
 pub mod Drawing

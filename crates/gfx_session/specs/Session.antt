@@ -6,9 +6,10 @@ use Rattle.gfx_chooser.specs.Kinded.{Asks}
 use Rattle.gfx_client.specs.Client.{offers_of}
 use Rattle.gfx_client.specs.Standing.{StandsFrom, HasBroughtFrom, IsDrained}
 use Rattle.gfx_schedule.specs.Schedule.{rounds_for}
-use Rattle.gfx_schedule.specs.World.{World, Acknowledged, world, answer, is_ended, drained}
+use Rattle.gfx_schedule.specs.Starts.{MayBegin, Start}
+use Rattle.gfx_schedule.specs.World.{World, Acknowledged, world_from, answer, is_ended, drained}
 use Rattle.gfx_schedule.specs.declared.turned.Turned.{Turned}
-use Rattle.gfx_script.specs.Kinds.{KindedStep, Fits}
+use Rattle.gfx_script.specs.Kinds.{KindedStep}
 use Rattle.gfx_script.specs.Scripted.{Script}
 use Rattle.gfx_script.specs.declared.turn.Turn.{Turn}
 use Rattle.gfx_session.specs.Kept.{digest_in, GoesBy, IsServerEnd}
@@ -39,12 +40,13 @@ pub record Stands (session : Session) (w : World) : Type 0 where
   pub drawn : session.drawn.items ≡ map digest_in w.drawn
   pub acks : session.acks ≡ map acked_of w.acks
 
--- a session stands for that of its script after some turns, where the steps go as some kinds
+-- a session stands for that of its script after some turns, which began so and whose steps go as some kinds
 pub record IsUnderWay (session : Session) : Type 0 where
+  pub origin : Start
   pub kinded : List KindedStep
-  pub fits : Fits kinded (script_of session).steps
+  pub begins : MayBegin origin (script_of session) kinded
   pub turns : List Turn
-  pub stands : Stands session (world (script_of session) kinded turns)
+  pub stands : Stands session (world_from origin (script_of session) kinded turns)
 
 -- what holds of every session that is made, and stays through each of its calls, whatever choosers are brought to
 -- it: while it isn't spent it is under way
@@ -66,9 +68,9 @@ pub record StandsBy (session : Session) (choosers : List Chooser) (script : Scri
 abbrev pub Turns : Result Turned NoMemory → Session → Session → List Chooser → List Chooser → Turn → Type 0
 Turns (Ok turned) old new choosers left turn =
     (old.spent ≡ false) × (script_of new ≡ script_of old) × AsksBetween old new choosers left
-    × ((kinded : List KindedStep) (turns : List Turn) → Fits kinded (script_of old).steps
-    → StandsBy old choosers (script_of old) (world (script_of old) kinded turns)
-    → StandsBy new left (script_of old) (world (script_of old) kinded (turns ++ turn ∷ [])) × (turned ≡ answer (world (script_of old) kinded turns) turn))
+    × ((origin : Start) (kinded : List KindedStep) (turns : List Turn) → MayBegin origin (script_of old) kinded
+    → StandsBy old choosers (script_of old) (world_from origin (script_of old) kinded turns)
+    → StandsBy new left (script_of old) (world_from origin (script_of old) kinded (turns ++ turn ∷ [])) × (turned ≡ answer (world_from origin (script_of old) kinded turns) turn))
 Turns (Err e) old new choosers left turn = (new.spent ≡ true) × (script_of new ≡ script_of old)
 
 -- what draining does: rounds until the session is ended
@@ -76,8 +78,8 @@ abbrev pub Drains : Result (Unit {0}) NoMemory → Session → Session → List 
 Drains (Ok done) old new choosers left =
     (old.spent ≡ false) × (script_of new ≡ script_of old) × AsksBetween old new choosers left
     × (new.server.last ≡ length (script_of old).steps)
-    × ((kinded : List KindedStep) (turns : List Turn) → Fits kinded (script_of old).steps
-    → StandsBy old choosers (script_of old) (world (script_of old) kinded turns)
-    → Stands new (drained (script_of old) (rounds_for (script_of old)) (world (script_of old) kinded turns))
-    × (is_ended (drained (script_of old) (rounds_for (script_of old)) (world (script_of old) kinded turns)) ≡ true))
+    × ((origin : Start) (kinded : List KindedStep) (turns : List Turn) → MayBegin origin (script_of old) kinded
+    → StandsBy old choosers (script_of old) (world_from origin (script_of old) kinded turns)
+    → Stands new (drained (script_of old) (rounds_for (script_of old)) (world_from origin (script_of old) kinded turns))
+    × (is_ended (drained (script_of old) (rounds_for (script_of old)) (world_from origin (script_of old) kinded turns)) ≡ true))
 Drains (Err e) old new choosers left = (new.spent ≡ true) × (script_of new ≡ script_of old)

@@ -8,10 +8,11 @@ use Rattle.gfx_client.specs.Standing.{StandsFrom, HasBroughtFrom}
 use Rattle.gfx_client.specs.declared.client.Client.{Client}
 use Rattle.gfx_schedule.specs.Hearing.{listening, hears}
 use Rattle.gfx_schedule.specs.ServerEnd.{ServerEnd as EndOfSchedule}
-use Rattle.gfx_schedule.specs.World.{World, world, happens, can_turn, round}
+use Rattle.gfx_schedule.specs.Starts.{MayBegin, Start}
+use Rattle.gfx_schedule.specs.World.{World, world_from, happens, can_turn, round}
 use Rattle.gfx_schedule.specs.declared.turned.Turned.{Turned}
 use Rattle.gfx_schedule.specs.declared.turned.Turned.TheVariants.{Moved}
-use Rattle.gfx_script.specs.Kinds.{KindedStep, Fits}
+use Rattle.gfx_script.specs.Kinds.{KindedStep}
 use Rattle.gfx_script.specs.declared.turn.Turn.{Turn}
 use Rattle.gfx_state.specs.State.{State}
 use Rattle.gfx_state.specs.History.{Effect, end_states}
@@ -28,9 +29,9 @@ use Rattle.gfx_session.specs.declared.session.Session.{Session}
 abbrev pub DoesWhere : (World → Type 0) → Result Bool NoMemory → Session → Session → Turn → Type 0
 DoesWhere is_known (Ok moved) old new turn =
     (new.spent ≡ false) × (script_of new ≡ script_of old)
-    × ((kinded : List KindedStep) (turns : List Turn) → Fits kinded (script_of old).steps → Stands old (world (script_of old) kinded turns)
-    → is_known (world (script_of old) kinded turns)
-    → Stands new (happens (script_of old) (world (script_of old) kinded turns) turn) × (moved ≡ can_turn (world (script_of old) kinded turns) turn))
+    × ((origin : Start) (kinded : List KindedStep) (turns : List Turn) → MayBegin origin (script_of old) kinded → Stands old (world_from origin (script_of old) kinded turns)
+    → is_known (world_from origin (script_of old) kinded turns)
+    → Stands new (happens (script_of old) (world_from origin (script_of old) kinded turns) turn) × (moved ≡ can_turn (world_from origin (script_of old) kinded turns) turn))
 DoesWhere is_known (Err e) old new turn = (new.spent ≡ true) × (script_of new ≡ script_of old)
 
 -- nothing has to be known
@@ -57,9 +58,9 @@ has_moved other = false
 abbrev pub GoesRound : Result (Unit {0}) NoMemory → Session → Session → List Chooser → List Chooser → Type 0
 GoesRound (Ok done) old new choosers left =
     (new.spent ≡ false) × (script_of new ≡ script_of old) × AsksBetween old new choosers left
-    × ((kinded : List KindedStep) (turns : List Turn) → Fits kinded (script_of old).steps
-    → StandsBy old choosers (script_of old) (world (script_of old) kinded turns)
-    → (more : List Turn) × ((round (script_of old) (world (script_of old) kinded turns) ≡ world (script_of old) kinded more) × StandsBy new left (script_of old) (world (script_of old) kinded more)))
+    × ((origin : Start) (kinded : List KindedStep) (turns : List Turn) → MayBegin origin (script_of old) kinded
+    → StandsBy old choosers (script_of old) (world_from origin (script_of old) kinded turns)
+    → (more : List Turn) × ((round (script_of old) (world_from origin (script_of old) kinded turns) ≡ world_from origin (script_of old) kinded more) × StandsBy new left (script_of old) (world_from origin (script_of old) kinded more)))
 GoesRound (Err e) old new choosers left = (new.spent ≡ true) × (script_of new ≡ script_of old)
 
 -- the client ------------------------------------------------------------------------------------------

@@ -9,6 +9,7 @@
 
 mod acked;
 mod drawing;
+mod importing;
 mod noting;
 mod queue;
 mod server_end;

@@ -1,15 +1,18 @@
 //! The server's end of a session.
 
 ghost use Rattle.std.specs.Prelude.{◌≡◌, false, IfOk, List};
-ghost use Rattle.gfx_schedule.specs.ServerEnd.{server_at_start};
+ghost use Rattle.gfx_schedule.specs.ServerEnd.{server_at_start, server_end_from};
+ghost use Rattle.gfx_schedule.specs.Starts.{MayImport, from_kept};
 ghost use Rattle.gfx_script.specs.Script.{IsAccepted};
 ghost use Rattle.gfx_script.specs.Kinds.{Fits, KindedStep};
+ghost use Rattle.gfx_session.specs.Beginning.{IsOpened};
 ghost use Rattle.gfx_session.specs.Kept.{Stands, IsServerEnd};
 
 mod listening;
 mod serving;
 
 use gfx_base::{Bytes, NoMemory, Refusal};
+use gfx_import::Kept;
 use gfx_planner::Planner;
 use gfx_schedule::Turned;
 use gfx_script::Script;
@@ -65,19 +68,24 @@ impl ServerEnd {
         ensures is { IfOk result (λ end. IsServerEnd end × (end.script ≡ script) × (end.closed ≡ false)) }
     {
         let planner = Planner::new(alloc, script.small())?;
-        let window = Window::new(alloc, script.window());
-        Ok(ServerEnd {
-            alloc,
-            script,
-            window,
-            planner,
-            last: 0,
-            ends: VecDeque::new(alloc),
-            confirmed: false,
-            splitter: Splitter::new(alloc),
-            spent: false,
-            closed: false,
-        })
+        Ok(opened(alloc, script, planner, false))
+    }
+
+    /// A server's end of a script that was read with these two files of kept bitmaps: it begins with those that are
+    /// imported of them, and the version is confirmed ([MS-RDPEGFX] 3.2.5.13). Nothing is queued yet.
+    pub fn with_kept(
+        alloc: Global,
+        script: Script,
+        server: &Kept,
+        client: &Kept,
+    ) -> Result<ServerEnd, NoMemory>
+        requires { MayImport script server.now client.now }
+        ensures stands { IfOk result (λ end. (kinded : List KindedStep) → Fits kinded script.steps → Stands end (server_end_from (from_kept script server.now client.now) script kinded)) }
+        ensures is { IfOk result (λ end. IsServerEnd end × (end.script ≡ script) × (end.closed ≡ false)) }
+    {
+        let mut planner = Planner::new(alloc, script.small())?;
+        planner.import(server, client)?;
+        Ok(opened(alloc, script, planner, true))
     }
 
     /// The script.
@@ -85,5 +93,24 @@ impl ServerEnd {
         ensures { result.now ≡ self.now.script }
     {
         &self.script
+    }
+}
+
+/// A server's end that has this planner, of whose script nothing is queued yet.
+fn opened(alloc: Global, script: Script, planner: Planner, confirmed: bool) -> ServerEnd
+    ensures { IsOpened result script planner confirmed }
+{
+    let window = Window::new(alloc, script.window());
+    ServerEnd {
+        alloc,
+        script,
+        window,
+        planner,
+        last: 0,
+        ends: VecDeque::new(alloc),
+        confirmed,
+        splitter: Splitter::new(alloc),
+        spent: false,
+        closed: false,
     }
 }

@@ -1,25 +1,32 @@
 //! Both ends of a session.
 
 ghost use Rattle.std.specs.Prelude.{◌≡◌, ℕ, List, [], ◌++◌, ◌≤◌, length, IfOk, OnOk, false, if◌then◌else◌};
+ghost use Rattle.gfx_caps.specs.declared.offer.TheConstants.{MOST_OFFERS};
 ghost use Rattle.gfx_chooser.specs.Seen.{seen};
-ghost use Rattle.gfx_schedule.specs.World.{World, begin, is_ended};
+ghost use Rattle.gfx_client.specs.Client.{offers_of, IsUntouched};
+ghost use Rattle.gfx_client.specs.Standing.{StandsFor, IsDrained};
+ghost use Rattle.gfx_schedule.specs.Starts.{MayImport, from_kept};
+ghost use Rattle.gfx_schedule.specs.World.{World, begin, begin_from, is_ended};
 ghost use Rattle.gfx_schedule.specs.Schedule.{rounds_for};
 ghost use Rattle.gfx_schedule.specs.declared.turned.Turned.TheVariants.{Moved, Waiting, Ended};
 ghost use Rattle.gfx_script.specs.Kinds.{Fits, KindedStep};
 ghost use Rattle.gfx_script.specs.Script.{IsAccepted};
 ghost use Rattle.gfx_script.specs.declared.TheConstants.{MOST_STEPS};
 ghost use Rattle.gfx_script.specs.declared.turn.Turn.TheVariants.{Server, Client as ToClient, Answer};
+ghost use Rattle.gfx_session.specs.Beginning.{IsBegun};
 ghost use Rattle.gfx_session.specs.Session.{Stands, IsSession, Turns, Drains, script_of};
 ghost use Rattle.gfx_session.specs.Turning.{Does, DoesBy, GoesRound, has_moved};
 
 use crate::acked::Acks;
 use crate::drawing::{draw_all, take_bytes};
+use crate::importing::import_kept;
 use crate::noting::{hear_bytes, note_all};
 use crate::queue::Queue;
 use crate::server_end::ServerEnd;
 use gfx_base::{Bytes, NoMemory};
 use gfx_chooser::Chooser;
 use gfx_client::{Client, Offers};
+use gfx_import::Kept;
 use gfx_schedule::{Turned, rounds_end};
 use gfx_script::{Script, Turn};
 use std::alloc::Global;
@@ -48,22 +55,32 @@ impl Session {
         ensures last { IfOk result (λ session. session.server.last ≡ 0) }
         ensures is { IfOk result (λ session. IsSession session × (script_of session ≡ script)) }
     {
-        let mut offers = Offers::new(alloc);
-        offers.append(script.offers().as_slice())?;
-        let client = Client::new(alloc, offers)?;
+        let client = client_of(alloc, &script)?;
         let mut up = Queue::new(alloc);
         up.put(client.hello()?)?;
         let server = ServerEnd::new(alloc, script)?;
-        Ok(Session {
-            alloc,
-            server,
-            client,
-            down: Queue::new(alloc),
-            up,
-            drawn: VecDeque::new(alloc),
-            acks: Acks::new(alloc),
-            spent: false,
-        })
+        Ok(begun(alloc, server, client, up))
+    }
+
+    /// The session of a script that was read with these two files of kept bitmaps, right after its ends have agreed on
+    /// them: what is imported of the files is in slots 1, 2 and so on, at each end its own bitmaps, and the version is
+    /// confirmed ([MS-RDPEGFX] 3.2.5.13). Each of these bitmaps has the same sides at both ends.
+    pub fn with_kept(
+        alloc: Global,
+        script: Script,
+        server: &Kept,
+        client: &Kept,
+    ) -> Result<Session, NoMemory>
+        requires { MayImport script server.now client.now }
+        ensures stands { IfOk result (λ session. (kinded : List KindedStep) → Fits kinded script.steps
+            → Stands session (begin_from (from_kept script server.now client.now) script kinded)) }
+        ensures last { IfOk result (λ session. session.server.last ≡ 0) }
+        ensures is { IfOk result (λ session. IsSession session × (script_of session ≡ script)) }
+    {
+        let mut other = client_of(alloc, &script)?;
+        import_kept(alloc, &mut other, server, client, script.small())?;
+        let end = ServerEnd::with_kept(alloc, script, server, client)?;
+        Ok(begun(alloc, end, other, Queue::new(alloc)))
     }
 
     /// One turn. Where steps are queued in it, these choosers are asked for the kinds that they don't name, and
@@ -217,6 +234,35 @@ impl Session {
         note_all(taken.as_slice(), &mut self.drawn, &mut self.acks)?;
         self.spent = false;
         Ok(moved)
+    }
+}
+
+/// A client that offers what a script says.
+fn client_of(alloc: Global, script: &Script) -> Result<Client, NoMemory>
+    requires { length script.now.offers ≤ MOST_OFFERS }
+    ensures untouched { IfOk result IsUntouched }
+    ensures stands { IfOk result (λ client. StandsFor client []) }
+    ensures drained { IfOk result IsDrained }
+    ensures offers { IfOk result (λ client. offers_of client ≡ script.now.offers) }
+{
+    let mut offers = Offers::new(alloc);
+    offers.append(script.offers().as_slice())?;
+    Client::new(alloc, offers)
+}
+
+/// A session in which nothing has happened.
+fn begun(alloc: Global, server: ServerEnd, client: Client, up: Queue) -> Session
+    ensures { IsBegun result server client up }
+{
+    Session {
+        alloc,
+        server,
+        client,
+        down: Queue::new(alloc),
+        up,
+        drawn: VecDeque::new(alloc),
+        acks: Acks::new(alloc),
+        spent: false,
     }
 }
 

@@ -1,10 +1,10 @@
 //! A turn of the server's end.
 ghost use Rattle.std.specs.Prelude.{◌≡◌, ◌≤◌, ◌+◌, ◌&&◌, ◌||◌, if◌then◌else◌, true, false, drop, length};
 ghost use Rattle.gfx_chooser.specs.Seen.{seen};
-ghost use Rattle.gfx_schedule.specs.ServerEnd.{is_none};
+ghost use Rattle.gfx_schedule.specs.ServerEnd.{is_none, may_send};
 ghost use Rattle.gfx_schedule.specs.declared.turned.Turned.TheVariants.{Moved, Waiting};
 ghost use Rattle.gfx_script.specs.declared.TheConstants.{MOST_STEPS};
-ghost use Rattle.gfx_session.specs.Frames.{QueuesFrame, MayFrame, PutsFrame, SendsFrame, due_of, can_go};
+ghost use Rattle.gfx_session.specs.Frames.{QueuesFrame, MayFrame, PutsFrame, SendsFrame, due_of};
 ghost use Rattle.gfx_session.specs.Kept.{IsServerEnd};
 ghost use Rattle.gfx_session.specs.Serving.{Serves};
 
@@ -59,7 +59,7 @@ impl ServerEnd {
 
     /// Whether a frame can go.
     fn can_send(&self) -> bool
-        ensures { result ≡ can_go self.now }
+        ensures { result ≡ may_send self.now.confirmed self.now.window }
     {
         self.confirmed && self.window.due() != 0 && self.window.can_send()
     }
@@ -67,7 +67,7 @@ impl ServerEnd {
     /// Sends all that waits as one frame, where a frame can go, and tells whether one went.
     fn send_frame(&mut self, out: &mut Bytes) -> Result<bool, NoMemory>
         requires fresh { self.old.planner.spent ≡ false }
-        requires may { can_go self.old ≡ true → MayFrame self.old.script self.old.planner.server self.old.window }
+        requires may { may_send self.old.confirmed self.old.window ≡ true → MayFrame self.old.script self.old.planner.server self.old.window }
         ensures { SendsFrame result self.old self.new out.old out.new }
     {
         if !self.can_send() {

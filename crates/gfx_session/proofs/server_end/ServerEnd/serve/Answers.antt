@@ -1,6 +1,7 @@
-use Rattle.std.proofs.Common.{◌∙◌, sym, []}
+use Rattle.std.proofs.Common.{◌∙◌, refl, sym, []}
 use Rattle.std.proofs.lemmas.Result.{err_from_is_err_and}
 use Rattle.gfx_chooser.specs.Seen.{seen}
+use Rattle.gfx_session.proofs.Closing.{spent_end}
 use Rattle.gfx_session.proofs.Plans.{may_frame}
 use Rattle.gfx_session.proofs.Turning.{with_queued, queued_in_step, ended_turn, turn, turned_is, same_script, still_spent, unqueued, unsent}
 use Rattle.gfx_session.proofs.server_end.ServerEnd.serve.Goals as goal
@@ -17,16 +18,22 @@ returns-in_err-last-clause-serves g c =
     let p = err_from_is_err_and c.from_residual.result c.from_residual.ensures.1 in
     rw p.1 (unqueued c.args.self.now c.queue_frame.new.window _ [] c.args.out.now p.0 c.if-self.false c.in_err-last.ensures)
 
+pub returns-in_err-last-clause-is : goal.returns-in_err-last-clause-is
+returns-in_err-last-clause-is g c = spent_end c.args.self.now _ c.requires refl refl
+
 pub send_frame-requires-clause-may : goal.send_frame-requires-clause-may
 send_frame-requires-clause-may g c =
     let mid = with_queued c.args.self.now c.in_ok-last.last c.queue_frame.new.window in
-    may_frame mid c.requires.good (queued_in_step c.args.self.now c.in_ok-last.last _ _ c.queue_frame.new.window (c.requires.in_step c.if-self.false) c.in_ok-last.ensures)
+    may_frame mid (queued_in_step c.args.self.now c.in_ok-last.last _ _ c.queue_frame.new.window (c.requires.in_step c.if-self.false) c.in_ok-last.ensures)
 
 pub returns-in_err-sent-clause-serves : goal.returns-in_err-sent-clause-serves
 returns-in_err-sent-clause-serves g c =
     let p = err_from_is_err_and c.from_residual-in_err-sent.result c.from_residual-in_err-sent.ensures.1 in
     rw p.1 (unsent c.args.self.now c.send_frame.new.self c.in_ok-last.last _ _ c.queue_frame.new.window c.args.out.now c.send_frame.new.out p.0 c.in_err-sent.field-0.0
     c.requires c.if-self.false c.in_ok-last.ensures c.in_err-sent.ensures)
+
+pub returns-in_err-sent-clause-is : goal.returns-in_err-sent-clause-is
+returns-in_err-sent-clause-is g c = spent_end c.args.self.now c.send_frame.new.self c.requires c.in_err-sent.ensures.1 c.in_err-sent.ensures.2
 
 pub returns-clause-serves : goal.returns-clause-serves
 returns-clause-serves g c =

@@ -29,3 +29,15 @@ returns-clause-is c =
     (c.in_ok-note_all.ensures.acks ∙ ap (λ z. old.acks ++ paired z old.drawn.items) c.as_slice.ensures.value)
     (c.in_ok-note_all.ensures.drawn ∙ ap (λ z. drop (length z) old.drawn.items) c.as_slice.ensures.value)
     (ap not c.is_empty-moved.ensures))
+
+pub returns-in_err-hear_bytes-clause-is : goal.returns-in_err-hear_bytes-clause-is
+returns-in_err-hear_bytes-clause-is c = record { server = c.hear_bytes.ensures.is c.requires.is.server; under_way = λ fresh. absurd cc }
+
+pub returns-in_err-pass-clause-is : goal.returns-in_err-pass-clause-is
+returns-in_err-pass-clause-is c = record { server = c.hear_bytes.ensures.is c.requires.is.server; under_way = λ fresh. absurd cc }
+
+pub returns-in_err-put-clause-is : goal.returns-in_err-put-clause-is
+returns-in_err-put-clause-is c = record { server = c.hear_bytes.ensures.is c.requires.is.server; under_way = λ fresh. absurd cc }
+
+pub returns-in_err-note_all-clause-is : goal.returns-in_err-note_all-clause-is
+returns-in_err-note_all-clause-is c = record { server = c.hear_bytes.ensures.is c.requires.is.server; under_way = λ fresh. absurd cc }

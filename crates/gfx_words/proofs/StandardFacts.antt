@@ -12,7 +12,7 @@ pub no_command : (accepted [] ≡ None) × (accepted (codes "--help" ∷ []) ≡
 unfolding clap_on_literals accepted plain_command output_command number_of
 no_command = (refl, refl, refl, refl, refl, refl)
 
-pub usage_line : USAGE.now ≡ codes "usage: gfxpipe encode | render [--output] | audit | session | make N | trial N | fragment | join"
+pub usage_line : USAGE.now ≡ codes "usage: gfxpipe encode | render [--output] | audit | session | make N | trial N | import | fragment | join"
 usage_line = refl
 
 pub numbers : (number_of (codes "0") ≡ Some 0) × (number_of (codes "0000000007") ≡ Some 7)

@@ -18,7 +18,7 @@ use Rattle.gfx_words.proofs.NumberLemmas.{begins_with_digit}
 use Rattle.gfx_words.specs.Laws.{IsNameAlone, IsNameAndFlag, IsNameAndNumber, IsNameThenText, OnlyNameAndNumberAreCommand, OnlyNameIsCommand, OnlyNamesAndNumbersAreCommands, OnlyNamesAreCommands, OnlyRenderAndFlagAreRenderOutput}
 use Rattle.gfx_words.specs.Table.{command_named, number_of, numbered_command, output_command, plain_command}
 use Rattle.gfx_words.specs.declared.table.Command.{Command}
-use Rattle.gfx_words.specs.declared.table.Command.TheVariants.{Audit, Encode, Fragment, Join, Make, Render, RenderOutput, Session, Trial}
+use Rattle.gfx_words.specs.declared.table.Command.TheVariants.{Audit, Encode, Fragment, Import, Join, Make, Render, RenderOutput, Session, Trial}
 
 -- ---- the walk as an answer
 
@@ -412,6 +412,7 @@ IsPlainName Audit a = a ≡ codes "audit"
 IsPlainName Session a = a ≡ codes "session"
 IsPlainName (Make n) a = ⊥
 IsPlainName (Trial n) a = ⊥
+IsPlainName Import a = a ≡ codes "import"
 IsPlainName Fragment a = a ≡ codes "fragment"
 IsPlainName Join a = a ≡ codes "join"
 
@@ -424,6 +425,7 @@ IsFlagName Audit a = ⊥
 IsFlagName Session a = ⊥
 IsFlagName (Make n) a = ⊥
 IsFlagName (Trial n) a = ⊥
+IsFlagName Import a = ⊥
 IsFlagName Fragment a = ⊥
 IsFlagName Join a = ⊥
 
@@ -436,6 +438,7 @@ IsNumberName Audit n a = ⊥
 IsNumberName Session n a = ⊥
 IsNumberName (Make m) n a = (a ≡ codes "make") × (n ≡ m)
 IsNumberName (Trial m) n a = (a ≡ codes "trial") × (n ≡ m)
+IsNumberName Import n a = ⊥
 IsNumberName Fragment n a = ⊥
 IsNumberName Join n a = ⊥
 
@@ -453,24 +456,30 @@ plain_in_table c a is = by_encode (bytes_eq a (codes "encode")) refl is
     by_fragment true same e = subst (λ k. IsPlainName k a) (same_command Fragment c e) ((bytes_eq-Decides a (codes "fragment")).0 same)
     by_fragment false same e = by_join (bytes_eq a (codes "join")) refl e
 
-    by_session : (b : Bool) → bytes_eq a (codes "session") ≡ b → (if b then Some Session else if bytes_eq a (codes "fragment") then Some Fragment else if bytes_eq a (codes "join") then Some Join else None) ≡ Some c → IsPlainName c a
+    by_import : (b : Bool) → bytes_eq a (codes "import") ≡ b
+        → (if b then Some Import else if bytes_eq a (codes "fragment") then Some Fragment else if bytes_eq a (codes "join") then Some Join else None) ≡ Some c
+        → IsPlainName c a
+    by_import true same e = subst (λ k. IsPlainName k a) (same_command Import c e) ((bytes_eq-Decides a (codes "import")).0 same)
+    by_import false same e = by_fragment (bytes_eq a (codes "fragment")) refl e
+
+    by_session : (b : Bool) → bytes_eq a (codes "session") ≡ b → (if b then Some Session else if bytes_eq a (codes "import") then Some Import else if bytes_eq a (codes "fragment") then Some Fragment else if bytes_eq a (codes "join") then Some Join else None) ≡ Some c → IsPlainName c a
     by_session true same e = subst (λ k. IsPlainName k a) (same_command Session c e) ((bytes_eq-Decides a (codes "session")).0 same)
-    by_session false same e = by_fragment (bytes_eq a (codes "fragment")) refl e
+    by_session false same e = by_import (bytes_eq a (codes "import")) refl e
 
     by_audit : (b : Bool) → bytes_eq a (codes "audit") ≡ b
-        → (if b then Some Audit else if bytes_eq a (codes "session") then Some Session else if bytes_eq a (codes "fragment") then Some Fragment else if bytes_eq a (codes "join") then Some Join else None) ≡ Some c
+        → (if b then Some Audit else if bytes_eq a (codes "session") then Some Session else if bytes_eq a (codes "import") then Some Import else if bytes_eq a (codes "fragment") then Some Fragment else if bytes_eq a (codes "join") then Some Join else None) ≡ Some c
         → IsPlainName c a
     by_audit true same e = subst (λ k. IsPlainName k a) (same_command Audit c e) ((bytes_eq-Decides a (codes "audit")).0 same)
     by_audit false same e = by_session (bytes_eq a (codes "session")) refl e
 
     by_render : (b : Bool) → bytes_eq a (codes "render") ≡ b
-        → (if b then Some Render else if bytes_eq a (codes "audit") then Some Audit else if bytes_eq a (codes "session") then Some Session else if bytes_eq a (codes "fragment") then Some Fragment else if bytes_eq a (codes "join") then Some Join else None) ≡ Some c
+        → (if b then Some Render else if bytes_eq a (codes "audit") then Some Audit else if bytes_eq a (codes "session") then Some Session else if bytes_eq a (codes "import") then Some Import else if bytes_eq a (codes "fragment") then Some Fragment else if bytes_eq a (codes "join") then Some Join else None) ≡ Some c
         → IsPlainName c a
     by_render true same e = subst (λ k. IsPlainName k a) (same_command Render c e) ((bytes_eq-Decides a (codes "render")).0 same)
     by_render false same e = by_audit (bytes_eq a (codes "audit")) refl e
 
     by_encode : (b : Bool) → bytes_eq a (codes "encode") ≡ b
-        → (if b then Some Encode else if bytes_eq a (codes "render") then Some Render else if bytes_eq a (codes "audit") then Some Audit else if bytes_eq a (codes "session") then Some Session else if bytes_eq a (codes "fragment") then Some Fragment else if bytes_eq a (codes "join") then Some Join else None) ≡ Some c
+        → (if b then Some Encode else if bytes_eq a (codes "render") then Some Render else if bytes_eq a (codes "audit") then Some Audit else if bytes_eq a (codes "session") then Some Session else if bytes_eq a (codes "import") then Some Import else if bytes_eq a (codes "fragment") then Some Fragment else if bytes_eq a (codes "join") then Some Join else None) ≡ Some c
         → IsPlainName c a
     by_encode true same e = subst (λ k. IsPlainName k a) (same_command Encode c e) ((bytes_eq-Decides a (codes "encode")).0 same)
     by_encode false same e = by_render (bytes_eq a (codes "render")) refl e
@@ -554,8 +563,11 @@ only_names_are_commands = (
       (
         by_name (codes "session") Session (λ a is. is) (λ a is. is) (λ n a is. is) (refl, (refl, refl)),
         (
-          by_name (codes "fragment") Fragment (λ a is. is) (λ a is. is) (λ n a is. is) (refl, (refl, refl)),
-          by_name (codes "join") Join (λ a is. is) (λ a is. is) (λ n a is. is) (refl, (refl, refl)),
+          by_name (codes "import") Import (λ a is. is) (λ a is. is) (λ n a is. is) (refl, (refl, refl)),
+          (
+            by_name (codes "fragment") Fragment (λ a is. is) (λ a is. is) (λ n a is. is) (refl, (refl, refl)),
+            by_name (codes "join") Join (λ a is. is) (λ a is. is) (λ n a is. is) (refl, (refl, refl)),
+          ),
         ),
       ),
     ),

@@ -4,7 +4,7 @@ use Rattle.clap.specs.Words.{Text}
 use Rattle.gfx_words.specs.CommandLine.{accepted}
 use Rattle.gfx_words.specs.Table.{number_of}
 use Rattle.gfx_words.specs.declared.table.Command.{Command}
-use Rattle.gfx_words.specs.declared.table.Command.TheVariants.{Audit, Encode, Fragment, Join, Make, Render, RenderOutput, Session, Trial}
+use Rattle.gfx_words.specs.declared.table.Command.TheVariants.{Audit, Encode, Fragment, Import, Join, Make, Render, RenderOutput, Session, Trial}
 
 -- the words are the name alone, or with the mark `--` before or behind it
 abbrev pub IsNameAlone : Text → List Text → Type 0
@@ -20,7 +20,8 @@ abbrev pub OnlyNamesAreCommands : Type 0
 OnlyNamesAreCommands =
     OnlyNameIsCommand (codes "encode") Encode × (OnlyNameIsCommand (codes "render") Render
     × (OnlyNameIsCommand (codes "audit") Audit × (OnlyNameIsCommand (codes "session") Session
-    × (OnlyNameIsCommand (codes "fragment") Fragment × OnlyNameIsCommand (codes "join") Join))))
+    × (OnlyNameIsCommand (codes "import") Import
+    × (OnlyNameIsCommand (codes "fragment") Fragment × OnlyNameIsCommand (codes "join") Join)))))
 
 -- the words are the name and the flag `--output` in either order, with the mark `--` at most once
 -- and behind the flag

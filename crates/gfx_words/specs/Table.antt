@@ -6,7 +6,7 @@ use Rattle.std.specs.List.{list_all}
 use Rattle.std.specs.Str.{bytes_eq}
 use Rattle.std.specs.Str.Parse.{digits_value}
 use Rattle.gfx_words.specs.declared.table.Command.{Command}
-use Rattle.gfx_words.specs.declared.table.Command.TheVariants.{Audit, Encode, Fragment, Join, Make, Render, RenderOutput, Session, Trial}
+use Rattle.gfx_words.specs.declared.table.Command.TheVariants.{Audit, Encode, Fragment, Import, Join, Make, Render, RenderOutput, Session, Trial}
 
 -- the command that a name alone is
 unfoldable pub plain_command : List ℕ → Option Command
@@ -14,6 +14,7 @@ plain_command name = if bytes_eq name (codes "encode") then Some Encode
     else if bytes_eq name (codes "render") then Some Render
     else if bytes_eq name (codes "audit") then Some Audit
     else if bytes_eq name (codes "session") then Some Session
+    else if bytes_eq name (codes "import") then Some Import
     else if bytes_eq name (codes "fragment") then Some Fragment
     else if bytes_eq name (codes "join") then Some Join else None
 

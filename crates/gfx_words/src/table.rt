@@ -6,7 +6,7 @@ ghost use Rattle.gfx_words.specs.Table.{command_named, is_numeral, number_of, nu
 
 /// The line that a caller prints where the words are no command, without its newline.
 pub const USAGE: &str =
-    "usage: gfxpipe encode | render [--output] | audit | session | make N | trial N | fragment | join";
+    "usage: gfxpipe encode | render [--output] | audit | session | make N | trial N | import | fragment | join";
 
 /// A number is written with at most so many digits.
 const MOST_DIGITS: usize = 10;
@@ -28,6 +28,9 @@ pub enum Command {
     Make(u32),
     /// Plays the session of the script of a number and writes a line of its last acknowledgement.
     Trial(u32),
+    /// Reads two files of kept bitmaps and a script, plays its session, which begins with them, and writes a line for each
+    /// acknowledged frame.
+    Import,
     /// Reads a stream of channel messages and writes its recording of fragments.
     Fragment,
     /// Reads a recording of fragments and writes its stream of channel messages.
@@ -60,6 +63,7 @@ fn plain_command(name: &str) -> Option<Command>
         "render" => Some(Command::Render),
         "audit" => Some(Command::Audit),
         "session" => Some(Command::Session),
+        "import" => Some(Command::Import),
         "fragment" => Some(Command::Fragment),
         "join" => Some(Command::Join),
         _ => None,

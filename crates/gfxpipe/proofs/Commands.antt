@@ -23,7 +23,7 @@ use Rattle.gfx_state.specs.State.{State}
 use Rattle.gfx_state.proofs.Runs.{eats-nil}
 use Rattle.gfx_surface_map.specs.Shown.{Shown}
 use Rattle.gfx_words.specs.declared.table.Command.{Command}
-use Rattle.gfx_words.specs.declared.table.Command.TheVariants.{Render, RenderOutput, Audit, Encode, Session, Make, Trial, Fragment, Join}
+use Rattle.gfx_words.specs.declared.table.Command.TheVariants.{Render, RenderOutput, Audit, Encode, Session, Make, Trial, Import, Fragment, Join}
 use Rattle.gfxpipe.specs.declared.ending.Ending.{Ending}
 use Rattle.gfxpipe.specs.declared.outcome.Outcome.{Outcome}
 use Rattle.gfxpipe.specs.declared.recording.Player.{Player}
@@ -31,8 +31,9 @@ use Rattle.gfxpipe.specs.declared.render.Dump.{Dump}
 use Rattle.gfxpipe.specs.declared.trouble.Trouble.{Trouble}
 use Rattle.gfxpipe.specs.declared.trouble.Trouble.TheVariants as trouble
 use Rattle.gfxpipe.specs.Did.{IsNotRefused, IsReadWhole, IsUnread, trouble_of}
-use Rattle.gfxpipe.specs.Due.{shown, played, found_in, found_for}
+use Rattle.gfxpipe.specs.Due.{shown, played, found_in, found_for, from_scratch_or, scratch_in}
 use Rattle.gfxpipe.specs.Dump.{dump_of, Prints}
+use Rattle.gfxpipe.specs.Imports.{kept_in}
 use Rattle.gfxpipe.specs.Outcome.{ended_of, session_of}
 use Rattle.gfxpipe.specs.Recording.{ending_by}
 use Rattle.gfxpipe.specs.Rule.{Limits, Source, Nothing, From, Rule, DoesBy}
@@ -41,6 +42,7 @@ use Rattle.gfxpipe.specs.Run.{Executes}
 use Rattle.gfxpipe.proofs.Encoding.{nothing_written}
 use Rattle.gfxpipe.proofs.Encoding.{unasked as no_stream}
 use Rattle.gfxpipe.proofs.Sessions.{unasked as no_session}
+use Rattle.gfxpipe.proofs.Importing.{fine_first}
 use Rattle.gfxpipe.proofs.Recordings.{Plays, Refuses, told, tells}
 
 -- nothing was begun -----------------------------------------------------------------------------------
@@ -57,35 +59,41 @@ FineNone (From input) = input.is_fine []
 record IsIdle (rule : Rule) : Type 0 where
   fine : FineNone rule.reads
   writes : (m : ℕ) (held : Option (List ℕ)) (text : List ℕ) → rule.writes_on (change m m held held) text
-  answers : (choosers : List Chooser) (bytes : List ℕ) → rule.answers (Err trouble.Memory) choosers None bytes
+  answers : (choosers : List Chooser) (limit : ℕ) (bytes : List ℕ) → rule.answers (Err trouble.Memory) choosers None limit bytes
   leaves : (choosers : List Chooser) (limit m : ℕ) (held : Option (List ℕ)) (bytes : List ℕ) → rule.leaves (Err trouble.Memory) choosers choosers limit bytes (change m m held held)
 
 -- `fragment` and `join`
 idle_work : (find : List ℕ → Found) → IsFinder find → IsIdle (working find)
-idle_work find law = record { fine = law.fine_first; writes = λ m held text. nothing_written text m held; answers = λ choosers bytes. refl; leaves = λ choosers limit m held bytes. refl }
+idle_work find law = record { fine = law.fine_first; writes = λ m held text. nothing_written text m held; answers = λ choosers limit bytes. refl; leaves = λ choosers limit m held bytes. refl }
 
 idle : (command : Command) → IsIdle (rule_of command)
-idle Render = record { fine = fine_none; writes = λ m held text. Gains_none m held; answers = λ choosers bytes. refl; leaves = λ choosers limit m held bytes. refl }
-idle RenderOutput = record { fine = fine_none; writes = λ m held text. Gains_none m held; answers = λ choosers bytes. refl; leaves = λ choosers limit m held bytes. refl }
-idle Audit = record { fine = fine_none; writes = λ m held text. nothing_written text m held; answers = λ choosers bytes. refl; leaves = λ choosers limit m held bytes. refl }
+idle Render = record { fine = fine_none; writes = λ m held text. Gains_none m held; answers = λ choosers limit bytes. refl; leaves = λ choosers limit m held bytes. refl }
+idle RenderOutput = record { fine = fine_none; writes = λ m held text. Gains_none m held; answers = λ choosers limit bytes. refl; leaves = λ choosers limit m held bytes. refl }
+idle Audit = record { fine = fine_none; writes = λ m held text. nothing_written text m held; answers = λ choosers limit bytes. refl; leaves = λ choosers limit m held bytes. refl }
 idle Encode = record {
   fine = tt;
   writes = λ m held text. nothing_written text m held;
-  answers = λ choosers bytes. refl;
+  answers = λ choosers limit bytes. refl;
   leaves = λ choosers limit m held bytes. no_stream trouble.Memory (found_in limit bytes) choosers m held;
 }
 idle Session = record {
   fine = tt;
   writes = λ m held text. Gains_none m held;
-  answers = λ choosers bytes. refl;
-  leaves = λ choosers limit m held bytes. no_session trouble.Memory (found_in limit bytes) choosers;
+  answers = λ choosers limit bytes. refl;
+  leaves = λ choosers limit m held bytes. no_session trouble.Memory (scratch_in limit bytes) choosers;
 }
-idle (Make number) = record { fine = tt; writes = λ m held text. Gains_none m held; answers = λ choosers bytes. refl; leaves = λ choosers limit m held bytes. refl }
+idle (Make number) = record { fine = tt; writes = λ m held text. Gains_none m held; answers = λ choosers limit bytes. refl; leaves = λ choosers limit m held bytes. refl }
 idle (Trial number) = record {
   fine = tt;
   writes = λ m held text. Gains_none m held;
-  answers = λ choosers bytes. refl;
-  leaves = λ choosers limit m held bytes. no_session trouble.Memory (found_for number) choosers;
+  answers = λ choosers limit bytes. refl;
+  leaves = λ choosers limit m held bytes. no_session trouble.Memory (from_scratch_or (found_for number)) choosers;
+}
+idle Import = record {
+  fine = fine_first;
+  writes = λ m held text. Gains_none m held;
+  answers = λ choosers limit bytes. refl;
+  leaves = λ choosers limit m held bytes. no_session trouble.Memory (kept_in limit bytes) choosers;
 }
 idle Fragment = idle_work fragmented fragments_found
 idle Join = idle_work joined joins_found
@@ -100,10 +108,10 @@ reads_none is_fine allowed n left fine = record { taken = []; few = omega arith;
 none_done : (source : Source) (rule : Rule) (choosers : List Chooser) (bounds : Limits) (n m : ℕ) (left held : Option (List ℕ)) → FineNone source → IsIdle rule
     → DoesBy source (Err trouble.Memory) None rule choosers choosers bounds (change n n left left) (change m m held held)
 none_done Nothing rule choosers bounds n m left held fine idle =
-    record { unread = unread n left; ends = idle.writes m held _; answers = idle.answers choosers []; leaves = idle.leaves choosers 0 m held [] }
+    record { unread = unread n left; ends = idle.writes m held _; answers = idle.answers choosers 0 []; leaves = idle.leaves choosers 0 m held [] }
 none_done (From input) rule choosers bounds n m left held fine idle = (
   (reads_none input.is_fine (input.allowed (input.limit bounds)) n left fine, (refl, idle.writes m held _)),
-  idle.answers choosers _,
+  idle.answers choosers (input.limit bounds) _,
   idle.leaves choosers (input.limit bounds) m held _,
 )
 

@@ -41,7 +41,7 @@ not_read trouble.Memory choosers limit m i held (reads, count) =
 pub no_script : (ending : Ending) (choosers : List Chooser) (limit m : ℕ) (i : Change) (held : Option (List ℕ)) → ReadsScript (Ok (Err ending)) limit i
     → DidAll (Ok ending) None encoding script_input choosers choosers limit i (change m m held held)
 no_script ending choosers limit m i held (reads, count, all, is) = (
-  (reads, ends_none ending WritesPart (stream_text choosers) limit m i held (input_of reads) count all is),
+  (reads, ends_none ending WritesPart (stream_text choosers) m i held (found_in limit (input_of reads)) count all is),
   refl,
   subst (λ z. LeavesStream (Ok ending) z choosers choosers (change m m held held)) (sym is) refl,
 )
@@ -51,12 +51,12 @@ pub not_streamed : (t : Trouble) (choosers left : List Chooser) (limit : ℕ) (i
     → DidAll (Err t) None encoding script_input choosers left limit i o
 not_streamed trouble.Read choosers left limit i o script reads never = absurd never
 not_streamed trouble.Write choosers left limit i o script (reads, count, all, is) (fails, ahead) = (
-  (reads, ends_broken WritesPart (stream_text choosers) limit i o script (input_of reads) count is fails),
+  (reads, ends_broken WritesPart (stream_text choosers) i o script (found_in limit (input_of reads)) count is fails),
   refl,
   subst (λ z. LeavesStream (Err trouble.Write) z choosers left o) (sym is) ahead,
 )
 not_streamed trouble.Memory choosers left limit i o script (reads, count, all, is) (falls, part, ahead) = (
-  (reads, ends_starved WritesPart (stream_text choosers) limit i o script (input_of reads) count is (falls, part)),
+  (reads, ends_starved WritesPart (stream_text choosers) i o script (found_in limit (input_of reads)) count is (falls, part)),
   refl,
   subst (λ z. LeavesStream (Err trouble.Memory) z choosers left o) (sym is) ahead,
 )
@@ -65,7 +65,7 @@ not_streamed trouble.Memory choosers left limit i o script (reads, count, all, i
 pub streamed : (choosers left : List Chooser) (limit : ℕ) (i o : Change) (script : Script) → ReadsScript (Ok (Ok script)) limit i → WritesStream (Ok tt) script choosers left o
     → DidAll (Ok Done) None encoding script_input choosers left limit i o
 streamed choosers left limit i o script (reads, count, all, is) (gains, alike) = (
-  (reads, ends_written WritesPart (stream_text choosers) limit i o script (input_of reads) count all is gains),
+  (reads, ends_written WritesPart (stream_text choosers) i o script (found_in limit (input_of reads)) count all is gains),
   refl,
   subst (λ z. LeavesStream (Ok Done) z choosers left o) (sym is) alike,
 )

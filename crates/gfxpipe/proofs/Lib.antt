@@ -11,3 +11,4 @@ pub mod Agreeing
 pub mod Planning
 pub mod Shown
 pub mod Numbers
+pub mod Importing

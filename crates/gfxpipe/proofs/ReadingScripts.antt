@@ -71,7 +71,7 @@ pub too_long : (limit : ℕ) (i : Change) (text : List ℕ) → ReadsInput Holds
 too_long limit i text (reads, count, (over, is)) = (reads, count, tt, found_long limit (input_of reads) over)
 
 -- a run that ends by its text has read all of it
-read_to_end : (ending : Ending) (i : Change) → rest_of i.new ≡ [] → IsReadWhole ending i
+pub read_to_end : (ending : Ending) (i : Change) → rest_of i.new ≡ [] → IsReadWhole ending i
 read_to_end Done i all = all
 read_to_end (Faulty step kind) i all = all
 read_to_end other i all = tt
@@ -96,23 +96,23 @@ pub ends_unread : (writes_on : Change → List ℕ → Type 0) (d : Due) (i : Ch
 ends_unread writes_on d i m held falls rose = (falls, rose, Gains_none m held)
 
 -- what was read is none
-pub ends_none : (ending : Ending) (writes_on : Change → List ℕ → Type 0) (text : Script → List ℕ) (limit m : ℕ) (i : Change) (held : Option (List ℕ)) (bytes : List ℕ) → NoFault i → IsReadWhole ending i
-    → found_in limit bytes ≡ Err ending → Ends (Ok ending) WritesNothing writes_on (scripted text (found_in limit bytes)) i (change m m held held)
-ends_none ending writes_on text limit m i held bytes count all is =
+pub ends_none : {X : Type 0} (ending : Ending) (writes_on : Change → List ℕ → Type 0) (text : X → List ℕ) (m : ℕ) (i : Change) (held : Option (List ℕ)) (found : Result X Ending) → NoFault i → IsReadWhole ending i
+    → found ≡ Err ending → Ends (Ok ending) WritesNothing writes_on (scripted text found) i (change m m held held)
+ends_none ending writes_on text m i held found count all is =
     (ap (λ z. (scripted text z).ending) (sym is), count, all, subst (λ z. Gains (change m m held held) (scripted text z).text) (sym is) (Gains_none m held))
 
 -- what is due of it was written
-pub ends_written : (writes_on : Change → List ℕ → Type 0) (text : Script → List ℕ) (limit : ℕ) (i o : Change) (script : Script) (bytes : List ℕ) → NoFault i → IsReadWhole Done i → found_in limit bytes ≡ Ok script
-    → Gains o (text script) → Ends (Ok Done) WritesNothing writes_on (scripted text (found_in limit bytes)) i o
-ends_written writes_on text limit i o script bytes count all is gains =
+pub ends_written : {X : Type 0} (writes_on : Change → List ℕ → Type 0) (text : X → List ℕ) (i o : Change) (x : X) (found : Result X Ending) → NoFault i → IsReadWhole Done i → found ≡ Ok x
+    → Gains o (text x) → Ends (Ok Done) WritesNothing writes_on (scripted text found) i o
+ends_written writes_on text i o x found count all is gains =
     (ap (λ z. (scripted text z).ending) (sym is), count, all, subst (λ z. Gains o (scripted text z).text) (sym is) gains)
 
 -- a write failed
-pub ends_broken : (writes_on : Change → List ℕ → Type 0) (text : Script → List ℕ) (limit : ℕ) (i o : Change) (script : Script) (bytes : List ℕ) → NoFault i → found_in limit bytes ≡ Ok script
-    → FailsAfter o (text script) → Ends (Err trouble.Write) WritesNothing writes_on (scripted text (found_in limit bytes)) i o
-ends_broken writes_on text limit i o script bytes count is fails = (count, subst (λ z. FailsAfter o (scripted text z).text) (sym is) fails)
+pub ends_broken : {X : Type 0} (writes_on : Change → List ℕ → Type 0) (text : X → List ℕ) (i o : Change) (x : X) (found : Result X Ending) → NoFault i → found ≡ Ok x
+    → FailsAfter o (text x) → Ends (Err trouble.Write) WritesNothing writes_on (scripted text found) i o
+ends_broken writes_on text i o x found count is fails = (count, subst (λ z. FailsAfter o (scripted text z).text) (sym is) fails)
 
 -- no memory is left
-pub ends_starved : (writes_on : Change → List ℕ → Type 0) (text : Script → List ℕ) (limit : ℕ) (i o : Change) (script : Script) (bytes : List ℕ) → NoFault i → found_in limit bytes ≡ Ok script
-    → writes_on o (text script) → Ends (Err trouble.Memory) WritesNothing writes_on (scripted text (found_in limit bytes)) i o
-ends_starved writes_on text limit i o script bytes count is writes = (count, subst (λ z. writes_on o (scripted text z).text) (sym is) writes)
+pub ends_starved : {X : Type 0} (writes_on : Change → List ℕ → Type 0) (text : X → List ℕ) (i o : Change) (x : X) (found : Result X Ending) → NoFault i → found ≡ Ok x
+    → writes_on o (text x) → Ends (Err trouble.Memory) WritesNothing writes_on (scripted text found) i o
+ends_starved writes_on text i o x found count is writes = (count, subst (λ z. writes_on o (scripted text z).text) (sym is) writes)

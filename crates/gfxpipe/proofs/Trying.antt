@@ -3,11 +3,13 @@ use Rattle.std.proofs.Common.{◌≡◌, ℕ, ◌-◌, List, [], ◌∷◌, leng
 use Rattle.std.specs.List.{slice_get, last_or}
 use Rattle.std.specs.Option.{option_map}
 use Rattle.std.proofs.lemmas.List.{length-map}
-use Rattle.gfx_base.specs.Stream.{Change, Gains, FailsAfter, Writes}
+use Rattle.gfx_base.specs.Stream.{Change, change, Gains, FailsAfter, Writes}
+use Rattle.gfx_base.proofs.Streams.{Gains_none}
 use Rattle.gfx_chooser.specs.Choosing.{Chooser, AreAlike}
 use Rattle.gfx_chooser.specs.Kinded.{left_of}
 use Rattle.gfx_generator.specs.Script.{script_text}
 use Rattle.gfx_report.specs.Texts.{trial_line}
+use Rattle.gfx_schedule.specs.Starts.{from_nothing}
 use Rattle.gfx_schedule.specs.World.{Acknowledged}
 use Rattle.gfx_script.specs.Script.{IsAccepted}
 use Rattle.gfx_script.specs.Scripted.{Script}
@@ -21,10 +23,10 @@ use Rattle.gfxpipe.specs.declared.ending.Ending.{Ending}
 use Rattle.gfxpipe.specs.declared.ending.Ending.TheVariants.{Done}
 use Rattle.gfxpipe.specs.declared.trouble.Trouble.TheVariants as trouble
 use Rattle.gfxpipe.specs.Did.{EndsUnread, WritesNothing}
-use Rattle.gfxpipe.specs.Due.{accepted_or, found_for, scripted}
+use Rattle.gfxpipe.specs.Due.{accepted_or, found_for, from_scratch_or, scripted}
 use Rattle.gfxpipe.specs.Leaves.{LeavesSession}
 use Rattle.gfxpipe.specs.Scripts.{ReadsText}
-use Rattle.gfxpipe.specs.Sessions.{whole_session, trial_of, trial_text}
+use Rattle.gfxpipe.specs.Sessions.{Beginning, HasPlayed, IsBegun, IsWhole, beginning, from_scratch, whole_session, trial_of, trial_text}
 use Rattle.gfxpipe.specs.Trials.{Tries, kept_trial, acks_trial}
 
 -- the last acknowledgement ----------------------------------------------------------------------------------
@@ -53,9 +55,9 @@ line_of_all number acks =
     ap (λ n. kept_trial number n (last_or None (map acked_of acks))) (length-map acks acked_of) ∙ ap (kept_trial number (length acks)) (last-map acked_of None acks)
     ∙ kept_line number (length acks) (last_or None acks)
 
-line_is : (number : ℕ) (choosers : List Chooser) (script : Script) (session : Session) → Stands session (whole_session choosers script) → acks_trial number session.acks ≡ trial_text number choosers script
+line_is : (number : ℕ) (choosers : List Chooser) (b : Beginning) (session : Session) → Stands session (whole_session choosers b) → acks_trial number session.acks ≡ trial_text number choosers b
 unfolding trial_text
-line_is number choosers script session s = ap (acks_trial number) s.acks ∙ line_of_all number (whole_session choosers script).acks
+line_is number choosers b session s = ap (acks_trial number) s.acks ∙ line_of_all number (whole_session choosers b).acks
 
 -- where there is one it is the line that was to be written
 one_line : (number : ℕ) (acks : List Acked) (ack : Acked) → slice_get acks (length acks - 1) ≡ Some ack → acks_trial number acks ≡ trial_line number (length acks) ack.step ack.client ack.server
@@ -81,20 +83,31 @@ is_good number script is = accepted (script_text number) script (only_script (sc
 
 -- the parts of `trial` --------------------------------------------------------------------------------------
 
+-- no memory was left to begin its session, or to play it
+pub not_played : (number : ℕ) (choosers left : List Chooser) (script : Script) (m : ℕ) (held : Option (List ℕ)) → found_for number ≡ Ok script → Tries (Err trouble.Memory) None number choosers left (change m m held held)
+not_played number choosers left script m held is =
+    record { ends = Gains_none m held; answers = refl; leaves = subst (λ z. LeavesSession (Err trouble.Memory) z choosers left) (sym (ap from_scratch_or is)) tt }
+
 -- its line could not be written
-pub not_told : (number : ℕ) (choosers left : List Chooser) (script : Script) (session : Session) (o : Change) → found_for number ≡ Ok script → Stands session (whole_session choosers script)
-    → FailsAfter o (acks_trial number session.acks) → Tries (Err trouble.Write) None number choosers left o
-not_told number choosers left script session o is stands fails = record {
-  ends = subst (λ z. FailsAfter o (scripted (trial_text number choosers) z).text) (sym is) (subst (FailsAfter o) (line_is number choosers script session stands) fails);
-  answers = refl;
-  leaves = subst (λ z. LeavesSession (Err trouble.Write) z choosers left) (sym is) tt;
-}
+pub not_told : (number : ℕ) (choosers left : List Chooser) (script : Script) (session new : Session) (o : Change) → found_for number ≡ Ok script → sessions.script_of session ≡ script → IsBegun session (from_nothing script)
+    → HasPlayed session new choosers left → FailsAfter o (acks_trial number new.acks) → Tries (Err trouble.Write) None number choosers left o
+not_told number choosers left script session new o is same begun played fails =
+    let found : from_scratch_or (found_for number) ≡ Ok (from_scratch script) = ap from_scratch_or is in
+    let whole : IsWhole (Some new) choosers (from_scratch script) = subst (λ s. IsWhole (Some new) choosers (beginning (from_nothing script) s)) same (played.whole (from_nothing script) begun) in
+    record {
+      ends = subst (λ z. FailsAfter o (scripted (trial_text number choosers) z).text) (sym found) (subst (FailsAfter o) (line_is number choosers (from_scratch script) new whole.1) fails);
+      answers = refl;
+      leaves = subst (λ z. LeavesSession (Err trouble.Write) z choosers left) (sym found) tt;
+    }
 
 -- it was written
-pub told : (number : ℕ) (choosers left : List Chooser) (script : Script) (session : Session) (o : Change) → found_for number ≡ Ok script → sessions.script_of session ≡ script
-    → Stands session (whole_session choosers script) → AreAlike left (left_of script choosers) → Gains o (acks_trial number session.acks) → Tries (Ok Done) (Some session) number choosers left o
-told number choosers left script session o is same stands alike gains = record {
-  ends = subst (λ z. EndsUnread (Ok Done) WritesNothing (scripted (trial_text number choosers) z) o) (sym is) (refl, subst (Gains o) (line_is number choosers script session stands) gains);
-  answers = (script, only_script (script_of (script_text number)) script is, (same, stands));
-  leaves = subst (λ z. LeavesSession (Ok Done) z choosers left) (sym is) alike;
-}
+pub told : (number : ℕ) (choosers left : List Chooser) (script : Script) (session new : Session) (o : Change) → found_for number ≡ Ok script → sessions.script_of session ≡ script → IsBegun session (from_nothing script)
+    → HasPlayed session new choosers left → Gains o (acks_trial number new.acks) → Tries (Ok Done) (Some new) number choosers left o
+told number choosers left script session new o is same begun played gains =
+    let found : from_scratch_or (found_for number) ≡ Ok (from_scratch script) = ap from_scratch_or is in
+    let whole : IsWhole (Some new) choosers (from_scratch script) = subst (λ s. IsWhole (Some new) choosers (beginning (from_nothing script) s)) same (played.whole (from_nothing script) begun) in
+    record {
+      ends = subst (λ z. EndsUnread (Ok Done) WritesNothing (scripted (trial_text number choosers) z) o) (sym found) (refl, subst (Gains o) (line_is number choosers (from_scratch script) new whole.1) gains);
+      answers = (from_scratch script, found, whole);
+      leaves = subst (λ z. LeavesSession (Ok Done) z choosers left) (sym found) (subst (λ s. AreAlike left (left_of s choosers)) same played.leaves);
+    }

@@ -13,6 +13,7 @@ use Rattle.gfx_surface_map.specs.Shown.{Shown}
 use Rattle.gfxpipe.specs.declared.ending.Ending.{Ending}
 use Rattle.gfxpipe.specs.declared.ending.Ending.TheVariants.{Done, TooLong, Refused, Faulty}
 use Rattle.gfxpipe.specs.Audit.{told, held_lines}
+use Rattle.gfxpipe.specs.Sessions.{Beginning, from_scratch}
 
 pub record Due : Type 0 where
   pub text : List ℕ
@@ -62,9 +63,9 @@ accepted_or (Err wrong) = Err (Faulty wrong.step wrong.kind)
 unfoldable pub found_in : ℕ → List ℕ → Result Script Ending
 found_in limit bytes = if is_within limit bytes then accepted_or (script_of bytes) else Err TooLong
 
--- what is due of it, where this text is due of a script
-abbrev pub scripted : (Script → List ℕ) → Result Script Ending → Due
-scripted text (Ok script) = record { text = text script; ending = Done }
+-- what is due of what was found, where this text is due of it
+abbrev pub scripted : {X : Type 0} → (X → List ℕ) → Result X Ending → Due
+scripted text (Ok found) = record { text = text found; ending = Done }
 scripted text (Err ending) = record { text = []; ending = ending }
 
 -- the stream of a script, whose paints that name no kind go as these choosers choose
@@ -74,3 +75,12 @@ stream_text choosers script = stream_of script (kinded_steps script choosers)
 -- what the script of a number is found to be
 abbrev pub found_for : ℕ → Result Script Ending
 found_for number = accepted_or (script_of (script_text number))
+
+-- a script that was found, with what its session starts from: nothing
+abbrev pub from_scratch_or : Result Script Ending → Result Beginning Ending
+from_scratch_or (Ok script) = Ok (from_scratch script)
+from_scratch_or (Err ending) = Err ending
+
+-- the same of an input that is to be a script
+abbrev pub scratch_in : ℕ → List ℕ → Result Beginning Ending
+scratch_in limit bytes = from_scratch_or (found_in limit bytes)

@@ -28,6 +28,7 @@ status_of (Ok ending.Done) = status.Done
 status_of (Ok ending.Usage) = status.Usage
 status_of (Ok ending.TooLong) = status.Refused
 status_of (Ok (ending.Refused number r)) = status.Refused
+status_of (Ok (ending.Kept r)) = status.Refused
 status_of (Ok (ending.Faulty step k)) = status.Refused
 status_of (Err trouble.Read) = status.ReadFault
 status_of (Err trouble.Write) = status.WriteFault
@@ -37,6 +38,10 @@ status_of (Err trouble.Memory) = status.NoMemory
 unfoldable pub message_line : ℕ → Refusal → List ℕ
 message_line number r =
     codes "message " ++ (decimal number ++ (codes ": " ++ (decimal (number_of r) ++ (codes " " ++ (name_of r ++ codes "\n")))))
+
+-- the line of a refused file of kept bitmaps, as in `kept: 54 KeptShape`
+unfoldable pub kept_line : Refusal → List ℕ
+kept_line r = codes "kept: " ++ (decimal (number_of r) ++ (codes " " ++ (name_of r ++ codes "\n")))
 
 -- the step that is wrong, as in `step 2: `; nothing for a fault outside the steps
 abbrev pub at_step : ℕ → List ℕ
@@ -52,6 +57,7 @@ line_of (Ok ending.Done) = []
 line_of (Ok ending.Usage) = USAGE.now ++ codes "\n"
 line_of (Ok ending.TooLong) = codes "input: TooLong\n"
 line_of (Ok (ending.Refused number r)) = message_line number r
+line_of (Ok (ending.Kept r)) = kept_line r
 line_of (Ok (ending.Faulty step k)) = script_line step k
 line_of (Err trouble.Read) = codes "input: read failed\n"
 line_of (Err trouble.Write) = codes "output: write failed\n"

@@ -5,7 +5,7 @@ use Rattle.std.specs.List.{AllByRecursion}
 use Rattle.gfx_chooser.specs.Choosing.{Chooser}
 use Rattle.gfx_chooser.specs.Kinded.{kinded_steps}
 use Rattle.gfx_planner.specs.Want.{want}
-use Rattle.gfx_schedule.specs.Schedule.{KeepsWorld}
+use Rattle.gfx_schedule.specs.Schedule.{KeepsWorldFrom}
 use Rattle.gfx_schedule.specs.World.{Acknowledged}
 use Rattle.gfx_script.specs.Scripted.{Script}
 use Rattle.gfx_script_text.specs.Text.{script_of}
@@ -13,8 +13,9 @@ use Rattle.gfx_session.specs.Kept.{digest_in}
 use Rattle.gfxpipe.specs.declared.ending.Ending.TheVariants.{Done}
 use Rattle.gfxpipe.specs.declared.render.Dump.{Dump}
 use Rattle.gfxpipe.specs.Dump.{dump_of}
+use Rattle.gfxpipe.specs.Imports.{kept_in}
 use Rattle.gfxpipe.specs.Due.{shown, stream_text}
-use Rattle.gfxpipe.specs.Sessions.{whole_session}
+use Rattle.gfxpipe.specs.Sessions.{Beginning, from_scratch, whole_session}
 
 -- what a script wants of a dump, where these choosers are asked
 abbrev pub wanted_text : Dump → List Chooser → Script → List ℕ
@@ -32,13 +33,18 @@ EncodeThenRender =
 abbrev pub HasEqualDigests : Acknowledged → Type 0
 HasEqualDigests ack = digest_in ack.client ≡ digest_in ack.server
 
--- the session of a script that `session` prints, whatever choosers are asked: neither end refuses anything, the two ends are the same at
--- each acknowledged frame and show the script up to its recorded step, and so each line has equal digests
-pub record SessionAgrees (choosers : List Chooser) (script : Script) : Type 0 where
-  pub keeps : KeepsWorld script (kinded_steps script choosers) (whole_session choosers script)
-  pub equal : AllByRecursion HasEqualDigests (whole_session choosers script).acks
+-- a session that is printed, whatever choosers are asked: neither end refuses anything, the two ends are the same at each
+-- acknowledged frame and show the script up to its recorded step, and so each line has equal digests
+pub record SessionAgrees (choosers : List Chooser) (b : Beginning) : Type 0 where
+  pub keeps : KeepsWorldFrom b.start b.script (kinded_steps b.script choosers) (whole_session choosers b)
+  pub equal : AllByRecursion HasEqualDigests (whole_session choosers b).acks
 
 -- so for every script that is accepted
 abbrev pub EveryLineHasEqualDigests : Type 0
 EveryLineHasEqualDigests =
-    (text : List ℕ) (script : Script) (choosers : List Chooser) → script_of text ≡ Ok script → SessionAgrees choosers script
+    (text : List ℕ) (script : Script) (choosers : List Chooser) → script_of text ≡ Ok script → SessionAgrees choosers (from_scratch script)
+
+-- and for every session that `import` finds, whose two files agree
+abbrev pub EveryLineOfAnImportHasEqualDigests : Type 0
+EveryLineOfAnImportHasEqualDigests =
+    (limit : ℕ) (bytes : List ℕ) (b : Beginning) (choosers : List Chooser) → kept_in limit bytes ≡ Ok b → SessionAgrees choosers b

@@ -8,6 +8,7 @@ use Rattle.gfx_schedule.specs.ServerEnd.{first_frame}
 use Rattle.gfx_script.specs.Scripted.{Script}
 use Rattle.gfxpipe.specs.declared.ending.Ending.{Ending}
 use Rattle.gfxpipe.specs.declared.trouble.Trouble.{Trouble}
+use Rattle.gfxpipe.specs.Sessions.{Beginning}
 
 -- no chooser was asked of a step beyond the frame behind those that were written whole
 pub record AsksAhead (script : Script) (choosers left : List Chooser) (o : Change) : Type 0 where
@@ -28,7 +29,7 @@ LeavesStream (Err trouble) (Ok script) choosers left o = AsksAhead script choose
 LeavesStream ended (Err other) choosers left o = left ≡ choosers
 
 -- what a session leaves
-abbrev pub LeavesSession : Result Ending Trouble → Result Script Ending → List Chooser → List Chooser → Type 0
-LeavesSession (Ok ending) (Ok script) choosers left = AreAlike left (left_of script choosers)
-LeavesSession (Err trouble) (Ok script) choosers left = Unit {0}
+abbrev pub LeavesSession : Result Ending Trouble → Result Beginning Ending → List Chooser → List Chooser → Type 0
+LeavesSession (Ok ending) (Ok b) choosers left = AreAlike left (left_of b.script choosers)
+LeavesSession (Err trouble) (Ok b) choosers left = Unit {0}
 LeavesSession ended (Err other) choosers left = left ≡ choosers

@@ -4,6 +4,7 @@ pub mod Audit
 pub mod Due
 pub mod Leaves
 pub mod Fragments
+pub mod Imports
 pub mod Did
 pub mod Rule
 pub mod Rules

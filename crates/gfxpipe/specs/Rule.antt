@@ -41,8 +41,8 @@ pub record Rule : Type 1 where
   -- what it has written of that text where a read fails, and where memory runs out
   pub writes_unread : Change → List ℕ → Type 0
   pub writes_on : Change → List ℕ → Type 0
-  -- what session it answers that ended so, of its input
-  pub answers : Result Ending Trouble → List Chooser → Option Session → List ℕ → Type 0
+  -- what session it answers that ended so, of its input, of which so many bytes count
+  pub answers : Result Ending Trouble → List Chooser → Option Session → ℕ → List ℕ → Type 0
   -- what it leaves of the choosers, the second of these, of its input and by what it has written
   pub leaves : Result Ending Trouble → List Chooser → List Chooser → ℕ → List ℕ → Change → Type 0
 
@@ -55,14 +55,14 @@ Did ended rule input choosers limit i o =
 -- the same input
 abbrev pub DidAll : Result Ending Trouble → Option Session → Rule → Input → List Chooser → List Chooser → ℕ → Change → Change → Type 0
 DidAll ended answered rule input choosers left limit i o =
-    (did : Did ended rule input choosers limit i o) × rule.answers ended choosers answered (input_of did.0)
+    (did : Did ended rule input choosers limit i o) × rule.answers ended choosers answered limit (input_of did.0)
     × rule.leaves ended choosers left limit (input_of did.0) o
 
 -- what a command did that reads none, what session it answered, and what it left of the choosers
 pub record DidUnread (ended : Result Ending Trouble) (answered : Option Session) (rule : Rule) (choosers left : List Chooser) (i o : Change) : Type 0 where
   pub unread : IsUnread i
   pub ends : EndsUnread ended rule.writes_on (rule.due choosers 0 []) o
-  pub answers : rule.answers ended choosers answered []
+  pub answers : rule.answers ended choosers answered 0 []
   pub leaves : rule.leaves ended choosers left 0 [] o
 
 -- what a command did, by what it reads

@@ -5,7 +5,8 @@ use Rattle.gfx_fragments.specs.Due.{IsFine}
 use Rattle.gfx_fragments.specs.Found.{Found, fragmented, joined}
 use Rattle.gfx_generator.specs.Script.{script_text}
 use Rattle.gfx_input.specs.Taking.{fixed}
-use Rattle.gfx_script_text.specs.Text.{script_of}
+use Rattle.gfx_kept_input.specs.Allowed.{allowed}
+use Rattle.gfx_kept_input.specs.Due.{IsFine as IsNotWrong}
 use Rattle.gfx_words.specs.declared.table.Command.{Command}
 use Rattle.gfx_words.specs.declared.table.Command.TheVariants as command
 use Rattle.gfxpipe.specs.declared.ending.Ending.{Ending}
@@ -14,12 +15,13 @@ use Rattle.gfxpipe.specs.declared.render.Dump.{Dump}
 use Rattle.gfxpipe.specs.declared.render.Dump.TheVariants.{Surfaces, Output}
 use Rattle.gfxpipe.specs.declared.trouble.Trouble.{Trouble}
 use Rattle.gfxpipe.specs.Did.{IsNotRefused, IsAny, WritesNothing, WritesPart}
-use Rattle.gfxpipe.specs.Due.{shown, audited, scripted, found_in, found_for, stream_text}
+use Rattle.gfxpipe.specs.Due.{shown, audited, scripted, found_in, found_for, from_scratch_or, scratch_in, stream_text}
 use Rattle.gfxpipe.specs.Dump.{dump_of}
 use Rattle.gfxpipe.specs.Fragments.{worked}
+use Rattle.gfxpipe.specs.Imports.{kept_in}
 use Rattle.gfxpipe.specs.Leaves.{LeavesStream, LeavesSession}
 use Rattle.gfxpipe.specs.Rule.{Input, Nothing, From, Rule, Did}
-use Rattle.gfxpipe.specs.Sessions.{AnswersOf, session_text, trial_text}
+use Rattle.gfxpipe.specs.Sessions.{AnswersOf, Beginning, session_text, trial_text}
 
 -- a recording is read on as long as it isn't refused, and a script to its end
 abbrev pub recording_input : Input
@@ -27,6 +29,10 @@ recording_input = record { limit = λ limits. limits.stream; allowed = fixed; is
 
 abbrev pub script_input : Input
 script_input = record { limit = λ limits. limits.script; allowed = fixed; is_fine = IsAny }
+
+-- two files of kept bitmaps and a script, which alone counts, are read on as long as they aren't refused
+abbrev pub kept_input : Input
+kept_input = record { limit = λ limits. limits.script; allowed = allowed; is_fine = IsNotWrong }
 
 -- what is found in such an input, a stream or a recording of fragments, isn't refused
 abbrev pub item_input : (List ℕ → Found) → Input
@@ -39,7 +45,7 @@ rendering dump = record {
   due = λ choosers limit bytes. shown (dump_of dump) limit bytes;
   writes_unread = WritesNothing;
   writes_on = WritesNothing;
-  answers = λ ended choosers answered bytes. answered ≡ None;
+  answers = λ ended choosers answered limit bytes. answered ≡ None;
   leaves = λ ended choosers left limit bytes o. left ≡ choosers;
 }
 
@@ -50,7 +56,7 @@ auditing = record {
   due = λ choosers limit bytes. audited limit bytes;
   writes_unread = WritesPart;
   writes_on = WritesPart;
-  answers = λ ended choosers answered bytes. answered ≡ None;
+  answers = λ ended choosers answered limit bytes. answered ≡ None;
   leaves = λ ended choosers left limit bytes o. left ≡ choosers;
 }
 
@@ -61,20 +67,28 @@ encoding = record {
   due = λ choosers limit bytes. scripted (stream_text choosers) (found_in limit bytes);
   writes_unread = WritesNothing;
   writes_on = WritesPart;
-  answers = λ ended choosers answered bytes. answered ≡ None;
+  answers = λ ended choosers answered limit bytes. answered ≡ None;
   leaves = λ ended choosers left limit bytes o. LeavesStream ended (found_in limit bytes) choosers left o;
 }
 
--- `session`: a script is read whole, its session is played, and then its lines are written
-abbrev pub playing : Rule
-playing = record {
-  reads = From script_input;
-  due = λ choosers limit bytes. scripted (session_text choosers) (found_in limit bytes);
+-- a session is found in an input that is read whole, it is played, and then its lines are written
+abbrev pub playing_by : Input → (ℕ → List ℕ → Result Beginning Ending) → Rule
+playing_by input find = record {
+  reads = From input;
+  due = λ choosers limit bytes. scripted (session_text choosers) (find limit bytes);
   writes_unread = WritesNothing;
   writes_on = WritesNothing;
-  answers = λ ended choosers answered bytes. AnswersOf (script_of bytes) ended choosers answered;
-  leaves = λ ended choosers left limit bytes o. LeavesSession ended (found_in limit bytes) choosers left;
+  answers = λ ended choosers answered limit bytes. AnswersOf (find limit bytes) ended choosers answered;
+  leaves = λ ended choosers left limit bytes o. LeavesSession ended (find limit bytes) choosers left;
 }
+
+-- `session`: that of a script, from nothing
+abbrev pub playing : Rule
+playing = playing_by script_input scratch_in
+
+-- `import`: that of a script, from what is imported of two files of kept bitmaps
+abbrev pub importing : Rule
+importing = playing_by kept_input kept_in
 
 -- `make`: the script of a number is written once it is known whole
 abbrev pub making : ℕ → Rule
@@ -83,7 +97,7 @@ making number = record {
   due = λ choosers limit bytes. record { text = script_text number; ending = Done };
   writes_unread = WritesNothing;
   writes_on = WritesNothing;
-  answers = λ ended choosers answered bytes. answered ≡ None;
+  answers = λ ended choosers answered limit bytes. answered ≡ None;
   leaves = λ ended choosers left limit bytes o. left ≡ choosers;
 }
 
@@ -91,11 +105,11 @@ making number = record {
 abbrev pub trying : ℕ → Rule
 trying number = record {
   reads = Nothing;
-  due = λ choosers limit bytes. scripted (trial_text number choosers) (found_for number);
+  due = λ choosers limit bytes. scripted (trial_text number choosers) (from_scratch_or (found_for number));
   writes_unread = WritesNothing;
   writes_on = WritesNothing;
-  answers = λ ended choosers answered bytes. AnswersOf (script_of (script_text number)) ended choosers answered;
-  leaves = λ ended choosers left limit bytes o. LeavesSession ended (found_for number) choosers left;
+  answers = λ ended choosers answered limit bytes. AnswersOf (from_scratch_or (found_for number)) ended choosers answered;
+  leaves = λ ended choosers left limit bytes o. LeavesSession ended (from_scratch_or (found_for number)) choosers left;
 }
 
 -- `fragment` and `join`: a stream, or a recording of fragments, is worked off message by message while it is read
@@ -105,7 +119,7 @@ working find = record {
   due = λ choosers limit bytes. worked find limit bytes;
   writes_unread = WritesPart;
   writes_on = WritesPart;
-  answers = λ ended choosers answered bytes. answered ≡ None;
+  answers = λ ended choosers answered limit bytes. answered ≡ None;
   leaves = λ ended choosers left limit bytes o. left ≡ choosers;
 }
 
@@ -118,6 +132,7 @@ rule_of command.Encode = encoding
 rule_of command.Session = playing
 rule_of (command.Make number) = making number
 rule_of (command.Trial number) = trying number
+rule_of command.Import = importing
 rule_of command.Fragment = working fragmented
 rule_of command.Join = working joined
 

@@ -14,7 +14,7 @@ use Rattle.gfxpipe.specs.Rules.{trying}
 -- how it ended, what session it answered, and what it left of the choosers
 pub record Tries (ended : Result Ending Trouble) (answered : Option Session) (number : ℕ) (choosers left : List Chooser) (o : Change) : Type 0 where
   pub ends : EndsUnread ended (trying number).writes_on ((trying number).due choosers 0 []) o
-  pub answers : (trying number).answers ended choosers answered []
+  pub answers : (trying number).answers ended choosers answered 0 []
   pub leaves : (trying number).leaves ended choosers left 0 [] o
 
 -- the line of the last of these acknowledged frames, as a session keeps them

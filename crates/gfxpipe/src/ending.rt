@@ -1,7 +1,7 @@
 //! What a command comes to, and the line that says so.
 ghost use Rattle.std.specs.Prelude.{◌≡◌, ◌+◌, ◌≤◌, ◌++◌, length, codes};
 ghost use Rattle.gfx_base.specs.Stream.{Writes, change};
-ghost use Rattle.gfxpipe.specs.Ending.{status_of, line_of, message_line, script_line, at_step, Closes};
+ghost use Rattle.gfxpipe.specs.Ending.{status_of, line_of, message_line, kept_line, script_line, at_step, Closes};
 
 use crate::status::Status;
 use crate::trouble::Trouble;
@@ -21,6 +21,8 @@ pub enum Ending {
     TooLong,
     /// The message of this number, counted from 1, is refused.
     Refused { number: u64, refusal: Refusal },
+    /// The files of kept bitmaps are refused: one is none, or the two differ.
+    Kept(Refusal),
     /// This is wrong with the step of this number, counted from 1; 0 stands for a fault outside the steps.
     Faulty { step: u32, kind: ScriptKind },
 }
@@ -32,7 +34,8 @@ fn status_of(ended: &Result<Ending, Trouble>) -> Status
     match ended {
         Ok(Ending::Done) => Status::Done,
         Ok(Ending::Usage) => Status::Usage,
-        Ok(Ending::TooLong | Ending::Refused { .. } | Ending::Faulty { .. }) => Status::Refused,
+        Ok(Ending::TooLong | Ending::Refused { .. } | Ending::Kept(_) | Ending::Faulty { .. }) =>
+            Status::Refused,
         Err(Trouble::Read) => Status::ReadFault,
         Err(Trouble::Write) => Status::WriteFault,
         Err(Trouble::Memory) => Status::NoMemory,
@@ -63,6 +66,7 @@ fn write_line<E: Sink>(ended: &Result<Ending, Trouble>, err: &mut E) -> Result<(
         Ok(Ending::Refused { number, refusal }) => {
             write_all(err, message_line(*number, *refusal).as_slice())
         }
+        Ok(Ending::Kept(refusal)) => write_all(err, kept_line(*refusal).as_slice()),
         Ok(Ending::Faulty { step, kind }) => {
             write_all(err, script_line(*step, *kind).as_slice())
         }
@@ -90,6 +94,20 @@ fn message_line(number: u64, refusal: Refusal) -> Line
     line.put(b"message ");
     line.put_u64(number);
     line.put(b": ");
+    line.put_u64(u64::from(refusal.number()));
+    line.put(b" ");
+    line.put(refusal.name().as_bytes());
+    line.put(b"\n");
+    line
+}
+
+/// The line of files of kept bitmaps that are refused.
+#[tactic(auto, unfolding(crate::specs::Ending::kept_line))]
+fn kept_line(refusal: Refusal) -> Line
+    ensures { result ≡ kept_line refusal }
+{
+    let mut line = Line::new();
+    line.put(b"kept: ");
     line.put_u64(u64::from(refusal.number()));
     line.put(b" ");
     line.put(refusal.name().as_bytes());

@@ -1,4 +1,4 @@
-ghost use Rattle.gfxpipe.specs.Laws.{EncodeThenRender, EveryLineHasEqualDigests};
+ghost use Rattle.gfxpipe.specs.Laws.{EncodeThenRender, EveryLineHasEqualDigests, EveryLineOfAnImportHasEqualDigests};
 
 /// What `encode` wrote of a script that is accepted, `render` refuses nowhere, and prints the
 /// surfaces that the script wants after its last step.
@@ -11,4 +11,10 @@ pub fn render_shows_what_encode_wrote()
 /// step. Neither end has refused anything.
 pub fn every_line_has_equal_digests()
     ensures { EveryLineHasEqualDigests }
+{}
+
+/// So of every session that `import` plays: it refuses files that differ under a key, and where they don't, both ends begin
+/// with the same bitmaps.
+pub fn every_line_of_an_import_has_equal_digests()
+    ensures { EveryLineOfAnImportHasEqualDigests }
 {}

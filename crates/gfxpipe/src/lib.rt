@@ -5,7 +5,7 @@
 //! holds is printed. For `audit` a line is written for each message of a recording, and at its end what the client
 //! then holds is told. For `encode` a script is read whole, and its stream is written frame by frame.
 //! For `session` a script is read whole, both ends of its session are played, and a line is written for
-//! each acknowledged frame. `make` writes a script that a number stands for, and `trial` plays its session. `fragment`
+//! each acknowledged frame; for `import` so too, from bitmaps that both ends kept. `make` writes a script that a number stands for, and `trial` plays its session. `fragment`
 //! writes the recording of fragments of a stream, and `join` the stream of such a recording.
 #![tactic(auto)]
 
@@ -14,6 +14,7 @@ mod encode;
 mod ending;
 mod flushed;
 mod fragments;
+mod import;
 mod laws;
 mod make;
 mod outcome;
@@ -29,7 +30,10 @@ mod trouble;
 
 pub use ending::Ending;
 pub use flushed::say_flushed;
-pub use laws::{every_line_has_equal_digests, render_shows_what_encode_wrote};
+pub use laws::{
+    every_line_has_equal_digests, every_line_of_an_import_has_equal_digests,
+    render_shows_what_encode_wrote,
+};
 pub use program::{Ran, SCRIPT_LIMIT, STREAM_LIMIT, run};
 pub use render::Dump;
 pub use status::Status;

@@ -11,6 +11,7 @@ use crate::audit::audit;
 use crate::encode::encode;
 use crate::ending::{Ending, close};
 use crate::fragments::{fragment, join};
+use crate::import::import;
 use crate::make::make;
 use crate::outcome::{Outcome, alone, parted};
 use crate::render::{Dump, render};
@@ -35,8 +36,8 @@ pub const SCRIPT_LIMIT: usize = 67_108_864;
 pub struct Ran {
     /// How it ended.
     pub status: Status,
-    /// The session whose lines were written. It is there exactly where the command is `session` or `trial` and is
-    /// done.
+    /// The session whose lines were written. It is there exactly where the command is `session`, `trial` or
+    /// `import` and is done.
     pub session: Option<Session>,
 }
 
@@ -103,6 +104,7 @@ fn execute<C: Chooser, I: Source, O: Sink>(
         Ok(Some(Command::Session)) => session(alloc, script, choosers, input, out),
         Ok(Some(Command::Make(number))) => alone(make(alloc, number, out)),
         Ok(Some(Command::Trial(number))) => trial(alloc, number, choosers, out),
+        Ok(Some(Command::Import)) => import(alloc, script, choosers, input, out),
         Ok(Some(Command::Fragment)) => alone(fragment(alloc, stream, input, out)),
         Ok(Some(Command::Join)) => alone(join(alloc, stream, input, out)),
         Ok(None) => alone(Ok(Ending::Usage)),

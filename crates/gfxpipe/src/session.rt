@@ -1,18 +1,14 @@
 //! The command `session`: a script is read whole, both ends of its session are played to its end, and a
 //! line is written for each frame that was acknowledged.
-ghost use Rattle.std.specs.Prelude.{◌≡◌, ◌<◌, ◌^◌, IfOk, OnOk};
-ghost use Rattle.gfx_chooser.specs.Choosing.{AreAlike};
-ghost use Rattle.gfx_chooser.specs.Kinded.{left_of};
+ghost use Rattle.std.specs.Prelude.{◌≡◌, ◌<◌, ◌^◌, OnOk};
 ghost use Rattle.gfx_chooser.specs.Seen.{seen};
 ghost use Rattle.std.specs.List.{flat_map};
 ghost use Rattle.gfx_base.specs.Stream.{Writes, change};
-ghost use Rattle.gfx_script.specs.Script.{IsAccepted};
-ghost use Rattle.gfx_session.specs.Session.{IsSession, Stands, script_of};
-ghost use Rattle.gfxpipe.specs.Sessions.{IsBegun};
+ghost use Rattle.gfx_session.specs.Session.{IsSession};
 ghost use Rattle.gfxpipe.specs.Outcome.{ended_of, session_of};
 ghost use Rattle.gfxpipe.specs.Rule.{DidAll};
 ghost use Rattle.gfxpipe.specs.Rules.{playing, script_input};
-ghost use Rattle.gfxpipe.specs.Sessions.{acked_line, whole_session};
+ghost use Rattle.gfxpipe.specs.Sessions.{HasPlayed, Plays, PlaysOut, acked_line};
 
 use crate::ending::Ending;
 use crate::outcome::Outcome;
@@ -21,7 +17,6 @@ use crate::trouble::Trouble;
 use gfx_base::{Failed, NoMemory, Sink, Source};
 use gfx_chooser::Chooser;
 use gfx_report::write_ack;
-use gfx_script::Script;
 use gfx_session::{Acked, Session};
 use std::alloc::Global;
 
@@ -40,17 +35,12 @@ pub fn session<C: Chooser, I: Source, O: Sink>(
 {
     match read_whole(alloc, limit, input)? {
         Ok(script) => {
-            let session = play(alloc, script, choosers)?;
-            match write_acks(session.acks().as_slice(), out) {
-                Ok(()) => Ok(Outcome {
-                    ending: Ending::Done,
-                    session: Some(session),
-                }),
-                Err(_) => {
-                    session.let_go();
-                    Err(Trouble::Write)
-                }
-            }
+            let begun = Session::new(alloc, script)?;
+            let session = play_out(begun, choosers, out)?;
+            Ok(Outcome {
+                ending: Ending::Done,
+                session: Some(session),
+            })
         }
         Err(ending) => Ok(Outcome {
             ending,
@@ -59,19 +49,35 @@ pub fn session<C: Chooser, I: Source, O: Sink>(
     }
 }
 
-/// Plays the session of a script: each of its turns, then rounds until it is ended. These choosers are asked when
-/// a paint is queued that names no kind.
-pub(crate) fn play<C: Chooser>(
-    alloc: Global,
-    script: Script,
+/// Plays a session to its end, and writes a line for each acknowledged frame.
+pub(crate) fn play_out<C: Chooser, O: Sink>(
+    begun: Session,
     choosers: &mut Vec<C>,
-) -> Result<Session, NoMemory>
-    requires { IsAccepted script }
-    ensures script { IfOk result (λ session. script_of session ≡ script) }
-    ensures stands { IfOk result (λ session. Stands session (whole_session (seen C.reply C.is_spent choosers.old.items) script)) }
-    ensures left { IfOk result (λ session. AreAlike (seen C.reply C.is_spent choosers.new.items) (left_of script (seen C.reply C.is_spent choosers.old.items))) }
+    out: &mut O,
+) -> Result<Session, Trouble>
+    requires is { IsSession begun }
+    requires unqueued { begun.server.last ≡ 0 }
+    ensures { PlaysOut result begun (seen C.reply C.is_spent choosers.old.items) (seen C.reply C.is_spent choosers.new.items)
+        (change (O.faults out.old) (O.faults out.new) (O.held out.old) (O.held out.new)) }
 {
-    let mut session = Session::new(alloc, script)?;
+    let session = play(begun, choosers)?;
+    match write_acks(session.acks().as_slice(), out) {
+        Ok(()) => Ok(session),
+        Err(_) => {
+            session.let_go();
+            Err(Trouble::Write)
+        }
+    }
+}
+
+/// Plays a session in which nothing is queued: each turn of its script, then rounds until it is ended. These choosers
+/// are asked when a paint is queued that names no kind.
+pub(crate) fn play<C: Chooser>(begun: Session, choosers: &mut Vec<C>) -> Result<Session, NoMemory>
+    requires is { IsSession begun }
+    requires unqueued { begun.server.last ≡ 0 }
+    ensures { Plays result begun (seen C.reply C.is_spent choosers.old.items) (seen C.reply C.is_spent choosers.new.items) }
+{
+    let mut session = begun;
     match take_turns(&mut session, choosers) {
         Ok(()) => Ok(session),
         Err(error) => {
@@ -84,10 +90,8 @@ pub(crate) fn play<C: Chooser>(
 /// Takes the turns of a session's script, and then rounds until it is ended.
 fn take_turns<C: Chooser>(session: &mut Session, choosers: &mut Vec<C>) -> Result<(), NoMemory>
     requires is { IsSession session.old }
-    requires begun { IsBegun session.old }
-    ensures script { OnOk result (script_of session.new ≡ script_of session.old) }
-    ensures stands { OnOk result (Stands session.new (whole_session (seen C.reply C.is_spent choosers.old.items) (script_of session.old))) }
-    ensures left { OnOk result (AreAlike (seen C.reply C.is_spent choosers.new.items) (left_of (script_of session.old) (seen C.reply C.is_spent choosers.old.items))) }
+    requires unqueued { session.old.server.last ≡ 0 }
+    ensures { OnOk result (HasPlayed session.old session.new (seen C.reply C.is_spent choosers.old.items) (seen C.reply C.is_spent choosers.new.items)) }
 {
     let mut at = 0;
     'turns: while let Some(turn) = session.script().turn(at) {

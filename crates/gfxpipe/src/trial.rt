@@ -30,7 +30,8 @@ pub fn trial<C: Chooser, O: Sink>(
     let text = make_script(alloc, number)?;
     match read_text(alloc, text.as_slice())? {
         Ok(script) => {
-            let session = play(alloc, script, choosers)?;
+            let begun = Session::new(alloc, script)?;
+            let session = play(begun, choosers)?;
             match write_last(number, &session, out) {
                 Ok(()) => Ok(Outcome {
                     ending: Ending::Done,

@@ -1,6 +1,6 @@
 use Rattle.std.proofs.Common.{Some, map, sym, ap, ◌∙◌, refl}
 use Rattle.gfx_words.specs.CommandLine.{accepted}
-use Rattle.gfx_words.specs.declared.table.Command.TheVariants.{Render, RenderOutput, Audit, Encode, Session, Fragment, Join}
+use Rattle.gfx_words.specs.declared.table.Command.TheVariants.{Render, RenderOutput, Audit, Encode, Session, Import, Fragment, Join}
 use Rattle.gfxpipe.specs.Outcome.{ended_of, session_of}
 use Rattle.gfxpipe.specs.Rule.{limits}
 use Rattle.gfxpipe.proofs.Commands.{memory_first, spelled, alone}
@@ -30,6 +30,11 @@ pub returns-in-Ok-Some-Session : goal.returns-in-Ok-Some-Session
 returns-in-Ok-Some-Session g c =
     let words = ap (λ z. Some z) (sym c.in-Ok-Some-Session.field-0-0-is) ∙ sym c.in-Ok-Some-Session.field-0-is ∙ c.in-Ok-Some-Session.ensures in
     spelled (ended_of c.session.result) (session_of c.session.result) (Some Session) _ _ _ (limits c.args.stream c.args.script) _ _ words c.session.ensures
+
+pub returns-in-Ok-Some-Import : goal.returns-in-Ok-Some-Import
+returns-in-Ok-Some-Import g c =
+    let words = ap (λ z. Some z) (sym c.in-Ok-Some-Import.field-0-0-is) ∙ sym c.in-Ok-Some-Import.field-0-is ∙ c.in-Ok-Some-Import.ensures in
+    spelled (ended_of c.import.result) (session_of c.import.result) (Some Import) _ _ _ (limits c.args.stream c.args.script) _ _ words c.import.ensures
 
 pub returns-in-Ok-Some-Fragment : goal.returns-in-Ok-Some-Fragment
 returns-in-Ok-Some-Fragment g c =

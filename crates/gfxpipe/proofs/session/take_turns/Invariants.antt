@@ -6,7 +6,7 @@ use Rattle.gfxpipe.proofs.session.take_turns.Given as goal
 
 abbrev pub invariant-turns : goal.invariant-turns
 invariant-turns g l =
-    Turning (script_of l.fn.session) (seen g.C.Chooser.reply g.C.Chooser.is_spent l.fn.choosers.items) (seen g.C.Chooser.reply g.C.Chooser.is_spent l.choosers.items) l.at l.session
+    Turning l.fn.session (seen g.C.Chooser.reply g.C.Chooser.is_spent l.fn.choosers.items) (seen g.C.Chooser.reply g.C.Chooser.is_spent l.choosers.items) l.at l.session
 
 abbrev pub decreases-turns : goal.decreases-turns
 decreases-turns g l = length (script_of l.fn.session).turns - l.at

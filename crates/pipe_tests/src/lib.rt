@@ -16,6 +16,8 @@ mod encode;
 #[cfg(test)]
 mod examples;
 #[cfg(test)]
+mod import;
+#[cfg(test)]
 mod passes;
 #[cfg(test)]
 mod progressive;

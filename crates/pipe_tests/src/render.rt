@@ -46,7 +46,7 @@ fn other_words_read_nothing(rt: HostRuntime) -> Result<(), Fail> {
     assert_eq!(rt; (ran.status, ran.status.number()), (Status::Usage, 2));
     assert_eq!(rt; (ran.input.left().len(), ran.out.held().len()), (91, 0));
     let line =
-        b"usage: gfxpipe encode | render [--output] | audit | session | make N | trial N | fragment | join\n";
+        b"usage: gfxpipe encode | render [--output] | audit | session | make N | trial N | import | fragment | join\n";
     assert_eq!(rt; ran.err.held(), line.as_slice());
     Ok(())
 }

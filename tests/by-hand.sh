@@ -266,7 +266,7 @@ else
 fi
 
 # Words.
-usage="2 usage: gfxpipe encode | render [--output] | audit | session | make N | trial N | fragment | join"
+usage="2 usage: gfxpipe encode | render [--output] | audit | session | make N | trial N | import | fragment | join"
 for words in "render --wide" "" "renders" "render 1 2" "audit --output" "audit 1" "--help" $'\xff' $'render \xff'; do
     # shellcheck disable=SC2086
     "$program" $words < "$examples/fill.bin" > "$work/out" 2> "$work/err"
@@ -289,6 +289,13 @@ example outside "1 message 4: 14 RectOutside"
 report "fill as fragments, joined" "same" "$(cmp -s "$work/out" "$examples/fill.bin" && echo same)"
 "$program" fragment < "$examples/fill.bin" > "$work/out" 2> "$work/err"
 report "fill, cut into fragments" "same" "$(cmp -s "$work/out" "$examples/fill-fragments.bin" && echo same)"
+"$program" import < "$examples/import.input" > "$work/out" 2> "$work/err"
+report "the example import" "0 " "$(ended $?)"
+report "the example import, the output" "same" "$(cmp -s "$work/out" "$examples/import.txt" && echo same)"
+for size in 0 3 4 17 1213 1218 2503; do
+    head -c $size "$examples/import.input" | "$program" import > "$work/out" 2> "$work/err"
+    report "the example import, its first $size bytes" "1 kept: 54 KeptShape" "$(ended $?)$(cat "$work/out")"
+done
 "$program" render --output < "$examples/output.bin" > "$work/out" 2> "$work/err"
 report "the example output" "0 " "$(ended $?)"
 report "the example output, the output" "same" "$(cmp -s "$work/out" "$examples/output.txt" && echo same)"

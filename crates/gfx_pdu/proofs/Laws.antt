@@ -1,5 +1,5 @@
 -- Reading and spelling undo each other.
-use Rattle.std.proofs.Common.{◌≡◌, ℕ, ◌+◌, ◌-◌, ◌≤◌, ◌<◌, true, false, cond, eqb, List, ◌++◌, length, take, drop, Option, Some, None, Result, Ok, Err, refl, sym, ap, subst, ◌∙◌, append_assoc, length-append, length-drop, arith}
+use Rattle.std.proofs.Common.{◌≡◌, ℕ, ◌+◌, ◌-◌, ◌≤◌, ◌<◌, true, false, cond, eqb, ◌&&◌, is_ok, List, ◌++◌, length, take, drop, Option, Some, None, Result, Ok, Err, refl, sym, ap, subst, ◌∙◌, append_assoc, length-append, length-drop, arith}
 use Rattle.std.proofs.lemmas.Bool.{ne_eqb}
 use Rattle.std.specs.Prelude.{IfOk, IfSome}
 use Rattle.std.proofs.lemmas.List.{take-append-drop, length-take, length-replicate}
@@ -17,8 +17,10 @@ use Rattle.gfx_layout.proofs.ShapeLaws.{number_in-fits}
 use Rattle.gfx_layout.proofs.FoundLaws.{length-spelled}
 use Rattle.gfx_pdu.specs.declared.id.Id.{Id}
 use Rattle.gfx_pdu.specs.declared.pdu.Pdu.{Pdu}
-use Rattle.gfx_pdu.specs.Id.{number_of}
-use Rattle.gfx_layout.specs.Header.{size_of, header, no_flags}
+use Rattle.gfx_pdu.specs.declared.pdu.PduRef.{PduRef}
+use Rattle.gfx_pdu.specs.Borrowed.{pdu_of, message_in, found_in}
+use Rattle.gfx_pdu.specs.Id.{number_of, id_of_number}
+use Rattle.gfx_layout.specs.Header.{size_of, header, no_flags, is_headed}
 use Rattle.gfx_layout.proofs.Headers.{length-header, whole-header, IsSize, size_of-ok, size_of-cut, header-read}
 use Rattle.gfx_pdu.specs.Reading.{body_of, kind_of, front, message_at, placed, next_pdu}
 use Rattle.gfx_pdu.specs.Layouts.{layout_of}
@@ -160,3 +162,29 @@ pub given-begins : (payload : List ℕ) (at : ℕ) (given : Result (Option (Pdu 
 given-begins payload at (Err fault) all due = tt
 given-begins payload at (Ok None) all due = tt
 given-begins payload at (Ok (Some m)) all due = next_pdu-begins payload at m all due
+
+-- and of one that gave a message with borrowed data
+pub borrowed-begins : (payload : List ℕ) (at : ℕ) (given : Result (Option (PduRef × ℕ)) (Cause Refusal)) → IsBytes payload → Gives found_in given (next_pdu payload at) → IfOk given (λ found. IfSome found (λ m. Begins (drop at payload) (pdu_of m.0) (m.1 - at)))
+borrowed-begins payload at (Err fault) all due = tt
+borrowed-begins payload at (Ok None) all due = tt
+borrowed-begins payload at (Ok (Some m)) all due = next_pdu-begins payload at (message_in m) all due
+
+-- its header was accepted
+front-headed : (bytes : List ℕ) (found : Pdu × ℕ) → front bytes ≡ Ok found → is_headed id_of_number bytes ≡ true
+unfolding front
+front-headed bytes found e =
+    let sized = and_then_ok (size_of bytes) _ found e in
+    let named = and_then_ok (kind_of bytes) _ found sized.2 in
+    ap (λ z. is_ok z && is_ok (kind_of bytes)) sized.1 ∙ ap is_ok named.1
+
+next_headed : (payload : List ℕ) (at : ℕ) (m : Pdu × ℕ) (found : Option (Pdu × ℕ)) → message_at (drop at payload) ≡ Ok found → option_map (placed at) found ≡ Some m → is_headed id_of_number (drop at payload) ≡ true
+next_headed payload at m None here e = absurd cc
+next_headed payload at m (Some found) here e = front-headed (drop at payload) found (message_at-front (drop at payload) found here)
+
+pub next_pdu-headed : (payload : List ℕ) (at : ℕ) (m : Pdu × ℕ) → next_pdu payload at ≡ Ok (Some m) → is_headed id_of_number (drop at payload) ≡ true
+unfolding next_pdu
+next_pdu-headed payload at m e =
+    let parts = and_then_ok (message_at (drop at payload)) (λ found. Ok (option_map (placed at) found)) (Some m) e in
+    let last = parts.2 in
+    let same : option_map (placed at) parts.0 ≡ Some m = cc in
+    next_headed payload at m parts.0 parts.1 same

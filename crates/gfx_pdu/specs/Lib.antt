@@ -4,3 +4,4 @@ pub mod Reading
 pub mod Spelling
 pub mod Laws
 pub mod Codecs
+pub mod Borrowed

@@ -2,38 +2,39 @@
 #![tactic(auto, unfolding(gfx_layout::specs::Reading::read_whole, gfx_layout::specs::Reading::read, gfx_base::specs::Results::and_then, crate::specs::Spelling::spelling, crate::specs::Spelling::size, crate::specs::Spelling::written_body))]
 
 ghost use Rattle.std.specs.Prelude.{◌≡◌};
-ghost use Rattle.gfx_base.specs.Outcome.{Gives};
+ghost use Rattle.gfx_base.specs.Outcome.{Gives, Says};
 ghost use Rattle.gfx_layout.specs.Reading.{read_whole};
 ghost use Rattle.gfx_layout.specs.Writing.{Puts};
 ghost use Rattle.gfx_pdu.specs.declared.pdu.Pdu.TheVariants as pdus;
+ghost use Rattle.gfx_pdu.specs.Borrowed.{pdu_of};
 ghost use Rattle.gfx_pdu.specs.Layouts.{wire_to_surface_1, wire_to_surface_2, delete_encoding_context, solid_fill, surface_to_surface, surface_to_cache, cache_to_surface, evict_cache_entry};
 ghost use Rattle.gfx_pdu.specs.Spelling.{spelling, IsSpellable};
 
 use crate::header::put_header;
 use crate::id::Id;
-use crate::pdu::Pdu;
+use crate::pdu::{Pdu, PduRef};
 use gfx_base::{Bytes, Cause, NoMemory, Pixel, Point, Points, Rect, Rects};
-use gfx_layout::{Fields, Part, Stop, kept, put_list, put_sized};
+use gfx_layout::{Fields, Part, Stop, put_list, put_sized};
 use std::alloc::Global;
 
 /// Reads the body of RDPGFX_WIRE_TO_SURFACE_PDU_1 ([MS-RDPEGFX] 2.2.2.1).
-pub fn read_wire_to_surface_1(alloc: Global, body: &[u8]) -> Result<Pdu, Cause<Stop>>
-    ensures { Gives (λ p. p) result (read_whole wire_to_surface_1 body.now) }
+pub(crate) fn read_wire_to_surface_1(body: &[u8]) -> Result<PduRef<'_>, Stop>
+    ensures { Says pdu_of result (read_whole wire_to_surface_1 body.now) }
 {
     let mut fields = Fields::new(body);
-    let pdu = Pdu::WireToSurface1 {
+    let pdu = PduRef::WireToSurface1 {
         surface: fields.u16()?,
         codec: fields.u16()?,
         format: fields.u8()?,
         rect: fields.one()?,
-        payload: kept(alloc, fields.sized()?)?,
+        payload: fields.sized()?,
     };
     fields.end()?;
     Ok(pdu)
 }
 
 /// Puts RDPGFX_WIRE_TO_SURFACE_PDU_1 at the end.
-pub fn put_wire_to_surface_1(
+pub(crate) fn put_wire_to_surface_1(
     out: &mut Bytes,
     surface: u16,
     codec: u16,
@@ -57,23 +58,23 @@ pub fn put_wire_to_surface_1(
 }
 
 /// Reads the body of RDPGFX_WIRE_TO_SURFACE_PDU_2 ([MS-RDPEGFX] 2.2.2.2).
-pub fn read_wire_to_surface_2(alloc: Global, body: &[u8]) -> Result<Pdu, Cause<Stop>>
-    ensures { Gives (λ p. p) result (read_whole wire_to_surface_2 body.now) }
+pub(crate) fn read_wire_to_surface_2(body: &[u8]) -> Result<PduRef<'_>, Stop>
+    ensures { Says pdu_of result (read_whole wire_to_surface_2 body.now) }
 {
     let mut fields = Fields::new(body);
-    let pdu = Pdu::WireToSurface2 {
+    let pdu = PduRef::WireToSurface2 {
         surface: fields.u16()?,
         codec: fields.u16()?,
         context: fields.u32()?,
         format: fields.u8()?,
-        payload: kept(alloc, fields.sized()?)?,
+        payload: fields.sized()?,
     };
     fields.end()?;
     Ok(pdu)
 }
 
 /// Puts RDPGFX_WIRE_TO_SURFACE_PDU_2 at the end.
-pub fn put_wire_to_surface_2(
+pub(crate) fn put_wire_to_surface_2(
     out: &mut Bytes,
     surface: u16,
     codec: u16,
@@ -97,7 +98,7 @@ pub fn put_wire_to_surface_2(
 }
 
 /// Reads the body of RDPGFX_DELETE_ENCODING_CONTEXT_PDU ([MS-RDPEGFX] 2.2.2.3).
-pub fn read_delete_encoding_context(body: &[u8]) -> Result<Pdu, Stop>
+pub(crate) fn read_delete_encoding_context(body: &[u8]) -> Result<Pdu, Stop>
     ensures { result ≡ read_whole delete_encoding_context body.now }
 {
     let mut fields = Fields::new(body);
@@ -108,7 +109,7 @@ pub fn read_delete_encoding_context(body: &[u8]) -> Result<Pdu, Stop>
 }
 
 /// Puts RDPGFX_DELETE_ENCODING_CONTEXT_PDU at the end.
-pub fn put_delete_encoding_context(
+pub(crate) fn put_delete_encoding_context(
     out: &mut Bytes,
     surface: u16,
     context: u32,
@@ -121,7 +122,7 @@ pub fn put_delete_encoding_context(
 }
 
 /// Reads the body of RDPGFX_SOLIDFILL_PDU ([MS-RDPEGFX] 2.2.2.4).
-pub fn read_solid_fill(alloc: Global, body: &[u8]) -> Result<Pdu, Cause<Stop>>
+pub(crate) fn read_solid_fill(alloc: Global, body: &[u8]) -> Result<Pdu, Cause<Stop>>
     ensures { Gives (λ p. p) result (read_whole solid_fill body.now) }
 {
     let mut fields = Fields::new(body);
@@ -135,7 +136,7 @@ pub fn read_solid_fill(alloc: Global, body: &[u8]) -> Result<Pdu, Cause<Stop>>
 }
 
 /// Puts RDPGFX_SOLIDFILL_PDU at the end.
-pub fn put_solid_fill(
+pub(crate) fn put_solid_fill(
     out: &mut Bytes,
     surface: u16,
     colour: Pixel,
@@ -155,7 +156,7 @@ pub fn put_solid_fill(
 }
 
 /// Reads the body of RDPGFX_SURFACE_TO_SURFACE_PDU ([MS-RDPEGFX] 2.2.2.5).
-pub fn read_surface_to_surface(alloc: Global, body: &[u8]) -> Result<Pdu, Cause<Stop>>
+pub(crate) fn read_surface_to_surface(alloc: Global, body: &[u8]) -> Result<Pdu, Cause<Stop>>
     ensures { Gives (λ p. p) result (read_whole surface_to_surface body.now) }
 {
     let mut fields = Fields::new(body);
@@ -170,7 +171,7 @@ pub fn read_surface_to_surface(alloc: Global, body: &[u8]) -> Result<Pdu, Cause<
 }
 
 /// Puts RDPGFX_SURFACE_TO_SURFACE_PDU at the end.
-pub fn put_surface_to_surface(
+pub(crate) fn put_surface_to_surface(
     out: &mut Bytes,
     source: u16,
     destination: u16,
@@ -192,7 +193,7 @@ pub fn put_surface_to_surface(
 }
 
 /// Reads the body of RDPGFX_SURFACE_TO_CACHE_PDU ([MS-RDPEGFX] 2.2.2.6).
-pub fn read_surface_to_cache(body: &[u8]) -> Result<Pdu, Stop>
+pub(crate) fn read_surface_to_cache(body: &[u8]) -> Result<Pdu, Stop>
     ensures { result ≡ read_whole surface_to_cache body.now }
 {
     let mut fields = Fields::new(body);
@@ -207,7 +208,7 @@ pub fn read_surface_to_cache(body: &[u8]) -> Result<Pdu, Stop>
 }
 
 /// Puts RDPGFX_SURFACE_TO_CACHE_PDU at the end.
-pub fn put_surface_to_cache(
+pub(crate) fn put_surface_to_cache(
     out: &mut Bytes,
     surface: u16,
     key: u64,
@@ -228,7 +229,7 @@ pub fn put_surface_to_cache(
 }
 
 /// Reads the body of RDPGFX_CACHE_TO_SURFACE_PDU ([MS-RDPEGFX] 2.2.2.7).
-pub fn read_cache_to_surface(alloc: Global, body: &[u8]) -> Result<Pdu, Cause<Stop>>
+pub(crate) fn read_cache_to_surface(alloc: Global, body: &[u8]) -> Result<Pdu, Cause<Stop>>
     ensures { Gives (λ p. p) result (read_whole cache_to_surface body.now) }
 {
     let mut fields = Fields::new(body);
@@ -242,7 +243,7 @@ pub fn read_cache_to_surface(alloc: Global, body: &[u8]) -> Result<Pdu, Cause<St
 }
 
 /// Puts RDPGFX_CACHE_TO_SURFACE_PDU at the end.
-pub fn put_cache_to_surface(
+pub(crate) fn put_cache_to_surface(
     out: &mut Bytes,
     slot: u16,
     surface: u16,
@@ -262,7 +263,7 @@ pub fn put_cache_to_surface(
 }
 
 /// Reads the body of RDPGFX_EVICT_CACHE_ENTRY_PDU ([MS-RDPEGFX] 2.2.2.8).
-pub fn read_evict_cache_entry(body: &[u8]) -> Result<Pdu, Stop>
+pub(crate) fn read_evict_cache_entry(body: &[u8]) -> Result<Pdu, Stop>
     ensures { result ≡ read_whole evict_cache_entry body.now }
 {
     let mut fields = Fields::new(body);
@@ -272,7 +273,7 @@ pub fn read_evict_cache_entry(body: &[u8]) -> Result<Pdu, Stop>
 }
 
 /// Puts RDPGFX_EVICT_CACHE_ENTRY_PDU at the end.
-pub fn put_evict_cache_entry(out: &mut Bytes, slot: u16) -> Result<(), NoMemory>
+pub(crate) fn put_evict_cache_entry(out: &mut Bytes, slot: u16) -> Result<(), NoMemory>
     ensures { Puts result out.old out.new (spelling (pdus.EvictCacheEntry slot)) }
 {
     put_header(out, Id::EvictCacheEntry, u16::SIZE)?;

@@ -18,10 +18,10 @@ mod writing;
 
 pub use codec::{Codec, PROGRESSIVE};
 pub use id::Id;
-pub use pdu::{MOST_MONITORS, Monitor, Monitors, Pdu};
+pub use pdu::{MOST_MONITORS, Monitor, Monitors, Pdu, PduRef};
 pub use promises::{
     a_cut_message_is_truncated, what_is_read_is_spelled, what_is_spelled_is_read,
     what_is_written_is_spelled,
 };
-pub use reading::read_pdu;
+pub use reading::{read_pdu, read_pdu_ref};
 pub use writing::write_pdu;

@@ -2,18 +2,19 @@
 #![tactic(auto, unfolding(gfx_layout::specs::Reading::read_whole, gfx_layout::specs::Reading::read, gfx_base::specs::Results::and_then, crate::specs::Spelling::spelling, crate::specs::Spelling::size, crate::specs::Spelling::written_body))]
 
 ghost use Rattle.std.specs.Prelude.{◌≡◌, refl};
-ghost use Rattle.gfx_base.specs.Outcome.{Gives};
+ghost use Rattle.gfx_base.specs.Outcome.{Gives, Says};
 ghost use Rattle.gfx_layout.specs.Reading.{read_whole};
 ghost use Rattle.gfx_layout.specs.Writing.{Puts};
 ghost use Rattle.gfx_pdu.specs.declared.pdu.Pdu.TheVariants as pdus;
+ghost use Rattle.gfx_pdu.specs.Borrowed.{pdu_of};
 ghost use Rattle.gfx_pdu.specs.Layouts.{monitor, create_surface, delete_surface, start_frame, end_frame, reset_graphics, map_surface_to_output, caps_confirm};
 ghost use Rattle.gfx_pdu.specs.Spelling.{spelling, IsSpellable};
 
 use crate::header::put_header;
 use crate::id::Id;
-use crate::pdu::{MOST_MONITORS, Monitor, Monitors, Pdu};
+use crate::pdu::{MOST_MONITORS, Monitor, Monitors, Pdu, PduRef};
 use gfx_base::{Bytes, Cause, NoMemory, Refusal};
-use gfx_layout::{Fields, Part, Stop, kept, put_items, put_sized, put_zeros};
+use gfx_layout::{Fields, Part, Stop, put_items, put_sized, put_zeros};
 use std::alloc::Global;
 
 impl Part for Monitor {
@@ -47,7 +48,7 @@ impl Part for Monitor {
 }
 
 /// Reads the body of RDPGFX_CREATE_SURFACE_PDU ([MS-RDPEGFX] 2.2.2.9).
-pub fn read_create_surface(body: &[u8]) -> Result<Pdu, Stop>
+pub(crate) fn read_create_surface(body: &[u8]) -> Result<Pdu, Stop>
     ensures { result ≡ read_whole create_surface body.now }
 {
     let mut fields = Fields::new(body);
@@ -62,7 +63,7 @@ pub fn read_create_surface(body: &[u8]) -> Result<Pdu, Stop>
 }
 
 /// Puts RDPGFX_CREATE_SURFACE_PDU at the end.
-pub fn put_create_surface(
+pub(crate) fn put_create_surface(
     out: &mut Bytes,
     id: u16,
     width: u16,
@@ -79,7 +80,7 @@ pub fn put_create_surface(
 }
 
 /// Reads the body of RDPGFX_DELETE_SURFACE_PDU ([MS-RDPEGFX] 2.2.2.10).
-pub fn read_delete_surface(body: &[u8]) -> Result<Pdu, Stop>
+pub(crate) fn read_delete_surface(body: &[u8]) -> Result<Pdu, Stop>
     ensures { result ≡ read_whole delete_surface body.now }
 {
     let mut fields = Fields::new(body);
@@ -89,7 +90,7 @@ pub fn read_delete_surface(body: &[u8]) -> Result<Pdu, Stop>
 }
 
 /// Puts RDPGFX_DELETE_SURFACE_PDU at the end.
-pub fn put_delete_surface(out: &mut Bytes, id: u16) -> Result<(), NoMemory>
+pub(crate) fn put_delete_surface(out: &mut Bytes, id: u16) -> Result<(), NoMemory>
     ensures { Puts result out.old out.new (spelling (pdus.DeleteSurface id)) }
 {
     put_header(out, Id::DeleteSurface, u16::SIZE)?;
@@ -97,7 +98,7 @@ pub fn put_delete_surface(out: &mut Bytes, id: u16) -> Result<(), NoMemory>
 }
 
 /// Reads the body of RDPGFX_START_FRAME_PDU ([MS-RDPEGFX] 2.2.2.11).
-pub fn read_start_frame(body: &[u8]) -> Result<Pdu, Stop>
+pub(crate) fn read_start_frame(body: &[u8]) -> Result<Pdu, Stop>
     ensures { result ≡ read_whole start_frame body.now }
 {
     let mut fields = Fields::new(body);
@@ -108,7 +109,7 @@ pub fn read_start_frame(body: &[u8]) -> Result<Pdu, Stop>
 }
 
 /// Puts RDPGFX_START_FRAME_PDU at the end.
-pub fn put_start_frame(out: &mut Bytes, timestamp: u32, frame: u32) -> Result<(), NoMemory>
+pub(crate) fn put_start_frame(out: &mut Bytes, timestamp: u32, frame: u32) -> Result<(), NoMemory>
     ensures { Puts result out.old out.new (spelling (pdus.StartFrame timestamp frame)) }
 {
     put_header(out, Id::StartFrame, 2 * u32::SIZE)?;
@@ -117,7 +118,7 @@ pub fn put_start_frame(out: &mut Bytes, timestamp: u32, frame: u32) -> Result<()
 }
 
 /// Reads the body of RDPGFX_END_FRAME_PDU ([MS-RDPEGFX] 2.2.2.12).
-pub fn read_end_frame(body: &[u8]) -> Result<Pdu, Stop>
+pub(crate) fn read_end_frame(body: &[u8]) -> Result<Pdu, Stop>
     ensures { result ≡ read_whole end_frame body.now }
 {
     let mut fields = Fields::new(body);
@@ -127,7 +128,7 @@ pub fn read_end_frame(body: &[u8]) -> Result<Pdu, Stop>
 }
 
 /// Puts RDPGFX_END_FRAME_PDU at the end.
-pub fn put_end_frame(out: &mut Bytes, frame: u32) -> Result<(), NoMemory>
+pub(crate) fn put_end_frame(out: &mut Bytes, frame: u32) -> Result<(), NoMemory>
     ensures { Puts result out.old out.new (spelling (pdus.EndFrame frame)) }
 {
     put_header(out, Id::EndFrame, u32::SIZE)?;
@@ -135,7 +136,7 @@ pub fn put_end_frame(out: &mut Bytes, frame: u32) -> Result<(), NoMemory>
 }
 
 /// Reads the body of RDPGFX_RESET_GRAPHICS_PDU ([MS-RDPEGFX] 2.2.2.14).
-pub fn read_reset_graphics(alloc: Global, body: &[u8]) -> Result<Pdu, Cause<Stop>>
+pub(crate) fn read_reset_graphics(alloc: Global, body: &[u8]) -> Result<Pdu, Cause<Stop>>
     ensures { Gives (λ p. p) result (read_whole reset_graphics body.now) }
 {
     let mut fields = Fields::new(body);
@@ -156,7 +157,7 @@ pub fn read_reset_graphics(alloc: Global, body: &[u8]) -> Result<Pdu, Cause<Stop
 }
 
 /// Puts RDPGFX_RESET_GRAPHICS_PDU at the end.
-pub fn put_reset_graphics(
+pub(crate) fn put_reset_graphics(
     out: &mut Bytes,
     width: u32,
     height: u32,
@@ -178,7 +179,7 @@ pub fn put_reset_graphics(
 }
 
 /// Reads the body of RDPGFX_MAP_SURFACE_TO_OUTPUT_PDU ([MS-RDPEGFX] 2.2.2.15).
-pub fn read_map_surface_to_output(body: &[u8]) -> Result<Pdu, Stop>
+pub(crate) fn read_map_surface_to_output(body: &[u8]) -> Result<Pdu, Stop>
     ensures { result ≡ read_whole map_surface_to_output body.now }
 {
     let mut fields = Fields::new(body);
@@ -191,7 +192,7 @@ pub fn read_map_surface_to_output(body: &[u8]) -> Result<Pdu, Stop>
 }
 
 /// Puts RDPGFX_MAP_SURFACE_TO_OUTPUT_PDU at the end.
-pub fn put_map_surface_to_output(
+pub(crate) fn put_map_surface_to_output(
     out: &mut Bytes,
     id: u16,
     reserved: u16,
@@ -208,20 +209,24 @@ pub fn put_map_surface_to_output(
 }
 
 /// Reads the body of RDPGFX_CAPS_CONFIRM_PDU ([MS-RDPEGFX] 2.2.2.19).
-pub fn read_caps_confirm(alloc: Global, body: &[u8]) -> Result<Pdu, Cause<Stop>>
-    ensures { Gives (λ p. p) result (read_whole caps_confirm body.now) }
+pub(crate) fn read_caps_confirm(body: &[u8]) -> Result<PduRef<'_>, Stop>
+    ensures { Says pdu_of result (read_whole caps_confirm body.now) }
 {
     let mut fields = Fields::new(body);
-    let pdu = Pdu::CapsConfirm {
+    let pdu = PduRef::CapsConfirm {
         version: fields.u32()?,
-        payload: kept(alloc, fields.sized()?)?,
+        payload: fields.sized()?,
     };
     fields.end()?;
     Ok(pdu)
 }
 
 /// Puts RDPGFX_CAPS_CONFIRM_PDU at the end.
-pub fn put_caps_confirm(out: &mut Bytes, version: u32, payload: &Bytes) -> Result<(), NoMemory>
+pub(crate) fn put_caps_confirm(
+    out: &mut Bytes,
+    version: u32,
+    payload: &Bytes,
+) -> Result<(), NoMemory>
     requires { IsSpellable (pdus.CapsConfirm version payload.now) }
     ensures { Puts result out.old out.new (spelling (pdus.CapsConfirm version payload.now)) }
 {

@@ -1,4 +1,11 @@
-use gfx_base::{Bytes, Items, Pixel, Points, Rect, Rects};
+ghost use Rattle.std.specs.Prelude.{◌≡◌, IfOk};
+ghost use Rattle.gfx_pdu.specs.Borrowed.{pdu_of};
+ghost use Rattle.gfx_pdu.specs.Spelling.{id_of};
+
+use crate::id::Id;
+use gfx_base::{Bytes, Items, NoMemory, Pixel, Points, Rect, Rects};
+use gfx_layout::kept;
+use std::alloc::Global;
 
 /// The most monitors that ResetGraphics has room for ([MS-RDPEGFX] 2.2.2.14).
 pub const MOST_MONITORS: usize = 16;
@@ -110,4 +117,111 @@ pub enum Pdu {
         version: u32,
         payload: Bytes,
     },
+}
+
+impl Pdu {
+    /// Which message it is.
+    pub fn id(&self) -> Id
+        ensures { result ≡ id_of self.now }
+    {
+        match self {
+            Pdu::WireToSurface1 { .. } => Id::WireToSurface1,
+            Pdu::WireToSurface2 { .. } => Id::WireToSurface2,
+            Pdu::DeleteEncodingContext { .. } => Id::DeleteEncodingContext,
+            Pdu::SolidFill { .. } => Id::SolidFill,
+            Pdu::SurfaceToSurface { .. } => Id::SurfaceToSurface,
+            Pdu::SurfaceToCache { .. } => Id::SurfaceToCache,
+            Pdu::CacheToSurface { .. } => Id::CacheToSurface,
+            Pdu::EvictCacheEntry { .. } => Id::EvictCacheEntry,
+            Pdu::CreateSurface { .. } => Id::CreateSurface,
+            Pdu::DeleteSurface { .. } => Id::DeleteSurface,
+            Pdu::StartFrame { .. } => Id::StartFrame,
+            Pdu::EndFrame { .. } => Id::EndFrame,
+            Pdu::ResetGraphics { .. } => Id::ResetGraphics,
+            Pdu::MapSurfaceToOutput { .. } => Id::MapSurfaceToOutput,
+            Pdu::CapsConfirm { .. } => Id::CapsConfirm,
+        }
+    }
+}
+
+/// A message of the server whose data are borrowed from the payload that they were read from: a `Pdu`
+/// without a copy of them.
+#[derive(Debug, Drop)]
+pub enum PduRef<'a> {
+    /// RDPGFX_WIRE_TO_SURFACE_PDU_1.
+    WireToSurface1 {
+        surface: u16,
+        codec: u16,
+        format: u8,
+        rect: Rect,
+        payload: &'a [u8],
+    },
+    /// RDPGFX_WIRE_TO_SURFACE_PDU_2.
+    WireToSurface2 {
+        surface: u16,
+        codec: u16,
+        context: u32,
+        format: u8,
+        payload: &'a [u8],
+    },
+    /// RDPGFX_CAPS_CONFIRM_PDU.
+    CapsConfirm {
+        version: u32,
+        payload: &'a [u8],
+    },
+    /// Any other message, which carries no data.
+    Other(Pdu),
+}
+
+impl<'a> PduRef<'a> {
+    /// The message with a copy of its data.
+    pub fn into_owned(self, alloc: Global) -> Result<Pdu, NoMemory>
+        ensures { IfOk result (λ pdu. pdu ≡ pdu_of self.entry) }
+    {
+        Ok(match self {
+            PduRef::WireToSurface1 {
+                surface,
+                codec,
+                format,
+                rect,
+                payload,
+            } => Pdu::WireToSurface1 {
+                surface,
+                codec,
+                format,
+                rect,
+                payload: kept(alloc, payload)?,
+            },
+            PduRef::WireToSurface2 {
+                surface,
+                codec,
+                context,
+                format,
+                payload,
+            } => Pdu::WireToSurface2 {
+                surface,
+                codec,
+                context,
+                format,
+                payload: kept(alloc, payload)?,
+            },
+            PduRef::CapsConfirm { version, payload } => Pdu::CapsConfirm {
+                version,
+                payload: kept(alloc, payload)?,
+            },
+            PduRef::Other(pdu) => pdu,
+        })
+    }
+
+    /// Which message it is.
+    pub fn id(&self) -> Id
+        ensures { result ≡ id_of (pdu_of self.now) }
+    {
+        match self {
+            PduRef::WireToSurface1 { .. } => Id::WireToSurface1,
+            PduRef::WireToSurface2 { .. } => Id::WireToSurface2,
+            PduRef::CapsConfirm { .. } => Id::CapsConfirm,
+            PduRef::Other(pdu) => pdu.id(),
+        }
+    }
 }

@@ -4,6 +4,7 @@ ghost use Rattle.std.specs.Prelude.{◌≡◌, ◌+◌, ◌-◌, ◌<◌, ◌≤
 ghost use Rattle.gfx_base.specs.Outcome.{Gives, WantsOnlyIf};
 ghost use Rattle.gfx_layout.specs.Header.{is_headed};
 ghost use Rattle.gfx_layout.specs.Reading.{read_whole};
+ghost use Rattle.gfx_pdu.specs.Borrowed.{found_in, message_in, pdu_of};
 ghost use Rattle.gfx_pdu.specs.Id.{id_of_number};
 ghost use Rattle.gfx_pdu.specs.Layouts.{layout_of};
 ghost use Rattle.gfx_pdu.specs.Reading.{body_of, front, next_pdu};
@@ -19,38 +20,39 @@ use crate::output::{
     read_caps_confirm, read_create_surface, read_delete_surface, read_end_frame,
     read_map_surface_to_output, read_reset_graphics, read_start_frame,
 };
-use crate::pdu::Pdu;
+use crate::pdu::{Pdu, PduRef};
 use gfx_base::{Cause, Fault, Refusal};
 use gfx_layout::{HEADER, Stop, read_size};
 use std::alloc::Global;
 
 /// Reads the body of a message with this id by its layout.
-fn read_by_layout(alloc: Global, id: Id, body: &[u8]) -> Result<Pdu, Cause<Stop>>
-    ensures { Gives (λ p. p) result (read_whole (layout_of id) body.now) }
+fn read_by_layout(alloc: Global, id: Id, body: &[u8]) -> Result<PduRef<'_>, Cause<Stop>>
+    ensures { Gives pdu_of result (read_whole (layout_of id) body.now) }
 {
-    match id {
-        Id::WireToSurface1 => read_wire_to_surface_1(alloc, body),
-        Id::WireToSurface2 => read_wire_to_surface_2(alloc, body),
-        Id::DeleteEncodingContext => Ok(read_delete_encoding_context(body)?),
-        Id::SolidFill => read_solid_fill(alloc, body),
-        Id::SurfaceToSurface => read_surface_to_surface(alloc, body),
-        Id::SurfaceToCache => Ok(read_surface_to_cache(body)?),
-        Id::CacheToSurface => read_cache_to_surface(alloc, body),
-        Id::EvictCacheEntry => Ok(read_evict_cache_entry(body)?),
-        Id::CreateSurface => Ok(read_create_surface(body)?),
-        Id::DeleteSurface => Ok(read_delete_surface(body)?),
-        Id::StartFrame => Ok(read_start_frame(body)?),
-        Id::EndFrame => Ok(read_end_frame(body)?),
-        Id::ResetGraphics => read_reset_graphics(alloc, body),
-        Id::MapSurfaceToOutput => Ok(read_map_surface_to_output(body)?),
-        Id::CapsConfirm => read_caps_confirm(alloc, body),
-    }
+    let pdu = match id {
+        Id::WireToSurface1 => return Ok(read_wire_to_surface_1(body)?),
+        Id::WireToSurface2 => return Ok(read_wire_to_surface_2(body)?),
+        Id::CapsConfirm => return Ok(read_caps_confirm(body)?),
+        Id::DeleteEncodingContext => read_delete_encoding_context(body)?,
+        Id::SolidFill => read_solid_fill(alloc, body)?,
+        Id::SurfaceToSurface => read_surface_to_surface(alloc, body)?,
+        Id::SurfaceToCache => read_surface_to_cache(body)?,
+        Id::CacheToSurface => read_cache_to_surface(alloc, body)?,
+        Id::EvictCacheEntry => read_evict_cache_entry(body)?,
+        Id::CreateSurface => read_create_surface(body)?,
+        Id::DeleteSurface => read_delete_surface(body)?,
+        Id::StartFrame => read_start_frame(body)?,
+        Id::EndFrame => read_end_frame(body)?,
+        Id::ResetGraphics => read_reset_graphics(alloc, body)?,
+        Id::MapSurfaceToOutput => read_map_surface_to_output(body)?,
+    };
+    Ok(PduRef::Other(pdu))
 }
 
 /// Reads the body of a message with this id. One that doesn't end with its fields is CountMismatch.
 #[tactic(auto, unfolding(crate::specs::Reading::body_of))]
-fn read_body(alloc: Global, id: Id, body: &[u8]) -> Result<Pdu, Fault>
-    ensures { Gives (λ p. p) result (body_of id body.now) }
+fn read_body(alloc: Global, id: Id, body: &[u8]) -> Result<PduRef<'_>, Fault>
+    ensures { Gives pdu_of result (body_of id body.now) }
 {
     match read_by_layout(alloc, id, body) {
         Ok(pdu) => Ok(pdu),
@@ -62,8 +64,8 @@ fn read_body(alloc: Global, id: Id, body: &[u8]) -> Result<Pdu, Fault>
 
 /// Reads the message at the front, and says how many bytes it has.
 #[tactic(auto, unfolding(crate::specs::Reading::front, gfx_base::specs::Results::and_then))]
-fn read_front(alloc: Global, bytes: &[u8]) -> Result<(Pdu, usize), Fault>
-    ensures value { Gives (λ m. m) result (front bytes.now) }
+fn read_front(alloc: Global, bytes: &[u8]) -> Result<(PduRef<'_>, usize), Fault>
+    ensures value { Gives message_in result (front bytes.now) }
     ensures within { IfOk result (λ m. (8 ≤ m.1) × (m.1 ≤ length bytes.now)) }
     ensures memory { WantsOnlyIf result (is_headed id_of_number bytes.now) }
 {
@@ -75,10 +77,10 @@ fn read_front(alloc: Global, bytes: &[u8]) -> Result<(Pdu, usize), Fault>
     Ok((pdu, size))
 }
 
-/// Reads the message at a place of a payload, as `read_pdu` does.
+/// Reads the message at a place of a payload, as `read_pdu_ref` does.
 #[tactic(auto, unfolding(crate::specs::Reading::next_pdu, crate::specs::Reading::message_at, gfx_base::specs::Results::and_then))]
-fn read_next(alloc: Global, payload: &[u8], at: usize) -> Result<Option<(Pdu, usize)>, Fault>
-    ensures value { Gives (λ found. found) result (next_pdu payload.now at) }
+fn read_next(alloc: Global, payload: &[u8], at: usize) -> Result<Option<(PduRef<'_>, usize)>, Fault>
+    ensures value { Gives found_in result (next_pdu payload.now at) }
     ensures within { IfOk result (λ found. IfSome found (λ m. (at < m.1) × (m.1 ≤ length payload.now))) }
     ensures memory { WantsOnlyIf result (is_headed id_of_number (drop at payload.now)) }
 {
@@ -90,17 +92,34 @@ fn read_next(alloc: Global, payload: &[u8], at: usize) -> Result<Option<(Pdu, us
     Ok(Some((pdu, at + size)))
 }
 
-/// Reads the message at a place of a payload, and says which place is behind it. None exactly where
-/// the payload ends at or before that place.
+/// Reads the message at a place of a payload, with its data borrowed from it, and says which place is behind it. None
+/// exactly where the payload ends at or before that place.
 ///
 /// Refusals are PduTruncated, PduLength, PduUnknown, CountMismatch and MonitorCount, by the first of
 /// the checks of `specs/Reading` that fails. Memory is wanted only behind a header that is accepted.
+pub fn read_pdu_ref(
+    alloc: Global,
+    payload: &[u8],
+    at: usize,
+) -> Result<Option<(PduRef<'_>, usize)>, Fault>
+    ensures value { Gives found_in result (next_pdu payload.now at) }
+    ensures within { IfOk result (λ found. IfSome found (λ m. (at < m.1) × (m.1 ≤ length payload.now))) }
+    ensures memory { WantsOnlyIf result (is_headed id_of_number (drop at payload.now)) }
+    // What is read is spelled so, byte for byte but for flags and padding.
+    ensures spelled { IfOk result (λ found. IfSome found (λ m. Begins (drop at payload.now) (pdu_of m.0) (m.1 - at))) }
+{
+    read_next(alloc, payload, at)
+}
+
+/// The same with a copy of the message's data.
 pub fn read_pdu(alloc: Global, payload: &[u8], at: usize) -> Result<Option<(Pdu, usize)>, Fault>
     ensures value { Gives (λ found. found) result (next_pdu payload.now at) }
     ensures within { IfOk result (λ found. IfSome found (λ m. (at < m.1) × (m.1 ≤ length payload.now))) }
     ensures memory { WantsOnlyIf result (is_headed id_of_number (drop at payload.now)) }
-    // What is read is spelled so, byte for byte but for flags and padding.
     ensures spelled { IfOk result (λ found. IfSome found (λ m. Begins (drop at payload.now) m.0 (m.1 - at))) }
 {
-    read_next(alloc, payload, at)
+    let Some((pdu, after)) = read_next(alloc, payload, at)? else {
+        return Ok(None);
+    };
+    Ok(Some((pdu.into_owned(alloc)?, after)))
 }

@@ -7,3 +7,4 @@ pub mod PutLemmas
 pub mod ReadBackLemmas
 pub mod CuttingLemmas
 pub mod Numbers
+pub mod PayloadLemmas

@@ -1,3 +1,4 @@
 pub mod Framing
 pub mod Edge
 pub mod Pieces
+pub mod Payloads

@@ -1,4 +1,4 @@
-ghost use Rattle.std.specs.Prelude.{◌≡◌, ◌==◌, ◌&&◌, length, List, ◌++◌, take, drop, Ok, Err, MatchResult};
+ghost use Rattle.std.specs.Prelude.{◌≡◌, ◌==◌, ◌&&◌, length, List, ◌++◌, take, drop, Ok, Err, IfOk, MatchResult};
 ghost use Rattle.gfx_base.specs.Outcome.{Gives, WantsOnlyIf};
 ghost use Rattle.gfx_segment.specs.Framing.{block_data, next_block, blocks, segments, payload, is_described};
 ghost use Rattle.gfx_segment.specs.Pieces.{onto};
@@ -18,8 +18,9 @@ struct Cut<'a> {
 
 /// The content of a block, behind its header.
 #[tactic(auto, unfolding(crate::specs::Framing::block_data))]
-fn content_of(block: &[u8]) -> Result<&[u8], Refusal>
-    ensures { MatchResult result (λ content. block_data block.now ≡ Ok content.now) (λ r. block_data block.now ≡ Err r) }
+pub(crate) fn content_of(block: &[u8]) -> Result<&[u8], Refusal>
+    ensures value { MatchResult result (λ content. block_data block.now ≡ Ok content.now) (λ r. block_data block.now ≡ Err r) }
+    ensures behind { IfOk result (λ content. content.now ≡ drop 1 block.now) }
 {
     let [header, content @ ..] = block else {
         return Err(Refusal::SegmentSize);
@@ -63,9 +64,10 @@ fn read_block(alloc: Global, block: &[u8]) -> Result<Bytes, Fault>
     Ok(payload)
 }
 
-/// The payload of a message of several blocks, behind its descriptor.
-fn read_segments(alloc: Global, bytes: &[u8]) -> Result<Bytes, Fault>
-    ensures { Gives (λ p. p) result (segments bytes.now) }
+/// Puts the payload of a message of several blocks, behind its descriptor, in the place of what is held. A
+/// fault may leave a part of it.
+pub(crate) fn read_segments(bytes: &[u8], payload: &mut Bytes) -> Result<(), Fault>
+    ensures { Gives (λ _. payload.new) result (segments bytes.now) }
 {
     let Some(count) = field_u16(bytes, 0) else {
         return Err(Fault::Refused(Refusal::SegmentSize));
@@ -74,12 +76,12 @@ fn read_segments(alloc: Global, bytes: &[u8]) -> Result<Bytes, Fault>
         return Err(Fault::Refused(Refusal::SegmentSize));
     };
     let (_, blocks) = bytes.split_at(SEGMENTS_AT);
-    let mut payload = Bytes::new(alloc);
-    let after = append_blocks(count, blocks, &mut payload)?;
-    if !is_agreed(after, &payload, size) {
+    payload.truncate(0);
+    let after = append_blocks(count, blocks, payload)?;
+    if !is_agreed(after, payload, size) {
         return Err(Fault::Refused(Refusal::SegmentSize));
     }
-    Ok(payload)
+    Ok(())
 }
 
 /// Nothing is left behind the blocks, and their content is as long as was said.
@@ -114,7 +116,11 @@ pub(crate) fn read_payload(alloc: Global, message: &[u8]) -> Result<Bytes, Fault
     };
     match *descriptor {
         SINGLE => read_block(alloc, rest),
-        MULTIPART => read_segments(alloc, rest),
+        MULTIPART => {
+            let mut payload = Bytes::new(alloc);
+            read_segments(rest, &mut payload)?;
+            Ok(payload)
+        }
         _ => Err(Fault::Refused(Refusal::Descriptor)),
     }
 }

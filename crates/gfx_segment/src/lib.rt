@@ -2,17 +2,36 @@
 //! their payloads, and a payload becomes a channel message.
 //!
 //! In the pipe it stands between the bytes of a recording and the graphics messages, whose layout it
-//! doesn't know.
+//! doesn't know. Both readers keep the bytes that are no whole message yet, and the first refusal, behind
+//! which they take nothing. `Splitter` gives each message as bytes of its own:
+//!
+//! ```text
+//!           a whole message, or too few bytes
+//!             +----+
+//!             v    |
+//! new() --> holding --- a length or a message that is refused --> refused (it answers this again)
+//! ```
+//!
+//! `Payloads` lends one payload at a time:
+//!
+//! ```text
+//! new() --> closed --- open_next: a message of one block ------> lying  (lent where it was fed)
+//!             ^   \--- open_next: a message of several blocks --> joined (lent from a buffer that stays)
+//!             |                                                   |
+//!             +------------------ pass: its last byte ------------+
+//! ```
 #![tactic(auto)]
 
 mod blocks;
 mod edge;
 mod laws;
+mod payloads;
 mod profile;
 mod splitter;
 mod writing;
 
 pub use laws::{a_prefixed_message_is_whole, any_cutting_gives_the_same};
+pub use payloads::Payloads;
 pub use profile::{
     COMPRESSED, MOST_BLOCK, MOST_PAYLOAD, MULTIPART, PREFIX, RDP8, SEGMENTS_AT, SINGLE, SIZE_AT,
     TYPES,

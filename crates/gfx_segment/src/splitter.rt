@@ -101,14 +101,14 @@ impl Splitter {
         Ok(())
     }
 
-    fn rest(&self) -> &[u8]
+    pub(crate) fn rest(&self) -> &[u8]
         ensures { result.now ≡ self.now.rest }
     {
         &self.buffer[self.start..]
     }
 
     /// The message of this size at the front.
-    fn message(&self, size: usize) -> &[u8]
+    pub(crate) fn message(&self, size: usize) -> &[u8]
         requires { PREFIX + size ≤ length self.now.rest }
         ensures { result.now ≡ take size (drop PREFIX self.now.rest) }
     {
@@ -117,14 +117,14 @@ impl Splitter {
         message
     }
 
-    fn kept(&self) -> Option<Refusal>
+    pub(crate) fn kept(&self) -> Option<Refusal>
         ensures { result ≡ self.now.refusal }
     {
         self.refusal
     }
 
     /// Keeps a refusal, and no bytes.
-    fn keep(&mut self, refusal: Refusal)
+    pub(crate) fn keep(&mut self, refusal: Refusal)
         ensures { self.new ≡ refused refusal }
     {
         self.buffer.clear();
@@ -133,7 +133,7 @@ impl Splitter {
     }
 
     /// Lets go of this many bytes. They leave the buffer once they are more than half of it.
-    fn pass(&mut self, count: usize)
+    pub(crate) fn pass(&mut self, count: usize)
         requires { count ≤ length self.old.rest }
         ensures { self.new ≡ record self.old { rest = drop count self.old.rest } }
     {

@@ -9,7 +9,7 @@ pub turns-preserved : goal.turns-preserved
 turns-preserved c =
     let less : c.args.count - c.turns._index ≡ suc (c.args.count - (c.turns._index + 1)) = omega arith in
     c.turns.invariant
-    ∙ onto_block _ _ _ _ _ _ _ less c.in_ok-cut.ensures c.in_ok-content_of.ensures
+    ∙ onto_block _ _ _ _ _ _ _ less c.in_ok-cut.ensures c.in_ok-content_of.ensures.value
     ∙ ap (λ z. onto z (blocks (c.args.count - (c.turns._index + 1)) c.in_ok-cut.cut.after.now)) (sym (c.in_ok-append.ensures.ok))
 
 pub returns-in_err-cut : goal.returns-in_err-cut
@@ -22,7 +22,7 @@ pub returns-in_err-content_of : goal.returns-in_err-content_of
 returns-in_err-content_of c =
     let less : c.args.count - c.turns._index ≡ suc (c.args.count - (c.turns._index + 1)) = omega arith in
     let p = err_from_is_err_and c.from_residual-in_err-content_of.result c.from_residual-in_err-content_of.ensures.1 in
-    rw (p.1, p.2) (c.turns.invariant ∙ onto_block_refused _ _ _ _ _ _ _ less c.in_ok-cut.ensures c.in_err-content_of.ensures)
+    rw (p.1, p.2) (c.turns.invariant ∙ onto_block_refused _ _ _ _ _ _ _ less c.in_ok-cut.ensures c.in_err-content_of.ensures.value)
 
 pub returns : goal.returns
 returns c = c.turns.invariant ∙ onto_none _ _ _ (omega arith)

@@ -14,17 +14,17 @@ pub returns-in_err-after : goal.returns-in_err-after
 returns-in_err-after c =
     let counts : Counts c.args.bytes.now c.in-Some.count c.in-Some-field_u32.size = record { count_is = sym c.field_u16.ensures.value ∙ c.in-Some.is; size_is = sym c.field_u32.ensures.value ∙ c.in-Some-field_u32.is } in
     let p = err_from_is_err_and c.from_residual.result c.from_residual.ensures.1 in
-    let failed = rw (c.new-payload.ensures, c.split_at.ensures.back) at c.in_err-after.ensures in
+    let failed = rw (c.truncate.ensures, c.split_at.ensures.back) at c.in_err-after.ensures in
     rw (p.1, p.2) (segments_failed {X = Bor (List ℕ)} _ _ _ (λ after. (c.append_blocks.new.payload, after.now)) _ counts failed)
 
 pub returns-then-not-is_agreed : goal.returns-then-not-is_agreed
 returns-then-not-is_agreed c =
     let counts : Counts c.args.bytes.now c.in-Some.count c.in-Some-field_u32.size = record { count_is = sym c.field_u16.ensures.value ∙ c.in-Some.is; size_is = sym c.field_u32.ensures.value ∙ c.in-Some-field_u32.is } in
-    let found = rw (c.new-payload.ensures, c.split_at.ensures.back) at c.in_ok-after.ensures in
+    let found = rw (c.truncate.ensures, c.split_at.ensures.back) at c.in_ok-after.ensures in
     segments_unequal _ _ _ _ _ counts found (sym c.if-not-is_agreed.ensures)
 
 pub returns : goal.returns
 returns c =
     let counts : Counts c.args.bytes.now c.in-Some.count c.in-Some-field_u32.size = record { count_is = sym c.field_u16.ensures.value ∙ c.in-Some.is; size_is = sym c.field_u32.ensures.value ∙ c.in-Some-field_u32.is } in
-    let found = rw (c.new-payload.ensures, c.split_at.ensures.back) at c.in_ok-after.ensures in
+    let found = rw (c.truncate.ensures, c.split_at.ensures.back) at c.in_ok-after.ensures in
     segments_whole _ _ _ _ _ counts found (sym c.if-not-is_agreed.ensures)

@@ -1,5 +1,5 @@
 -- A client that begins with bitmaps.
-use Rattle.std.proofs.Common.{◌≡◌, ◌∙◌, ap, sym, refl, subst, Bool, List, [], ℕ, None, Result, Ok, Err}
+use Rattle.std.proofs.Common.{◌≡◌, ◌∙◌, ap, sym, refl, Bool, List, [], ℕ, None, Result, Ok, Err}
 use Rattle.gfx_base.specs.Outcome.{Gives}
 use Rattle.gfx_base.specs.declared.answer.Cause.{Cause}
 use Rattle.gfx_base.specs.declared.answer.Cause.TheVariants as fault
@@ -13,7 +13,7 @@ use Rattle.gfx_import.proofs.StartedLemmas.{cache_by-small}
 use Rattle.gfx_segment.specs.Framing.{answer_of, holding, next, next_of, payload}
 use Rattle.gfx_segment.proofs.FrontLemmas.{front-nil}
 use Rattle.gfx_state.specs.Cursor.{Cursor, Needs, after_held, before_all, settled, what_next}
-use Rattle.gfx_state.specs.History.{coming, effects, history, history_from, history_held}
+use Rattle.gfx_state.specs.History.{coming, effects, history, history_held}
 use Rattle.gfx_state.specs.Payload.{messages_within}
 use Rattle.gfx_state.specs.Run.{begun_from, close, deliver, run_from}
 use Rattle.gfx_state.specs.State.{State, started_with}

@@ -1,6 +1,7 @@
 -- What reading, applying and opening come to for a client.
-use Rattle.std.proofs.Common.{◌≡◌, ℕ, ◌+◌, ◌-◌, ◌%◌, ◌^◌, List, [], length, drop, true, false, ◌||◌, ◌==◌, Some, None, is_some, if◌then◌else◌, Result, Ok, Err, refl, sym, ap, ◌∙◌, subst, arith}
-use Rattle.std.proofs.lemmas.List.{drop-drop}
+use Rattle.std.proofs.Common.{◌≡◌, ℕ, ◌+◌, ◌%◌, ◌^◌, Bool, List, [], length, drop, true, false, ◌||◌, ◌==◌, Some, None, is_some, cond, if◌then◌else◌, Result, Ok, Err, refl, sym, ap, ◌∙◌, subst, arith}
+use Rattle.std.proofs.lemmas.List.{nil_from_length}
+use Rattle.std.proofs.lemmas.Bool.{eqb-true}
 use Rattle.gfx_base.specs.Memory.{next_count}
 use Rattle.gfx_base.specs.Outcome.{Gives, Applies}
 use Rattle.gfx_base.specs.declared.refusal.Refusal.{Refusal}
@@ -8,19 +9,22 @@ use Rattle.gfx_base.specs.declared.answer.Cause.{Cause}
 use Rattle.gfx_base.specs.declared.answer.Cause.TheVariants as fault
 use Rattle.gfx_pdu.specs.declared.pdu.Pdu.{Pdu}
 use Rattle.gfx_pdu.specs.declared.pdu.Pdu.TheVariants as pdus
-use Rattle.gfx_pdu.specs.Reading.{next_pdu}
-use Rattle.gfx_segment.specs.Framing.{Splitter, next, after_next, payload, ended, Answers}
+use Rattle.gfx_pdu.specs.Borrowed.{found_in}
+use Rattle.gfx_pdu.specs.Reading.{next_pdu, message_at, front}
+use Rattle.gfx_segment.specs.Framing.{Splitter, next, after_next, payload, ended}
+use Rattle.gfx_segment.specs.Payloads.{Payloads}
+use Rattle.gfx_segment.specs.Payloads.{Opens as OpensPayload}
 use Rattle.gfx_state.specs.State.{State}
 use Rattle.gfx_state.specs.Step.{step, frame_ended, is_open}
-use Rattle.gfx_state.specs.Cursor.{Cursor, Opens, Needs, Refuses, what_next, Reaches, Here, settled}
+use Rattle.gfx_state.specs.Cursor.{Cursor, Opens, Needs, Refuses, what_next, next_message, next_state, Reaches, Here, settled}
 use Rattle.gfx_state.specs.Cursor as cursor
 use Rattle.gfx_state.proofs.NextMoves.{what_next_takes, what_next_refuses, what_next_unread, what_next_opens, what_next_needs, what_next_ends, next_pdu_found, next_pdu_refused}
-use Rattle.gfx_base.specs.Results.{check}
+use Rattle.gfx_base.specs.Results.{check, and_then}
 use Rattle.gfx_base.specs.declared.refusal.Refusal.TheVariants.{ChannelTruncated, FrameMismatch}
 use Rattle.gfx_base.proofs.ResultLemmas.{and_then_ok}
 use Rattle.gfx_client.specs.declared.fault.ClientFault.{ClientFault}
 use Rattle.gfx_client.specs.declared.fault.ClientFault.TheVariants as faults
-use Rattle.gfx_state.proofs.Moves.{settled_reaches, settled_ending, next_short, needs_nothing, after_next_none, after_next_fewer, Reaches-opens, Reaches-takes, Reaches-none}
+use Rattle.gfx_state.proofs.Moves.{settled_reaches, settled_ending, next_short, needs_nothing, after_next_fewer, Reaches-opens, Reaches-takes, Reaches-none}
 use Rattle.gfx_client.specs.declared.client.Client.{Client}
 use Rattle.gfx_client.specs.declared.stepped.Stepped.{Stepped}
 use Rattle.gfx_client.specs.declared.stepped.Stepped.TheVariants as stepped
@@ -31,15 +35,15 @@ use Rattle.gfx_client.specs.Client.{cursor_of, closed_by, TakesMessage, TakesOne
 -- taking a message ---------------------------------------------------------------------------------
 
 -- it can't be read
-pub unread : (client : Client) (f : Cause Refusal) → Gives (λ found. found) (Err f) (next_pdu client.payload client.at) → TakesMessage (Err f) client client
+pub unread : (client : Client) (f : Cause Refusal) → Gives found_in (Err f) (next_pdu client.payloads.left 0) → TakesMessage (Err f) client client
 unread client fault.Memory due = refl
-unread client (fault.Refused r) due = (what_next_unread (cursor_of client) r (next_pdu_refused client.payload client.at r due), refl)
+unread client (fault.Refused r) due = (what_next_unread (cursor_of client) r (next_pdu_refused client.payloads.left 0 r due), refl)
 
 -- it isn't applied
-pub not_applied : (client : Client) (pdu : Pdu) (after : ℕ) (f : Cause Refusal) (state : State) → next_pdu client.payload client.at ≡ Ok (Some (pdu, after)) → Applies (Err f) client.state state (step client.state pdu) → TakesMessage (Err f) client (record client { state = state })
+pub not_applied : (client : Client) (pdu : Pdu) (after : ℕ) (f : Cause Refusal) (state : State) → next_pdu client.payloads.left 0 ≡ Ok (Some (pdu, after)) → Applies (Err f) client.state state (step client.state pdu) → TakesMessage (Err f) client (record client { state = state })
 not_applied client pdu after fault.Memory state read same = ap (λ z. record client { state = z }) same
 not_applied client pdu after (fault.Refused r) state read due =
-    let found = next_pdu_found client.payload client.at pdu after read in
+    let found = next_pdu_found client.payloads.left 0 pdu after read in
     (what_next_refuses (cursor_of client) pdu found.size r found.read due.0, ap (λ z. record client { state = z }) due.1)
 
 -- no reply to it can be made
@@ -62,53 +66,79 @@ said_after (pdus.EndFrame frame) size state next e = ap (λ n. stepped.Ended fra
 said_after other size state next e = refl
 
 -- it is applied
-pub taken : (client : Client) (pdu : Pdu) (after applied decoded size : ℕ) (state : State) (stepped : Stepped) → next_pdu client.payload client.at ≡ Ok (Some (pdu, after)) → step client.state pdu ≡ Ok state → applied ≡ next_count client.applied
-    → decoded ≡ (client.state.decoded + 1) % 2 ^ 32 → size ≡ after - client.at → stepped ≡ stepped_of pdu size decoded → TakesOne client (record client { at = after; state = state; applied = applied }) stepped
-taken client pdu after applied decoded size state stepped read stepping counted ended sized says =
-    let found = next_pdu_found client.payload client.at pdu after read in
-    let left : drop found.size (drop client.at client.payload) ≡ drop after client.payload = drop-drop found.size client.at client.payload ∙ ap (λ z. drop z client.payload) (sym found.behind) in
+pub taken : (client : Client) (pdu : Pdu) (size applied decoded : ℕ) (payloads : Payloads) (state : State) (stepped : Stepped) → next_pdu client.payloads.left 0 ≡ Ok (Some (pdu, size)) → step client.state pdu ≡ Ok state → payloads ≡ record client.payloads { left = drop size client.payloads.left }
+    → applied ≡ next_count client.applied → decoded ≡ (client.state.decoded + 1) % 2 ^ 32 → stepped ≡ stepped_of pdu size decoded → TakesOne client (record client { payloads = payloads; state = state; applied = applied }) stepped
+taken client pdu size applied decoded payloads state stepped read stepping passed counted more says =
+    let found = next_pdu_found client.payloads.left 0 pdu size read in
     let long : size ≡ found.size = let behind = found.behind in omega arith in
+    let all : Payloads → ℕ → Cursor = λ held count. record { splitter = held.splitter; left = held.left; state = state; applied = count } in
     record {
       pdu = pdu;
       size = found.size;
       read = found.read;
-      says = says ∙ ap (λ n. stepped_of pdu n decoded) long ∙ ap (stepped_of pdu found.size) ended ∙ said_after pdu found.size client.state state stepping;
+      says = says ∙ ap (λ n. stepped_of pdu n decoded) long ∙ ap (stepped_of pdu found.size) more ∙ said_after pdu found.size client.state state stepping;
       takes = what_next_takes (cursor_of client) pdu found.size state found.read stepping
-          ∙ ap (λ z. cursor.Takes pdu (record { splitter = client.splitter; left = z; state = state; applied = next_count client.applied })) left
-          ∙ ap (λ z. cursor.Takes pdu (record { splitter = client.splitter; left = drop after client.payload; state = state; applied = z })) (sym counted);
+          ∙ ap (λ n. cursor.Takes pdu (all (record client.payloads { left = drop n client.payloads.left }) (next_count client.applied))) (sym long)
+          ∙ ap (λ held. cursor.Takes pdu (all held (next_count client.applied))) (sym passed)
+          ∙ ap (λ n. cursor.Takes pdu (all payloads n)) (sym counted);
       closed = refl;
     }
 
 -- opening a channel message ------------------------------------------------------------------------
 
+-- at its end nothing of a payload is left
+none_found : (found : Result (Pdu × ℕ) Refusal) → and_then found (λ m. Ok (Some m)) ≡ Ok None → ⊥
+unfolding and_then
+none_found (Ok m) e = absurd cc
+none_found (Err r) e = absurd cc
+
+pub left_at_end : (bytes : List ℕ) → message_at bytes ≡ Ok None → bytes ≡ []
+unfolding message_at
+left_at_end bytes e =
+    elim (length bytes == 0) as (λ b. length bytes == 0 ≡ b → cond b (Ok None) (and_then (front bytes) (λ m. Ok (Some m))) ≡ Ok None → bytes ≡ []) [
+      | true ↦ λ zero none. nil_from_length bytes (eqb-true (length bytes) 0 zero)
+      | false ↦ λ zero none. absurd (none_found (front bytes) none)
+    ] refl e
+
+-- nor at a cursor that needs more bytes
+pub left_waiting : (c : Cursor) → what_next c ≡ Needs → c.left ≡ []
+unfolding what_next next_message next_state
+left_waiting c e =
+    elim (message_at c.left) as (λ q. message_at c.left ≡ q → next_message c q ≡ Needs → c.left ≡ []) [
+      | Ok o ↦ elim o as (λ q. message_at c.left ≡ Ok q → next_message c (Ok q) ≡ Needs → c.left ≡ []) [
+        | Some m ↦ λ read needs. elim (step c.state m.0) as (λ q. next_state c m.0 m.1 q ≡ Needs → c.left ≡ []) [
+          | Ok s ↦ λ none. absurd cc
+          | Err r ↦ λ none. absurd cc
+        ] needs
+        | None ↦ λ read needs. left_at_end c.left read
+      ]
+      | Err r ↦ λ read needs. absurd cc
+    ] refl e
+
 -- a splitter that has refused
-kept : (client : Client) (r : Refusal) (held : Splitter) → IsAtPayloadEnd client → next payload client.splitter ≡ Err r → held ≡ after_next payload client.splitter
-    → settled (cursor_of (record client { splitter = held })) ≡ settled (cursor_of client)
-kept client r held end gave same =
-    ap (λ z. settled (record { splitter = z; left = (cursor_of client).left; state = client.state; applied = client.applied })) same
-    ∙ settled_ending (cursor_of client) r end gave
+kept : (client : Client) (r : Refusal) (held : Splitter) → IsAtPayloadEnd client → next payload client.payloads.splitter ≡ Err r → held ≡ after_next payload client.payloads.splitter
+    → settled (record (cursor_of client) { splitter = held }) ≡ settled (cursor_of client)
+kept client r held end gave same = ap (λ z. settled (record (cursor_of client) { splitter = z })) same ∙ settled_ending (cursor_of client) r end gave
 
-pub not_opened : (client : Client) (f : Cause Refusal) (held : Splitter) → IsAtPayloadEnd client → Answers (Err f) client.splitter held (next payload client.splitter) (after_next payload client.splitter) → OpensMessage (Err f) client (record client { splitter = held })
-not_opened client fault.Memory held end same = ap (λ z. record client { splitter = z }) same
-not_opened client (fault.Refused r) held end due =
-    (what_next_ends (cursor_of client) r end due.0, record { run = kept client r held end due.0 due.1; state = refl; applied = refl; closed = refl })
-
--- no whole channel message is there: the splitter is as it was
-pub needs : (client : Client) (held : Splitter) → IsAtPayloadEnd client → Answers (Ok None) client.splitter held (next payload client.splitter) (after_next payload client.splitter) → (what_next (cursor_of client) ≡ Needs) × (record client { splitter = held } ≡ client)
-needs client held end due =
-    let gave : next payload client.splitter ≡ Ok None = due.0 in
-    (what_next_needs (cursor_of client) end gave, ap (λ z. record client { splitter = z }) (due.1 ∙ after_next_none client.splitter gave))
-
--- a channel message is opened
-pub opened : (client : Client) (p : List ℕ) (held : Splitter) → IsAtPayloadEnd client → Answers (Ok (Some p)) client.splitter held (next payload client.splitter) (after_next payload client.splitter) → OpensOne client (record client { splitter = held; payload = p; at = 0 })
-opened client p held end due =
-    let gave : next payload client.splitter ≡ Ok (Some p) = due.0 in
-    record {
-      opens = what_next_opens (cursor_of client) p end gave
-          ∙ ap (λ z. Opens (record { splitter = z; left = p; state = client.state; applied = client.applied })) (sym due.1);
-      fewer = rw due.1 (after_next_fewer client.splitter p gave);
-      closed = refl;
-    }
+-- what opening answers, at the end of a payload
+pub opened : (client : Client) (result : Result Bool (Cause Refusal)) (payloads : Payloads) → IsAtPayloadEnd client → OpensPayload result client.payloads payloads → OpensMessage result client (record client { payloads = payloads })
+opened client (Ok true) payloads end (gave, behind) = record {
+  opens = what_next_opens (cursor_of client) payloads.left end gave
+      ∙ ap (λ z. Opens (record { splitter = z; left = payloads.left; state = client.state; applied = client.applied })) (sym behind);
+  fewer = rw behind (after_next_fewer client.payloads.splitter payloads.left gave);
+  closed = refl;
+}
+opened client (Ok false) payloads end (gave, same) = (what_next_needs (cursor_of client) end gave, ap (λ z. record client { payloads = z }) same)
+opened client (Err fault.Memory) payloads end same = ap (λ z. record client { payloads = z }) same
+opened client (Err (fault.Refused r)) payloads end (gave, same) = (
+  what_next_ends (cursor_of client) r end gave,
+  record {
+    run = ap (λ z. settled (cursor_of (record client { payloads = z }))) same ∙ kept client r _ end gave refl;
+    state = refl;
+    applied = refl;
+    closed = refl;
+  },
+)
 
 -- one message or more ------------------------------------------------------------------------------
 
@@ -189,18 +219,18 @@ ended_waiting held gave =
     ap (λ z. check ChannelTruncated (is_some z || (length held.rest == 0))) (next_short held.refusal held.rest gave).0
 
 -- what the splitter answers at the end is what the client does
-pub end_ok : (client : Client) → closed_by client ≡ None → what_next (cursor_of client) ≡ Needs → ended client.splitter ≡ Ok tt → Ok tt ≡ end_of (closed_by client) (cursor_of client)
+pub end_ok : (client : Client) → closed_by client ≡ None → what_next (cursor_of client) ≡ Needs → ended client.payloads.splitter ≡ Ok tt → Ok tt ≡ end_of (closed_by client) (cursor_of client)
 end_ok client none needed due =
-    let whole = sym (ended_waiting client.splitter (needs_nothing (cursor_of client) needed)) ∙ due in
-    rw none (elim (length client.splitter.rest == 0) as (λ b. check ChannelTruncated b ≡ Ok (tt {0}) → ◌≡◌ {A = Result (Unit {0}) ClientFault} (Ok (tt {0})) (if b then Ok (tt {0}) else Err (faults.Refused (next_count client.applied) ChannelTruncated))) [
+    let whole = sym (ended_waiting client.payloads.splitter (needs_nothing (cursor_of client) needed)) ∙ due in
+    rw none (elim (length client.payloads.splitter.rest == 0) as (λ b. check ChannelTruncated b ≡ Ok (tt {0}) → ◌≡◌ {A = Result (Unit {0}) ClientFault} (Ok (tt {0})) (if b then Ok (tt {0}) else Err (faults.Refused (next_count client.applied) ChannelTruncated))) [
       | true ↦ λ e. refl
       | false ↦ λ e. absurd cc
     ] whole)
 
-pub end_refused : (client : Client) (r : Refusal) (number : ℕ) → closed_by client ≡ None → what_next (cursor_of client) ≡ Needs → ended client.splitter ≡ Err r → number ≡ next_count client.applied → Err (faults.Refused number r) ≡ end_of (closed_by client) (cursor_of client)
+pub end_refused : (client : Client) (r : Refusal) (number : ℕ) → closed_by client ≡ None → what_next (cursor_of client) ≡ Needs → ended client.payloads.splitter ≡ Err r → number ≡ next_count client.applied → Err (faults.Refused number r) ≡ end_of (closed_by client) (cursor_of client)
 end_refused client r number none needed due counted =
-    let cut = sym (ended_waiting client.splitter (needs_nothing (cursor_of client) needed)) ∙ due in
-    rw (none, counted) (elim (length client.splitter.rest == 0) as (λ b. check ChannelTruncated b ≡ Err r → ◌≡◌ {A = Result (Unit {0}) ClientFault} (Err (faults.Refused (next_count client.applied) r)) (if b then Ok (tt {0}) else Err (faults.Refused (next_count client.applied) ChannelTruncated))) [
+    let cut = sym (ended_waiting client.payloads.splitter (needs_nothing (cursor_of client) needed)) ∙ due in
+    rw (none, counted) (elim (length client.payloads.splitter.rest == 0) as (λ b. check ChannelTruncated b ≡ Err r → ◌≡◌ {A = Result (Unit {0}) ClientFault} (Err (faults.Refused (next_count client.applied) r)) (if b then Ok (tt {0}) else Err (faults.Refused (next_count client.applied) ChannelTruncated))) [
       | true ↦ λ e. absurd cc
       | false ↦ λ e. let same : r ≡ ChannelTruncated = cc in ap (λ z. Err (faults.Refused (next_count client.applied) z)) same
     ] cut)

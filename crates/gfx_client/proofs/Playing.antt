@@ -39,7 +39,7 @@ stands_taken old new bytes piece took s = record {
 -- a step is made, whatever it answers
 pub stands_advanced : (result : Result Stepped (Cause Refusal)) (old new : Client) → Advances result old new → settled (cursor_of new) ≡ settled (cursor_of old)
 stands_advanced (Ok stepped.Need) old new w = settled_reaches (cursor_of old) (cursor_of new) [] w.moves.reaches
-stands_advanced (Ok (stepped.Applied pdu size)) old new m = settled_reaches (cursor_of old) (cursor_of new) (m.pdu ∷ []) m.moves.reaches
+stands_advanced (Ok (stepped.Applied id size)) old new m = settled_reaches (cursor_of old) (cursor_of new) (m.pdu ∷ []) m.moves.reaches
 stands_advanced (Ok (stepped.Ended frame size reply)) old new m = settled_reaches (cursor_of old) (cursor_of new) (m.pdu ∷ []) m.moves.reaches
 stands_advanced (Err cause.Memory) old new m = settled_reaches (cursor_of old) (cursor_of new) [] m.reaches
 stands_advanced (Err (cause.Refused r)) old new e = e.0.run

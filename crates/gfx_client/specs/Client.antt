@@ -1,5 +1,5 @@
 -- A client as the steps of a cursor, and what each of its calls answers.
-use Rattle.std.specs.Prelude.{◌≡◌, ℕ, ◌<◌, List, [], ◌∷◌, length, drop, Bool, true, false, ◌==◌, if◌then◌else◌, Option, Some, None, Result, Ok, Err}
+use Rattle.std.specs.Prelude.{◌≡◌, ℕ, ◌<◌, List, [], ◌∷◌, length, Bool, true, false, ◌==◌, if◌then◌else◌, Option, Some, None, Result, Ok, Err}
 use Rattle.gfx_base.specs.Memory.{next_count}
 use Rattle.gfx_base.specs.declared.refusal.Refusal.{Refusal}
 use Rattle.gfx_base.specs.declared.refusal.Refusal.TheVariants.{ChannelTruncated}
@@ -21,8 +21,8 @@ use Rattle.gfx_client.specs.Replies.{stepped_of}
 -- where a client is in its stream
 abbrev pub cursor_of : Client → Cursor
 cursor_of client = record {
-  splitter = client.splitter;
-  left = drop client.at client.payload;
+  splitter = client.payloads.splitter;
+  left = client.payloads.left;
   state = client.state;
   applied = client.applied;
 }
@@ -76,7 +76,7 @@ pub record Waits (old new : Client) : Type 0 where
 -- what a step did that wasn't closed off before
 abbrev pub Advances : Result Stepped (Cause Refusal) → Client → Client → Type 0
 Advances (Ok Need) old new = Waits old new
-Advances (Ok (Applied pdu size)) old new = MovesBy old new (Applied pdu size)
+Advances (Ok (Applied id size)) old new = MovesBy old new (Applied id size)
 Advances (Ok (Ended frame size reply)) old new = MovesBy old new (Ended frame size reply)
 Advances (Err fault.Memory) old new = Moves old new []
 Advances (Err (fault.Refused r)) old new = Ends old new r × (closed_by new ≡ closed_by old)
@@ -84,7 +84,7 @@ Advances (Err (fault.Refused r)) old new = Ends old new r × (closed_by new ≡ 
 -- what a step of a client answers. A closed client answers its fault, and stays as it is
 abbrev pub StepsOpen : Result Stepped ClientFault → Client → Client → Type 0
 StepsOpen (Ok Need) old new = Waits old new
-StepsOpen (Ok (Applied pdu size)) old new = MovesBy old new (Applied pdu size)
+StepsOpen (Ok (Applied id size)) old new = MovesBy old new (Applied id size)
 StepsOpen (Ok (Ended frame size reply)) old new = MovesBy old new (Ended frame size reply)
 StepsOpen (Err (Refused number r)) old new =
     Ends old new r × (number ≡ next_count (cursor_of old).applied) × (closed_by new ≡ Some (ClosedRefused number r))

@@ -11,6 +11,7 @@ use Rattle.gfx_caps.specs.Reading.{client_of}
 use Rattle.gfx_caps.specs.Spelling.{spelling}
 use Rattle.gfx_pdu.specs.declared.pdu.Pdu.{Pdu}
 use Rattle.gfx_pdu.specs.declared.pdu.Pdu.TheVariants.{EndFrame}
+use Rattle.gfx_pdu.specs.Spelling.{id_of}
 use Rattle.gfx_segment.specs.Framing.{prefixed, front, Whole}
 use Rattle.gfx_state.specs.History.{Effect}
 use Rattle.gfx_client.specs.declared.replies.Reply.{Reply}
@@ -42,7 +43,7 @@ reply_to other decoded = None
 -- what a step says of the message of this size that it applied, where so many frames are decoded after it
 abbrev pub stepped_of : Pdu → ℕ → ℕ → Stepped
 stepped_of (EndFrame frame) size decoded = Ended frame size (acknowledgement frame decoded)
-stepped_of other size decoded = Applied other size
+stepped_of other size decoded = Applied (id_of other) size
 
 -- what a step says of an effect
 abbrev pub stepped_by : Effect → Stepped
@@ -51,7 +52,7 @@ stepped_by effect = stepped_of effect.pdu effect.size effect.state.decoded
 -- the bytes for the server in what a step says
 abbrev pub reply_in : Stepped → List ℕ
 reply_in (Ended frame size reply) = reply
-reply_in (Applied pdu size) = []
+reply_in (Applied id size) = []
 reply_in Need = []
 
 -- the acknowledgements of the frames that these effects end, in their order

@@ -4,6 +4,8 @@ ghost use Rattle.gfx_state.specs.History.{Effect};
 ghost use Rattle.gfx_state.specs.State.{State};
 ghost use Rattle.gfx_client.specs.Replies.{hello, reply_to, stepped_of};
 ghost use Rattle.gfx_import.specs.Started.{cache_by};
+ghost use Rattle.gfx_pdu.specs.declared.pdu.Pdu.{Pdu};
+ghost use Rattle.gfx_pdu.specs.Spelling.{id_of};
 
 use crate::fault::ClientFault;
 use crate::offered::Offered;
@@ -14,22 +16,20 @@ use gfx_bitmap_cache::Cache;
 use gfx_caps::{MOST_OFFERS, Offers};
 use gfx_clear::ClearState;
 use gfx_import::{Kept, import_cache};
-use gfx_pdu::{Pdu, read_pdu};
+use gfx_pdu::{Id, read_pdu_ref};
 use gfx_prog_decode::Records;
-use gfx_segment::Splitter;
+use gfx_segment::Payloads;
 use gfx_state::State;
 use gfx_surface_map::SurfaceMap;
 use std::alloc::Global;
 
-/// A client: the versions that it offers, the bytes that it was given and has not used, the payload that
-/// it is in, and what the messages before have drawn.
+/// A client: the versions that it offers, the bytes that it was given and has not used with what is left of
+/// the payload that it is in, and what the messages before have drawn.
 #[derive(Drop)]
 pub struct Client {
     alloc: Global,
     offered: Offered,
-    splitter: Splitter,
-    payload: Bytes,
-    at: usize,
+    payloads: Payloads,
     state: State,
     applied: u64,
     closed: Option<ClientFault>,
@@ -52,9 +52,7 @@ impl Client {
         Ok(Client {
             alloc,
             offered: Offered::new(offers),
-            splitter: Splitter::new(alloc),
-            payload: Bytes::new(alloc),
-            at: 0,
+            payloads: Payloads::new(alloc),
             state,
             applied: 0,
             closed: None,
@@ -104,7 +102,7 @@ impl Client {
         if let Some(fault) = self.closed {
             return Err(fault);
         }
-        if self.splitter.feed(piece).is_err() {
+        if self.payloads.feed(piece).is_err() {
             self.closed = Some(ClientFault::ClosedMemory);
             return Err(ClientFault::Memory);
         }
@@ -161,7 +159,7 @@ impl Client {
         if let Some(fault) = self.closed {
             return Err(fault);
         }
-        match self.splitter.finish() {
+        match self.payloads.finish() {
             Ok(()) => Ok(()),
             Err(refusal) => Err(ClientFault::Refused {
                 number: self.applied.saturating_add(1),
@@ -233,21 +231,22 @@ impl Client {
         }
     }
 
-    /// Applies the next message of the payload, if there is one.
+    /// Applies the next message of the payload, if there is one. Its data are lent by the payload.
     fn take_message(&mut self) -> Result<Option<Stepped>, Fault>
         ensures takes { TakesMessage result self.old self.new }
         ensures offers { offers_of self.new ≡ offers_of self.old }
     {
-        let Some((pdu, after)) = read_pdu(self.alloc, self.payload.as_slice(), self.at)? else {
+        let Some((pdu, size)) = read_pdu_ref(self.alloc, self.payloads.left(), 0)? else {
             return Ok(None);
         };
         // Before it is applied, so that want of memory leaves all as it was.
         let reply = reply_to(self.alloc, &pdu, self.state.decoded().wrapping_add(1))?;
-        self.state.apply(self.alloc, &pdu)?;
-        let size = after - self.at;
-        self.at = after;
+        self.state.apply_ref(self.alloc, &pdu)?;
+        let stepped = stepped_of(pdu.id(), size, reply);
+        drop(pdu);
+        self.payloads.pass(size);
         self.applied = self.applied.saturating_add(1);
-        Ok(Some(stepped_of(pdu, size, reply)))
+        Ok(Some(stepped))
     }
 
     /// Goes on to the next channel message, if a whole one is there.
@@ -256,12 +255,7 @@ impl Client {
         ensures opens { OpensMessage result self.old self.new }
         ensures offers { offers_of self.new ≡ offers_of self.old }
     {
-        let Some(payload) = self.splitter.next_message()? else {
-            return Ok(false);
-        };
-        self.payload = payload;
-        self.at = 0;
-        Ok(true)
+        self.payloads.open_next()
     }
 }
 
@@ -275,9 +269,9 @@ fn needs_more(stepped: Stepped) -> bool
     }
 }
 
-/// What a step says of the message of this size that it applied, with the reply to it.
-fn stepped_of(pdu: Pdu, size: usize, reply: Option<Reply>) -> Stepped
-    ensures { (decoded : ℕ) → reply ≡ reply_to pdu decoded → result ≡ stepped_of pdu size decoded }
+/// What a step says of the message of this id and size that it applied, with the reply to it.
+fn stepped_of(id: Id, size: usize, reply: Option<Reply>) -> Stepped
+    ensures { (pdu : Pdu) (decoded : ℕ) → id ≡ id_of pdu → reply ≡ reply_to pdu decoded → result ≡ stepped_of pdu size decoded }
 {
     match reply {
         Some(Reply { frame, bytes }) => Stepped::Ended {
@@ -285,6 +279,6 @@ fn stepped_of(pdu: Pdu, size: usize, reply: Option<Reply>) -> Stepped
             size,
             reply: bytes,
         },
-        None => Stepped::Applied { pdu, size },
+        None => Stepped::Applied { id, size },
     }
 }

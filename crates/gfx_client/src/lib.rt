@@ -6,6 +6,14 @@
 //! which prints what it holds. What a message does is the step of `gfx_state`. A client keeps no byte
 //! that it has used; its contracts say which bytes it stands for, and what of their history it has
 //! brought about.
+//!
+//! ```text
+//!                  take: bytes      step: a message applied, a frame ended, or Need
+//!                       +----+        +----+
+//!                       v    |        v    |
+//! new() -- import? --> open -----------------> closed (each later call answers the first fault again)
+//!                               the first refusal, or want of memory
+//! ```
 #![tactic(auto)]
 
 mod client;

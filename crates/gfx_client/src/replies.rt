@@ -1,16 +1,17 @@
 //! What a client writes to the server: messages of its own, each alone in a channel message.
 ghost use Rattle.std.specs.Prelude.{◌≡◌, ◌≤◌, IfOk};
 ghost use Rattle.gfx_caps.specs.Spelling.{IsSpellable, size};
+ghost use Rattle.gfx_pdu.specs.Borrowed.{pdu_of};
 ghost use Rattle.gfx_client.specs.Replies.{alone, acknowledgement, reply_to};
 
 use gfx_base::{Bytes, MOST_MESSAGE, NoMemory};
 use gfx_caps::{ClientPdu, write_client};
-use gfx_pdu::Pdu;
+use gfx_pdu::{Pdu, PduRef};
 use gfx_segment::prefix;
 use std::alloc::Global;
 
 /// A message as it is sent.
-pub fn sent_alone(alloc: Global, pdu: &ClientPdu) -> Result<Bytes, NoMemory>
+pub(crate) fn sent_alone(alloc: Global, pdu: &ClientPdu) -> Result<Bytes, NoMemory>
     requires spellable { IsSpellable pdu.now }
     requires short { size pdu.now ≤ MOST_MESSAGE }
     ensures { IfOk result (λ bytes. bytes ≡ alone pdu.now) }
@@ -47,11 +48,15 @@ pub struct Reply {
 }
 
 /// The reply to a message, where so many frames are decoded after it.
-pub fn reply_to(alloc: Global, pdu: &Pdu, decoded: u32) -> Result<Option<Reply>, NoMemory>
-    ensures { IfOk result (λ reply. reply ≡ reply_to pdu.now decoded) }
+pub(crate) fn reply_to(
+    alloc: Global,
+    pdu: &PduRef<'_>,
+    decoded: u32,
+) -> Result<Option<Reply>, NoMemory>
+    ensures { IfOk result (λ reply. reply ≡ reply_to (pdu_of pdu.now) decoded) }
 {
     match pdu {
-        Pdu::EndFrame { frame } => {
+        PduRef::Other(Pdu::EndFrame { frame }) => {
             let frame = *frame;
             let bytes = acknowledgement(alloc, frame, decoded)?;
             Ok(Some(Reply { frame, bytes }))

@@ -1,12 +1,12 @@
 use gfx_base::Bytes;
-use gfx_pdu::Pdu;
+use gfx_pdu::Id;
 
 /// What a step of a client did.
 #[derive(Debug, Drop)]
 pub enum Stepped {
-    /// This message was applied.
+    /// A message of this id was applied.
     Applied {
-        pdu: Pdu,
+        id: Id,
         /// Its length on the wire in bytes (pduLength).
         size: usize,
     },

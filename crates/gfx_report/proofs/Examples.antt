@@ -4,7 +4,7 @@ use Rattle.std.specs.Prelude.{codes}
 use Rattle.gfx_base.specs.declared.format.Format.TheVariants.{Xrgb, Argb}
 use Rattle.std.specs.Fmt.{digits}
 use Rattle.hex.specs.Hex.{encode_with}
-use Rattle.gfx_pdu.specs.declared.pdu.Pdu.TheVariants.{StartFrame}
+use Rattle.gfx_pdu.specs.declared.id.Id.TheVariants.{StartFrame}
 use Rattle.gfx_base.specs.declared.pixel.Rgb.{Rgb}
 use Rattle.gfx_glyph.specs.Glyphs.{glyph}
 use Rattle.gfx_report.specs.StateBytes.{ring_bytes, glyphs_bytes}
@@ -47,7 +47,7 @@ pub one_key : key_digits 0x0123456789abcdef ≡ codes "0123456789abcdef"
 unfolding encode_with
 one_key = refl
 
-pub one_message : audit_line 1 (StartFrame 7 2) 16 ≡ codes "1 StartFrame 16\n"
+pub one_message : audit_line 1 StartFrame 16 ≡ codes "1 StartFrame 16\n"
 unfolding audit_line digits
 one_message = refl
 

@@ -4,8 +4,8 @@ use Rattle.std.specs.Prelude.{ℕ, List, ◌++◌, codes, decimal, is_some, coun
 use Rattle.std.specs.Int.{w64, to_be_bytes}
 use Rattle.std.specs.List.{flat_map, range_with_len}
 use Rattle.std.specs.FinMap.{entries, len}
-use Rattle.gfx_pdu.specs.declared.pdu.Pdu.{Pdu}
-use Rattle.gfx_pdu.specs.declared.pdu.Pdu.TheVariants as pdus
+use Rattle.gfx_pdu.specs.declared.id.Id.{Id}
+use Rattle.gfx_pdu.specs.declared.id.Id.TheVariants as ids
 use Rattle.gfx_bitmap_cache.specs.Slots.{Entry}
 use Rattle.gfx_clear_store.specs.Rings.{Slot, Places, Rings}
 use Rattle.gfx_glyph.specs.Glyphs.{Slot as GlyphSlot, slot_at}
@@ -16,27 +16,27 @@ use Rattle.hex.specs.Hex.{encode_lower}
 use Rattle.sha2.specs.Sha256.{sha256}
 
 -- the name of a message ([MS-RDPEGFX] 2.2.2), without its frame
-abbrev pub message_name : Pdu → List ℕ
-message_name (pdus.WireToSurface1 surface codec format rect payload) = codes "WireToSurface1"
-message_name (pdus.WireToSurface2 surface codec context format payload) = codes "WireToSurface2"
-message_name (pdus.DeleteEncodingContext surface context) = codes "DeleteEncodingContext"
-message_name (pdus.SolidFill surface colour rects) = codes "SolidFill"
-message_name (pdus.SurfaceToSurface source destination rect points) = codes "SurfaceToSurface"
-message_name (pdus.SurfaceToCache surface key slot rect) = codes "SurfaceToCache"
-message_name (pdus.CacheToSurface slot surface points) = codes "CacheToSurface"
-message_name (pdus.EvictCacheEntry slot) = codes "EvictCacheEntry"
-message_name (pdus.CreateSurface id width height format) = codes "CreateSurface"
-message_name (pdus.DeleteSurface id) = codes "DeleteSurface"
-message_name (pdus.StartFrame timestamp frame) = codes "StartFrame"
-message_name (pdus.EndFrame frame) = codes "EndFrame"
-message_name (pdus.ResetGraphics width height monitors) = codes "ResetGraphics"
-message_name (pdus.MapSurfaceToOutput id reserved x y) = codes "MapSurfaceToOutput"
-message_name (pdus.CapsConfirm version payload) = codes "CapsConfirm"
+abbrev pub message_name : Id → List ℕ
+message_name ids.WireToSurface1 = codes "WireToSurface1"
+message_name ids.WireToSurface2 = codes "WireToSurface2"
+message_name ids.DeleteEncodingContext = codes "DeleteEncodingContext"
+message_name ids.SolidFill = codes "SolidFill"
+message_name ids.SurfaceToSurface = codes "SurfaceToSurface"
+message_name ids.SurfaceToCache = codes "SurfaceToCache"
+message_name ids.CacheToSurface = codes "CacheToSurface"
+message_name ids.EvictCacheEntry = codes "EvictCacheEntry"
+message_name ids.CreateSurface = codes "CreateSurface"
+message_name ids.DeleteSurface = codes "DeleteSurface"
+message_name ids.StartFrame = codes "StartFrame"
+message_name ids.EndFrame = codes "EndFrame"
+message_name ids.ResetGraphics = codes "ResetGraphics"
+message_name ids.MapSurfaceToOutput = codes "MapSurfaceToOutput"
+message_name ids.CapsConfirm = codes "CapsConfirm"
 
 -- the line of a message: its number, its name and its size in bytes, as in `1 StartFrame 16`
-unfoldable pub audit_line : ℕ → Pdu → ℕ → List ℕ
-audit_line number pdu size =
-    decimal number ++ (codes " " ++ (message_name pdu ++ (codes " " ++ (decimal size ++ newline))))
+unfoldable pub audit_line : ℕ → Id → ℕ → List ℕ
+audit_line number id size =
+    decimal number ++ (codes " " ++ (message_name id ++ (codes " " ++ (decimal size ++ newline))))
 
 -- a key in sixteen lower-case hexadecimal digits, the highest first
 abbrev pub key_digits : ℕ → List ℕ

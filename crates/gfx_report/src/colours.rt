@@ -14,7 +14,7 @@ const COLOUR_BYTES: usize = 3;
 const PIECE: usize = 64;
 
 /// Adds colours, piece by piece.
-pub fn add_colours(pixels: &[Rgb], hasher: &mut Sha256)
+pub(crate) fn add_colours(pixels: &[Rgb], hasher: &mut Sha256)
     ensures { Took hasher.old hasher.new (colours_bytes pixels.now) }
 {
     let mut bytes = [0; COLOUR_BYTES * PIECE];

@@ -19,7 +19,7 @@ use sha2::{Digest, Sha256};
 pub const INDICES: u16 = 4000;
 
 /// Adds what a decoder holds: the bars, the shorts, the glyphs and the two cursors.
-pub fn add_decoder(decoder: &ClearState, hasher: &mut Sha256)
+pub(crate) fn add_decoder(decoder: &ClearState, hasher: &mut Sha256)
     ensures { Took hasher.old hasher.new (clear_bytes decoder.now.rings decoder.now.glyphs) }
 {
     let (bars, shorts) = decoder.cursors();
@@ -31,7 +31,7 @@ pub fn add_decoder(decoder: &ClearState, hasher: &mut Sha256)
 }
 
 /// Adds the bars, by ascending place, up to where nothing was ever written, and gives how many there are.
-pub fn add_bars(store: &Store, hasher: &mut Sha256) -> u16
+pub(crate) fn add_bars(store: &Store, hasher: &mut Sha256) -> u16
     requires { AreRings store.now.held }
     ensures took { Took hasher.old hasher.new (ring_bytes 0 store.now.held.bars.slots) }
     ensures held { result ≡ places_held store.now.held.bars.slots }
@@ -45,7 +45,7 @@ pub fn add_bars(store: &Store, hasher: &mut Sha256) -> u16
 }
 
 /// Adds the shorts, by ascending place, up to where nothing was ever written, and gives how many there are.
-pub fn add_shorts(store: &Store, hasher: &mut Sha256) -> u16
+pub(crate) fn add_shorts(store: &Store, hasher: &mut Sha256) -> u16
     requires { AreRings store.now.held }
     ensures took { Took hasher.old hasher.new (ring_bytes 0 store.now.held.shorts.slots) }
     ensures held { result ≡ places_held store.now.held.shorts.slots }
@@ -84,7 +84,7 @@ fn add_column(place: u16, pixels: &[Rgb], hasher: &mut Sha256)
 }
 
 /// Adds the glyphs of so many indices, ascending, and gives how many there are.
-pub fn add_glyphs(glyphs: &Glyphs, count: u16, hasher: &mut Sha256) -> u16
+pub(crate) fn add_glyphs(glyphs: &Glyphs, count: u16, hasher: &mut Sha256) -> u16
     ensures took { Took hasher.old hasher.new (glyphs_bytes count glyphs.now) }
     ensures held { result ≡ glyphs_held count glyphs.now }
 {

@@ -28,7 +28,7 @@ const PAIRS: &[u8; 512] = b"000102030405060708090a0b0c0d0e0f\
     f0f1f2f3f4f5f6f7f8f9fafbfcfdfeff";
 
 /// Fills a slice with the digits of these pixels.
-pub fn fill_digits(pixels: &[Pixel], digits: &mut [u8])
+pub(crate) fn fill_digits(pixels: &[Pixel], digits: &mut [u8])
     requires { length digits.old ≡ PIXEL_DIGITS * length pixels.now }
     ensures { digits.new ≡ flat_map pixel_digits pixels.now }
 {

@@ -13,7 +13,7 @@ use sha2::{Digest, Sha256};
 const PIECE: usize = 256;
 
 /// Adds a surface.
-pub fn add_surface(id: u16, surface: &Surface, hasher: &mut Sha256)
+pub(crate) fn add_surface(id: u16, surface: &Surface, hasher: &mut Sha256)
     ensures { Took hasher.old hasher.new (surface_bytes id surface.now) }
 {
     let (width, height) = surface.size();
@@ -24,7 +24,7 @@ pub fn add_surface(id: u16, surface: &Surface, hasher: &mut Sha256)
 }
 
 /// Adds a filled slot.
-pub fn add_slot(slot: u16, key: u64, bitmap: &Bitmap, hasher: &mut Sha256)
+pub(crate) fn add_slot(slot: u16, key: u64, bitmap: &Bitmap, hasher: &mut Sha256)
     ensures { Took hasher.old hasher.new (slot_bytes slot (entry key (image_of bitmap.now))) }
 {
     hasher.update(slot.to_le_bytes());
@@ -34,7 +34,7 @@ pub fn add_slot(slot: u16, key: u64, bitmap: &Bitmap, hasher: &mut Sha256)
 }
 
 /// Adds two sides.
-pub fn add_sides(width: u16, height: u16, hasher: &mut Sha256)
+pub(crate) fn add_sides(width: u16, height: u16, hasher: &mut Sha256)
     ensures { Took hasher.old hasher.new (sides_bytes width height) }
 {
     hasher.update(width.to_le_bytes());
@@ -96,7 +96,7 @@ fn add_run(
 }
 
 /// Adds pixels, piece by piece.
-pub fn add_pixels(pixels: &[Pixel], hasher: &mut Sha256)
+pub(crate) fn add_pixels(pixels: &[Pixel], hasher: &mut Sha256)
     ensures { Took hasher.old hasher.new (pixels_bytes pixels.now) }
 {
     let mut bytes = [0; BYTES_PER_PIXEL * PIECE];

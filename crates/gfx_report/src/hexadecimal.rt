@@ -16,7 +16,7 @@ pub const KEY_DIGITS: usize = 16;
 const TWO_DIGESTS: usize = 145;
 
 /// Appends a digest, two lower-case hexadecimal digits a byte.
-pub fn put_digest(digest: &[u8; 32], line: &mut Line)
+pub(crate) fn put_digest(digest: &[u8; 32], line: &mut Line)
     requires { length line.old + DIGEST_DIGITS ≤ LINE_ROOM }
     ensures bytes { line.new ≡ line.old ++ encode_lower digest.now }
     ensures len { length line.new ≡ length line.old + DIGEST_DIGITS }
@@ -27,7 +27,7 @@ pub fn put_digest(digest: &[u8; 32], line: &mut Line)
 }
 
 /// Appends a key, in lower-case hexadecimal digits, the highest first.
-pub fn put_key(key: u64, line: &mut Line)
+pub(crate) fn put_key(key: u64, line: &mut Line)
     requires { length line.old + KEY_DIGITS ≤ LINE_ROOM }
     ensures bytes { line.new ≡ line.old ++ key_digits key }
     ensures len { length line.new ≡ length line.old + KEY_DIGITS }
@@ -38,7 +38,7 @@ pub fn put_key(key: u64, line: &mut Line)
 }
 
 /// Appends the digests of the client's and of the server's state, and ends the line.
-pub fn put_digests(client: &[u8; 32], server: &[u8; 32], line: &mut Line)
+pub(crate) fn put_digests(client: &[u8; 32], server: &[u8; 32], line: &mut Line)
     requires { length line.old + TWO_DIGESTS ≤ LINE_ROOM }
     ensures { line.new ≡ line.old ++ digests_text client.now server.now }
 {

@@ -8,7 +8,11 @@ use gfx_line::Line;
 use gfx_surface::Surface;
 
 /// Writes the line above a surface's rows.
-pub fn write_surface_line<O: Sink>(id: u16, surface: &Surface, out: &mut O) -> Result<(), Failed>
+pub(crate) fn write_surface_line<O: Sink>(
+    id: u16,
+    surface: &Surface,
+    out: &mut O,
+) -> Result<(), Failed>
     ensures { Writes result
         (change (O.faults out.old) (O.faults out.new) (O.held out.old) (O.held out.new))
         (surface_line id surface.now) }
@@ -36,7 +40,7 @@ fn surface_line(id: u16, surface: &Surface) -> Line
 }
 
 /// Writes the line above the output's rows.
-pub fn write_output_line<O: Sink>(width: u32, height: u32, out: &mut O) -> Result<(), Failed>
+pub(crate) fn write_output_line<O: Sink>(width: u32, height: u32, out: &mut O) -> Result<(), Failed>
     ensures { Writes result
         (change (O.faults out.old) (O.faults out.new) (O.held out.old) (O.held out.new))
         (output_line width height) }

@@ -13,7 +13,11 @@ use gfx_surface::Surface;
 pub const PIECE: usize = 2048;
 
 /// Writes a row: the digits of its pixels and a newline.
-pub fn write_row<O: Sink>(pixels: &[Pixel], digits: &mut [u8], out: &mut O) -> Result<(), Failed>
+pub(crate) fn write_row<O: Sink>(
+    pixels: &[Pixel],
+    digits: &mut [u8],
+    out: &mut O,
+) -> Result<(), Failed>
     requires { length digits.old ≡ PIXEL_DIGITS * PIECE }
     ensures { Writes result
         (change (O.faults out.old) (O.faults out.new) (O.held out.old) (O.held out.new)) (row_line pixels.now) }
@@ -40,7 +44,7 @@ fn write_pixels<O: Sink>(pixels: &[Pixel], digits: &mut [u8], out: &mut O) -> Re
 }
 
 /// Writes a row of a surface: the digits of its pixels and a newline.
-pub fn write_surface_row<O: Sink>(
+pub(crate) fn write_surface_row<O: Sink>(
     surface: &Surface,
     y: u16,
     pixels: &mut [Pixel],

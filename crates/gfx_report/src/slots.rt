@@ -15,7 +15,7 @@ use gfx_line::Line;
 use sha2::{Digest, Sha256};
 
 /// Writes how many slots are filled, and a line for each, ascending.
-pub fn write_slots<O: Sink>(cache: &Cache, out: &mut O) -> Result<(), Failed>
+pub(crate) fn write_slots<O: Sink>(cache: &Cache, out: &mut O) -> Result<(), Failed>
     ensures { Writes result
         (change (O.faults out.old) (O.faults out.new) (O.held out.old) (O.held out.new))
         (slots_text cache.now.slots) }

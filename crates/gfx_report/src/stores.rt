@@ -31,7 +31,7 @@ struct Held {
 }
 
 /// Writes the lines of the bars, the shorts and the glyphs.
-pub fn write_stores<O: Sink>(decoder: &ClearState, out: &mut O) -> Result<(), Failed>
+pub(crate) fn write_stores<O: Sink>(decoder: &ClearState, out: &mut O) -> Result<(), Failed>
     ensures { Writes result
         (change (O.faults out.old) (O.faults out.new) (O.held out.old) (O.held out.new))
         (decoder_text decoder.now.rings decoder.now.glyphs) }

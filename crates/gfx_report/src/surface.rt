@@ -10,7 +10,7 @@ use gfx_base::{Failed, Pixel, Sink};
 use gfx_surface::Surface;
 
 /// Writes a surface: its line, and its rows.
-pub fn write_surface<O: Sink>(id: u16, surface: &Surface, out: &mut O) -> Result<(), Failed>
+pub(crate) fn write_surface<O: Sink>(id: u16, surface: &Surface, out: &mut O) -> Result<(), Failed>
     ensures { Writes result
         (change (O.faults out.old) (O.faults out.new) (O.held out.old) (O.held out.new))
         (surface_text id surface.now) }

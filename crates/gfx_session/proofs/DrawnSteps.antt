@@ -12,6 +12,7 @@ use Rattle.gfx_client.specs.declared.fault.ClientFault.{ClientFault}
 use Rattle.gfx_client.specs.declared.fault.ClientFault.TheVariants.{Refused, Memory, ClosedRefused, ClosedMemory}
 use Rattle.gfx_client.specs.declared.stepped.Stepped.{Stepped}
 use Rattle.gfx_client.specs.declared.stepped.Stepped.TheVariants.{Applied, Ended, Need}
+use Rattle.gfx_pdu.specs.declared.id.Id.{Id}
 use Rattle.gfx_pdu.specs.declared.pdu.Pdu.{Pdu}
 use Rattle.gfx_pdu.specs.declared.pdu.Pdu.TheVariants.{EndFrame}
 use Rattle.gfx_state.specs.Cursor.{settled, run_at}
@@ -90,11 +91,11 @@ draws_next {origin = origin} old new said bytes all up_before up up_now noted_be
       ∙ ap (λ z. noted_before ++ z) (sym (more_noted d.more (n.next ∷ [])));
 }
 
-draws_applied : (start old new : Client) (pdu : Pdu) (size : ℕ) (up_before up : List ℕ) (noted_before noted : List (List ℕ)) → Draws start old up_before up noted_before noted
-    → ((origin : State) (bytes : List ℕ) (all : List Effect) → HasBroughtFrom origin old bytes all → BringsNext origin new bytes all (Applied pdu size)) → Draws start new up_before up noted_before noted
-draws_applied start old new pdu size up_before up noted_before noted before brings = λ origin bytes all b.
+draws_applied : (start old new : Client) (id : Id) (size : ℕ) (up_before up : List ℕ) (noted_before noted : List (List ℕ)) → Draws start old up_before up noted_before noted
+    → ((origin : State) (bytes : List ℕ) (all : List Effect) → HasBroughtFrom origin old bytes all → BringsNext origin new bytes all (Applied id size)) → Draws start new up_before up noted_before noted
+draws_applied start old new id size up_before up noted_before noted before brings = λ origin bytes all b.
     let d = before origin bytes all b in
-    draws_next old new (Applied pdu size) bytes all up_before up up noted_before noted noted d (brings origin bytes (all ++ d.more) d.brought) (sym (append-nil up)) (sym (append-nil noted))
+    draws_next old new (Applied id size) bytes all up_before up up noted_before noted noted d (brings origin bytes (all ++ d.more) d.brought) (sym (append-nil up)) (sym (append-nil noted))
 
 draws_ended : (start old new : Client) (frame size : ℕ) (reply : List ℕ) (up_before up up_now : List ℕ) (noted_before noted noted_now : List (List ℕ)) → Draws start old up_before up noted_before noted
     → ((origin : State) (bytes : List ℕ) (all : List Effect) → HasBroughtFrom origin old bytes all → BringsNext origin new bytes all (Ended frame size reply))
@@ -107,7 +108,7 @@ draws_ended start old new frame size reply up_before up up_now noted_before note
 pub draws_message : (start old new : Client) (stepped : Stepped) (up_before up : List ℕ) (noted_before noted : List (List ℕ)) → drawn_by stepped ≡ Message → Draws start old up_before up noted_before noted
     → ((origin : State) (bytes : List ℕ) (all : List Effect) → HasBroughtFrom origin old bytes all → BringsOpen origin (Ok stepped) new bytes all) → Draws start new up_before up noted_before noted
 draws_message start old new Need up_before up noted_before noted is before brings = absurd cc
-draws_message start old new (Applied pdu size) up_before up noted_before noted is before brings = draws_applied start old new pdu size up_before up noted_before noted before brings
+draws_message start old new (Applied id size) up_before up noted_before noted is before brings = draws_applied start old new id size up_before up noted_before noted before brings
 draws_message start old new (Ended frame size reply) up_before up noted_before noted is before brings = absurd cc
 
 abbrev reply_drawn : Drawn → List ℕ
@@ -119,7 +120,7 @@ pub draws_frame : (start old new : Client) (stepped : Stepped) (said : List ℕ)
     → ((origin : State) (bytes : List ℕ) (all : List Effect) → HasBroughtFrom origin old bytes all → BringsOpen origin (Ok stepped) new bytes all)
     → up_now ≡ up ++ said → noted_now ≡ noted ++ digest_in (cursor_of new).state ∷ [] → Draws start new up_before up_now noted_before noted_now
 draws_frame start old new Need said up_before up up_now noted_before noted noted_now is before brings replied shown = absurd cc
-draws_frame start old new (Applied pdu size) said up_before up up_now noted_before noted noted_now is before brings replied shown = absurd cc
+draws_frame start old new (Applied id size) said up_before up up_now noted_before noted noted_now is before brings replied shown = absurd cc
 draws_frame start old new (Ended frame size reply) said up_before up up_now noted_before noted noted_now is before brings replied shown =
     let same : reply ≡ said = ap reply_drawn is in
     draws_ended start old new frame size reply up_before up up_now noted_before noted noted_now before brings (replied ∙ ap (λ z. up ++ z) (sym same)) shown
@@ -148,7 +149,7 @@ goes_on start old new said same none m = record {
 -- a step that is no wait
 pub goes_by : (start old new : Client) (stepped : Stepped) → (drawn_by stepped ≡ Nothing → ⊥) → settled (cursor_of old) ≡ settled (cursor_of start) → closed_by old ≡ None → StepsOpen (Ok stepped) old new → GoesOn start old new
 goes_by start old new Need moved same none steps = absurd (moved refl)
-goes_by start old new (Applied pdu size) moved same none steps = goes_on start old new (Applied pdu size) same none steps
+goes_by start old new (Applied id size) moved same none steps = goes_on start old new (Applied id size) same none steps
 goes_by start old new (Ended frame size reply) moved same none steps = goes_on start old new (Ended frame size reply) same none steps
 
 pub no_message : (stepped : Stepped) → drawn_by stepped ≡ Message → drawn_by stepped ≡ Nothing → ⊥
@@ -160,12 +161,12 @@ no_frame stepped said is other = absurd cc
 -- a step that is one
 pub needs : (old new : Client) (stepped : Stepped) → drawn_by stepped ≡ Nothing → StepsOpen (Ok stepped) old new → Waits old new
 needs old new Need is steps = steps
-needs old new (Applied pdu size) is steps = absurd cc
+needs old new (Applied id size) is steps = absurd cc
 needs old new (Ended frame size reply) is steps = absurd cc
 
 pub needs_brought : {origin : State} (new : Client) (bytes : List ℕ) (all : List Effect) (stepped : Stepped) → drawn_by stepped ≡ Nothing → BringsOpen origin (Ok stepped) new bytes all → HasBroughtFrom origin new bytes all
 needs_brought new bytes all Need is brings = brings.0
-needs_brought new bytes all (Applied pdu size) is brings = absurd cc
+needs_brought new bytes all (Applied id size) is brings = absurd cc
 needs_brought new bytes all (Ended frame size reply) is brings = absurd cc
 
 pub waits_on : (start old new : Client) → settled (cursor_of old) ≡ settled (cursor_of start) → Waits old new → settled (cursor_of new) ≡ settled (cursor_of start)

@@ -7,5 +7,5 @@ use Rattle.gfx_session.specs.declared.drawing.Drawn.TheVariants.{Nothing, Messag
 -- the message alone is let go
 abbrev pub drawn_by : Stepped → Drawn
 drawn_by Need = Nothing
-drawn_by (Applied pdu size) = Message
+drawn_by (Applied id size) = Message
 drawn_by (Ended frame size reply) = Frame reply

@@ -28,7 +28,7 @@ pub(crate) enum Drawn {
 }
 
 /// The client takes bytes.
-pub fn take_bytes(client: &mut Client, piece: &[u8]) -> Result<(), NoMemory>
+pub(crate) fn take_bytes(client: &mut Client, piece: &[u8]) -> Result<(), NoMemory>
     requires { closed_by client.old ≡ None }
     ensures { OnOk result (TakesBytes client.old client.new piece.now) }
 {
@@ -41,7 +41,7 @@ pub fn take_bytes(client: &mut Client, piece: &[u8]) -> Result<(), NoMemory>
 
 /// The client draws all messages that are whole. What it says of each frame is put up, and the digest of
 /// its state right after the frame is noted.
-pub fn draw_all(
+pub(crate) fn draw_all(
     client: &mut Client,
     up: &mut Queue,
     drawn: &mut VecDeque<[u8; 32]>,

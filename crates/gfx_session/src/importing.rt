@@ -14,7 +14,7 @@ use std::alloc::Global;
 
 /// The client offers what it kept, the server answers by what it kept, and the client begins with its own bitmaps of the
 /// keys that both have ([MS-RDPEGFX] 3.2.5.13).
-pub fn import_kept(
+pub(crate) fn import_kept(
     alloc: Global,
     client: &mut Client,
     server: &Kept,

@@ -5,6 +5,19 @@
 //! draws it, and the report, which digests what both have. What a session does is that of `gfx_schedule`,
 //! which has the laws on it: neither end refuses anything, and the ends agree at each acknowledged frame.
 //! Nothing of the past is kept but digests, and no byte that was used.
+//!
+//! The server's end queues frames at once, and sends them once a version is confirmed:
+//!
+//! ```text
+//!                      serve: frames queued                     serve: frames queued, sent
+//!                          +----+                                     +----+
+//!                          v    |                                     v    | take: their acknowledgements
+//! new() -----------------> unconfirmed --- take: what it offers ---> confirmed <------------- with_kept()
+//!                               |                                     |    |
+//!   a fault of what is taken    +--> closed (takes nothing more) <----+    +--> ended (all is acknowledged)
+//! ```
+//!
+//! Want of memory in `serve` leaves it spent: it answers that from then on.
 #![tactic(auto)]
 
 mod acked;

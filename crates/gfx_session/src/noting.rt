@@ -11,7 +11,7 @@ use gfx_base::{Bytes, NoMemory};
 use std::collections::VecDeque;
 
 /// The server's end takes bytes that it will not refuse.
-pub fn hear_bytes(
+pub(crate) fn hear_bytes(
     server: &mut ServerEnd,
     piece: &[u8],
     out: &mut Bytes,
@@ -38,7 +38,7 @@ fn only_memory(fault: ServerFault) -> NoMemory
 }
 
 /// Notes the frames that were acknowledged, each with the oldest of the digests that were drawn.
-pub fn note_all(
+pub(crate) fn note_all(
     taken: &[Taken],
     drawn: &mut VecDeque<[u8; 32]>,
     acks: &mut Acks,

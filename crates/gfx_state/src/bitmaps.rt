@@ -9,7 +9,7 @@ use gfx_surface::Surface;
 use std::alloc::Global;
 
 /// Whether a rectangle lies on a surface.
-pub fn lies_on(rect: Rect, surface: &Surface) -> bool
+pub(crate) fn lies_on(rect: Rect, surface: &Surface) -> bool
     ensures { result ≡ lies_in surface.now.width surface.now.height rect }
 {
     let (width, height) = surface.size();
@@ -17,7 +17,7 @@ pub fn lies_on(rect: Rect, surface: &Surface) -> bool
 }
 
 /// The bitmap of a rectangle of a surface, as it stands.
-pub fn bitmap_of(alloc: Global, surface: &Surface, rect: Rect) -> Result<Bitmap, NoMemory>
+pub(crate) fn bitmap_of(alloc: Global, surface: &Surface, rect: Rect) -> Result<Bitmap, NoMemory>
     requires { IsTrue (lies_in surface.now.width surface.now.height rect) }
     ensures { IfOk result (λ bitmap. image_of bitmap ≡ image_in surface.now rect) }
 {

@@ -6,7 +6,7 @@ use gfx_base::field_u32;
 use gfx_caps::{FLAGS_SIZE, VERSION_8, VERSION_8_1, VERSION_10, binds_small};
 
 /// Whether the version and the size of its flags are among those that are built.
-pub fn is_confirmed(version: u32, flags: &[u8]) -> bool
+pub(crate) fn is_confirmed(version: u32, flags: &[u8]) -> bool
     ensures { result ≡ (is_version version && length flags.now == FLAGS_SIZE) }
 {
     is_version(version) && flags.len() == FLAGS_SIZE
@@ -20,7 +20,7 @@ fn is_version(version: u32) -> bool
 
 /// Whether the flags choose the small limits.
 #[tactic(auto, unfolding(gfx_base::specs::Field::field))]
-pub fn has_small_cache(flags: &[u8]) -> bool
+pub(crate) fn has_small_cache(flags: &[u8]) -> bool
     requires { length flags.now ≡ FLAGS_SIZE }
     ensures { result ≡ has_small_cache flags.now }
 {

@@ -9,6 +9,7 @@ ghost use Rattle.gfx_bitmap_cache.specs.Slots.{evicted};
 ghost use Rattle.gfx_clear.specs.Sending.{MaySend, sent};
 ghost use Rattle.gfx_pdu.specs.declared.pdu.Pdu.TheVariants.{WireToSurface1};
 ghost use Rattle.gfx_pdu.specs.declared.codec.Codec.{Codec as AnyCodec};
+ghost use Rattle.gfx_pdu.specs.Borrowed.{pdu_of};
 ghost use Rattle.gfx_pdu.specs.Codecs.{CLEAR_CODEC, PROGRESSIVE, VIDEO};
 ghost use Rattle.gfx_state.specs.State.{started};
 ghost use Rattle.gfx_state.specs.Memory.{takes_memory, may_take_memory};
@@ -21,7 +22,7 @@ use gfx_base::{
 };
 use gfx_bitmap_cache::Cache;
 use gfx_clear::{ClearState, Layer};
-use gfx_pdu::{Codec, PROGRESSIVE, Pdu};
+use gfx_pdu::{Codec, PROGRESSIVE, Pdu, PduRef};
 use gfx_prog_decode::Records;
 use gfx_rfx_video::decode_video;
 use gfx_surface_map::{SurfaceMap, fits_size};
@@ -169,6 +170,35 @@ impl State {
                 Ok(()) => Ok(()),
                 Err(refusal) => Err(Fault::Refused(refusal)),
             },
+        }
+    }
+
+    /// The same of a message with borrowed data.
+    #[tactic(auto, unfolding(crate::specs::Step::step))]
+    pub fn apply_ref(&mut self, alloc: Global, pdu: &PduRef<'_>) -> Result<(), Fault>
+        ensures applies { Applies result self.old self.new (step self.old (pdu_of pdu.now)) }
+        ensures memory { WantsOnlyIf result (takes_memory self.old (pdu_of pdu.now)) }
+    {
+        match pdu {
+            PduRef::WireToSurface1 {
+                surface,
+                codec,
+                format,
+                rect,
+                payload,
+            } => self.paint_data(alloc, *surface, *codec, *format, *rect, payload),
+            PduRef::WireToSurface2 {
+                surface,
+                codec,
+                context,
+                format,
+                payload,
+            } => self.paint_tiles(alloc, *surface, *codec, *context, *format, payload),
+            PduRef::CapsConfirm { version, payload } => match self.confirm_caps(*version, payload) {
+                Ok(()) => Ok(()),
+                Err(refusal) => Err(Fault::Refused(refusal)),
+            },
+            PduRef::Other(pdu) => self.apply(alloc, pdu),
         }
     }
 

@@ -21,8 +21,10 @@ use Rattle.gfx_input.specs.declared.fault.TakeFault.{TakeFault}
 use Rattle.gfx_input.specs.declared.fault.TakeFault.TheVariants as broke
 use Rattle.gfx_input.specs.declared.taker.Taken.{Taken}
 use Rattle.gfx_input.specs.declared.taker.Taken.TheVariants as taken
+use Rattle.gfx_pdu.specs.declared.id.Id.{Id}
 use Rattle.gfx_pdu.specs.declared.pdu.Pdu.{Pdu}
 use Rattle.gfx_pdu.specs.declared.pdu.Pdu.TheVariants.{EndFrame}
+use Rattle.gfx_pdu.specs.Spelling.{id_of}
 use Rattle.gfx_report.specs.Audit.{audit_line}
 use Rattle.gfx_state.specs.History.{Effect, history, history_of}
 use Rattle.gfx_state.specs.Run.{begun, run_of}
@@ -40,7 +42,7 @@ unfolding lines
 lines_nil number = refl
 
 lines_cons : (number : ℕ) (message : Effect) (more : List Effect)
-    → lines number (message ∷ more) ≡ audit_line (next_count number) message.pdu message.size ++ lines (next_count number) more
+    → lines number (message ∷ more) ≡ audit_line (next_count number) (id_of message.pdu) message.size ++ lines (next_count number) more
 unfolding lines
 lines_cons number message more = refl
 
@@ -48,8 +50,8 @@ pub lines-append : (number : ℕ) (xs ys : List Effect) → lines number (xs ++ 
 lines-append number [] ys = ap (λ z. z ++ lines number ys) (sym (lines_nil number))
 lines-append number (x ∷ xs) ys =
     lines_cons number x (xs ++ ys)
-    ∙ ap (λ z. audit_line (next_count number) x.pdu x.size ++ z) (lines-append (next_count number) xs ys)
-    ∙ sym (append_assoc (audit_line (next_count number) x.pdu x.size) (lines (next_count number) xs) (lines (number_after (next_count number) xs) ys))
+    ∙ ap (λ z. audit_line (next_count number) (id_of x.pdu) x.size ++ z) (lines-append (next_count number) xs ys)
+    ∙ sym (append_assoc (audit_line (next_count number) (id_of x.pdu) x.size) (lines (next_count number) xs) (lines (number_after (next_count number) xs) ys))
     ∙ ap (λ z. z ++ lines (number_after (next_count number) xs) ys) (sym (lines_cons number x xs))
 
 pub number-append : (number : ℕ) (xs ys : List Effect) → number_after number (xs ++ ys) ≡ number_after (number_after number xs) ys
@@ -58,22 +60,22 @@ number-append number xs ys = fold-append (λ (n : ℕ) (e : Effect). next_count 
 -- one message -----------------------------------------------------------------------------------------------
 
 -- the message that a step says it applied
-message_said : (pdu : Pdu) (size decoded : ℕ) → message_in (stepped_of pdu size decoded) ≡ Some (pdu, size)
+message_said : (pdu : Pdu) (size decoded : ℕ) → message_in (stepped_of pdu size decoded) ≡ Some (id_of pdu, size)
 message_said (EndFrame frame) size decoded = refl
 message_said other size decoded = refl
 
 -- a line was written, or could not be
 told_line : (old new : Auditor) (answer : Result (Option Taken) TakeFault) (o : Change) (next : Effect) → due_of old ≡ next ∷ due_of new → new.number ≡ next_count old.number → StandsAlike old.client new.client
-    → closed_by new.client ≡ None → WritesLine answer o (audit_line (next_count old.number) next.pdu next.size) → GoesOnByOne answer old new o
+    → closed_by new.client ≡ None → WritesLine answer o (audit_line (next_count old.number) (id_of next.pdu) next.size) → GoesOnByOne answer old new o
 told_line old new (Ok None) o next first number alike not_closed wrote = record {
   takes = record { next = next; first = first; number = number; alike = alike; not_closed = not_closed };
-  gains = subst (λ n. Gains o (audit_line n next.pdu next.size)) (sym number) wrote;
+  gains = subst (λ n. Gains o (audit_line n (id_of next.pdu) next.size)) (sym number) wrote;
 }
 told_line old new (Ok (Some taken.More)) o next first number alike not_closed wrote = absurd wrote
 told_line old new (Ok (Some taken.Stopped)) o next first number alike not_closed wrote = absurd wrote
 told_line old new (Err broke.Write) o next first number alike not_closed wrote = record {
   takes = record { next = next; first = first; number = number; alike = alike; not_closed = not_closed };
-  fails = subst (λ n. FailsAfter o (audit_line n next.pdu next.size)) (sym number) wrote;
+  fails = subst (λ n. FailsAfter o (audit_line n (id_of next.pdu) next.size)) (sym number) wrote;
 }
 told_line old new (Err broke.Memory) o next first number alike not_closed wrote = absurd wrote
 
@@ -101,7 +103,7 @@ told_message old new said answer o none m alike tells =
 told_open : (old new : Auditor) (said : Stepped) (answer : Result (Option Taken) TakeFault) (o : Change) → closed_by old.client ≡ None → StepsOpen (Ok said) old.client new.client → StandsAlike old.client new.client
     → Tells (message_in said) answer old new o → GoesOnByOne answer old new o
 told_open old new stepped.Need answer o none s alike tells = told_none old new answer o none s alike tells
-told_open old new (stepped.Applied pdu size) answer o none s alike tells = told_message old new (stepped.Applied pdu size) answer o none s alike tells
+told_open old new (stepped.Applied id size) answer o none s alike tells = told_message old new (stepped.Applied id size) answer o none s alike tells
 told_open old new (stepped.Ended frame size reply) answer o none s alike tells = told_message old new (stepped.Ended frame size reply) answer o none s alike tells
 
 -- a step that isn't closed off
@@ -116,7 +118,7 @@ told_step old mid new said answer o none s alike same client tells =
     (subst (λ z. StepsOpen (Ok said) old.client z) (sym client) (open_step (closed_by old.client) (Ok said) old.client mid.client none s))
     (subst (λ z. StandsAlike old.client z) (sym client) alike) (counted (message_in said) tells)
   where
-    counted : (message : Option (Pdu × ℕ)) → Tells message answer mid new o → Tells message answer old new o
+    counted : (message : Option (Id × ℕ)) → Tells message answer mid new o → Tells message answer old new o
     counted None (is, number, gains) = (is, number ∙ same, gains)
     counted (Some message) (number, wrote) =
         (number ∙ ap next_count same, subst (λ n. WritesLine answer o (audit_line (next_count n) message.0 message.1)) same wrote)
@@ -157,12 +159,12 @@ telling_none start m held none = record {
 
 -- the line of the next message, behind those that were told of
 lines_next : (start now : Auditor) (done : List Effect) (next : Effect) (number : ℕ) → now.number ≡ number_after start.number done → number ≡ next_count now.number
-    → lines start.number (done ++ next ∷ []) ≡ lines start.number done ++ audit_line number next.pdu next.size
+    → lines start.number (done ++ next ∷ []) ≡ lines start.number done ++ audit_line number (id_of next.pdu) next.size
 lines_next start now done next number at is =
     lines-append start.number done (next ∷ [])
     ∙ ap (λ z. lines start.number done ++ lines z (next ∷ [])) (sym at)
-    ∙ ap (λ z. lines start.number done ++ z) (lines_cons now.number next [] ∙ ap (λ z. audit_line (next_count now.number) next.pdu next.size ++ z) (lines_nil (next_count now.number)) ∙ append-nil (audit_line (next_count now.number) next.pdu next.size))
-    ∙ ap (λ z. lines start.number done ++ audit_line z next.pdu next.size) (sym is)
+    ∙ ap (λ z. lines start.number done ++ z) (lines_cons now.number next [] ∙ ap (λ z. audit_line (next_count now.number) (id_of next.pdu) next.size ++ z) (lines_nil (next_count now.number)) ∙ append-nil (audit_line (next_count now.number) (id_of next.pdu) next.size))
+    ∙ ap (λ z. lines start.number done ++ audit_line z (id_of next.pdu) next.size) (sym is)
 
 -- what is due from the start, with the next message told of
 first_next : (start now new : Auditor) (done : List Effect) (next : Effect) → due_of start ≡ done ++ due_of now → due_of now ≡ next ∷ due_of new → due_of start ≡ (done ++ next ∷ []) ++ due_of new
@@ -173,7 +175,7 @@ telling_more a b d x y z start now new t n = record {
   done = t.done ++ n.takes.next ∷ [];
   first = first_next start now new t.done n.takes.next t.first n.takes.first;
   number = n.takes.number ∙ ap next_count t.number ∙ sym (number-append start.number t.done (n.takes.next ∷ []));
-  gains = subst (Gains (change a d x z)) (sym (lines_next start now t.done n.takes.next new.number t.number n.takes.number)) (Gains-append a b d x y z (lines start.number t.done) (audit_line new.number n.takes.next.pdu n.takes.next.size) t.gains n.gains);
+  gains = subst (Gains (change a d x z)) (sym (lines_next start now t.done n.takes.next new.number t.number n.takes.number)) (Gains-append a b d x y z (lines start.number t.done) (audit_line new.number (id_of n.takes.next.pdu) n.takes.next.size) t.gains n.gains);
   alike = λ bytes stands. n.takes.alike bytes (t.alike bytes stands);
   not_closed = n.takes.not_closed;
 }
@@ -211,7 +213,7 @@ pub told_fault : (a b d : ℕ) (x y z : Option (List ℕ)) (start now new : Audi
     → GoesOnByAll (Err f) start new (change a d x z)
 told_fault a b d x y z start now new broke.Write t n =
     let front = lines start.number t.done in
-    let line = audit_line new.number n.takes.next.pdu n.takes.next.size in
+    let line = audit_line new.number (id_of n.takes.next.pdu) n.takes.next.size in
     let due : due_lines start ≡ (front ++ line) ++ lines (number_after start.number (t.done ++ n.takes.next ∷ [])) (due_of new) =
     ap (lines start.number) (first_next start now new t.done n.takes.next t.first n.takes.first)
     ∙ lines-append start.number (t.done ++ n.takes.next ∷ []) (due_of new)

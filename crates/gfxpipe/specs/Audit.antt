@@ -4,6 +4,7 @@ use Rattle.std.specs.Prelude.{◌≡◌, ℕ, List, [], ◌∷◌, ◌++◌, fol
 use Rattle.std.specs.FinMap.{len}
 use Rattle.gfx_base.specs.Memory.{next_count}
 use Rattle.gfx_client.specs.declared.client.Client.{Client}
+use Rattle.gfx_pdu.specs.Spelling.{id_of}
 use Rattle.gfx_report.specs.Audit.{audit_line, audit_end_text}
 use Rattle.gfx_state.specs.History.{Effect, history_of}
 use Rattle.gfx_state.specs.State.{State}
@@ -17,7 +18,7 @@ number_after applied all = fold (λ number message. next_count number) applied a
 unfoldable pub lines : ℕ → List Effect → List ℕ
 lines applied [] = []
 lines applied (message ∷ more) =
-    audit_line (next_count applied) message.pdu message.size ++ lines (next_count applied) more
+    audit_line (next_count applied) (id_of message.pdu) message.size ++ lines (next_count applied) more
 
 -- the lines of all messages in these bytes
 abbrev pub told : List ℕ → List ℕ

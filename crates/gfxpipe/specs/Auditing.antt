@@ -11,8 +11,9 @@ use Rattle.gfx_input.specs.declared.fault.TakeFault.{TakeFault}
 use Rattle.gfx_input.specs.declared.fault.TakeFault.TheVariants as broke
 use Rattle.gfx_input.specs.declared.taker.Taken.{Taken}
 use Rattle.gfx_input.specs.declared.taker.Taken.TheVariants as taken
-use Rattle.gfx_pdu.specs.declared.pdu.Pdu.{Pdu}
-use Rattle.gfx_pdu.specs.declared.pdu.Pdu.TheVariants.{EndFrame}
+use Rattle.gfx_pdu.specs.declared.id.Id.{Id}
+use Rattle.gfx_pdu.specs.declared.id.Id.TheVariants.{EndFrame}
+use Rattle.gfx_pdu.specs.Spelling.{id_of}
 use Rattle.gfx_report.specs.Audit.{audit_line}
 use Rattle.gfx_state.specs.History.{Effect, coming}
 use Rattle.gfxpipe.specs.Audit.{lines, number_after, held_lines}
@@ -22,9 +23,9 @@ use Rattle.gfxpipe.specs.declared.trouble.Trouble.{Trouble}
 use Rattle.gfxpipe.specs.declared.trouble.Trouble.TheVariants as trouble
 
 -- the message that a step applied, and its length on the wire
-abbrev pub message_in : Stepped → Option (Pdu × ℕ)
-message_in (Applied pdu size) = Some (pdu, size)
-message_in (Ended frame size reply) = Some (EndFrame frame, size)
+abbrev pub message_in : Stepped → Option (Id × ℕ)
+message_in (Applied id size) = Some (id, size)
+message_in (Ended frame size reply) = Some (EndFrame, size)
 message_in Need = None
 
 -- one message -------------------------------------------------------------------------------------
@@ -52,7 +53,7 @@ WritesLine (Err broke.Write) o line = FailsAfter o line
 WritesLine other o line = ⊥
 
 -- what telling of a step answers: nothing is told where no message was there
-abbrev pub Tells : Option (Pdu × ℕ) → Result (Option Taken) TakeFault → Auditor → Auditor → Change → Type 0
+abbrev pub Tells : Option (Id × ℕ) → Result (Option Taken) TakeFault → Auditor → Auditor → Change → Type 0
 Tells None answer old new o = (answer ≡ Ok (Some taken.More)) × (new.number ≡ old.number) × Gains o []
 Tells (Some message) answer old new o =
     (new.number ≡ next_count old.number) × WritesLine answer o (audit_line (next_count old.number) message.0 message.1)
@@ -68,12 +69,12 @@ pub record TakesNext (old new : Auditor) : Type 0 where
 -- its line was written
 pub record TellsNext (old new : Auditor) (o : Change) : Type 0 where
   pub takes : TakesNext old new
-  pub gains : Gains o (audit_line new.number takes.next.pdu takes.next.size)
+  pub gains : Gains o (audit_line new.number (id_of takes.next.pdu) takes.next.size)
 
 -- its line could not be written
 pub record FailsNext (old new : Auditor) (o : Change) : Type 0 where
   pub takes : TakesNext old new
-  pub fails : FailsAfter o (audit_line new.number takes.next.pdu takes.next.size)
+  pub fails : FailsAfter o (audit_line new.number (id_of takes.next.pdu) takes.next.size)
 
 -- no message is left
 pub record TellsNone (old new : Auditor) (o : Change) : Type 0 where

@@ -13,7 +13,7 @@ use crate::trouble::Trouble;
 use gfx_base::{Sink, Source};
 use gfx_client::{Client, ClientFault, Offers, Stepped};
 use gfx_input::{TakeFault, Taken, Taker, read_input};
-use gfx_pdu::Pdu;
+use gfx_pdu::Id;
 use gfx_report::{audit_end, audit_line};
 use std::alloc::Global;
 
@@ -62,7 +62,7 @@ impl Taker for Auditor {
 
 /// Plays a recording within the limit, and writes a line for each message once it is applied, and at the end what
 /// the client then holds. Nothing is kept of what was applied.
-pub fn audit<I: Source, O: Sink>(
+pub(crate) fn audit<I: Source, O: Sink>(
     alloc: Global,
     limit: usize,
     input: &mut I,
@@ -127,19 +127,19 @@ fn tell_next<O: Sink>(auditor: &mut Auditor, out: &mut O) -> Result<Option<Taken
 }
 
 /// The message that a step applied, and its length on the wire. The reply to it is let go.
-fn message_in(stepped: Stepped) -> Option<(Pdu, usize)>
+fn message_in(stepped: Stepped) -> Option<(Id, usize)>
     ensures { result ≡ message_in stepped }
 {
     match stepped {
-        Stepped::Applied { pdu, size } => Some((pdu, size)),
-        Stepped::Ended { frame, size, .. } => Some((Pdu::EndFrame { frame }, size)),
+        Stepped::Applied { id, size } => Some((id, size)),
+        Stepped::Ended { size, .. } => Some((Id::EndFrame, size)),
         Stepped::Need => None,
     }
 }
 
 /// Counts a message and writes its line.
 fn tell<O: Sink>(
-    message: Option<(Pdu, usize)>,
+    message: Option<(Id, usize)>,
     auditor: &mut Auditor,
     out: &mut O,
 ) -> Result<Option<Taken>, TakeFault>
@@ -147,11 +147,11 @@ fn tell<O: Sink>(
     ensures tells { Tells message result auditor.old auditor.new
         (change (O.faults out.old) (O.faults out.new) (O.held out.old) (O.held out.new)) }
 {
-    let Some((pdu, size)) = message else {
+    let Some((id, size)) = message else {
         return Ok(Some(Taken::More));
     };
     auditor.number = auditor.number.saturating_add(1);
-    match audit_line(auditor.number, &pdu, size, out) {
+    match audit_line(auditor.number, id, size, out) {
         Ok(()) => Ok(None),
         Err(_) => Err(TakeFault::Write),
     }

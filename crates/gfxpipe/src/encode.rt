@@ -14,7 +14,7 @@ use gfx_chooser::Chooser;
 use std::alloc::Global;
 
 /// Reads a script within the limit, and writes its stream. Choosers are asked once it comes to a step.
-pub fn encode<C: Chooser, I: Source, O: Sink>(
+pub(crate) fn encode<C: Chooser, I: Source, O: Sink>(
     alloc: Global,
     limit: usize,
     choosers: &mut Vec<C>,

@@ -44,7 +44,7 @@ fn status_of(ended: &Result<Ending, Trouble>) -> Status
 
 /// Says on `err` how the run ended, in a line of its own or, where all is done, in none. A line that
 /// can't be written makes the status WriteFault.
-pub fn close<E: Sink>(ended: &Result<Ending, Trouble>, err: &mut E) -> Status
+pub(crate) fn close<E: Sink>(ended: &Result<Ending, Trouble>, err: &mut E) -> Status
     ensures { Closes result ended.now
         (change (E.faults err.old) (E.faults err.new) (E.held err.old) (E.held err.new)) }
 {

@@ -23,7 +23,7 @@ fn ending_as(ended: Ended) -> Ending
 }
 
 /// Reads a stream within the limit, and writes its recording of fragments.
-pub fn fragment<I: Source, O: Sink>(
+pub(crate) fn fragment<I: Source, O: Sink>(
     alloc: Global,
     limit: usize,
     input: &mut I,
@@ -39,7 +39,7 @@ pub fn fragment<I: Source, O: Sink>(
 }
 
 /// Reads a recording of fragments within the limit, and writes its stream.
-pub fn join<I: Source, O: Sink>(
+pub(crate) fn join<I: Source, O: Sink>(
     alloc: Global,
     limit: usize,
     input: &mut I,

@@ -24,7 +24,7 @@ use std::alloc::Global;
 
 /// Reads two files of kept bitmaps and a script within the limit, plays the session that begins with them, and writes a line
 /// for each acknowledged frame.
-pub fn import<C: Chooser, I: Source, O: Sink>(
+pub(crate) fn import<C: Chooser, I: Source, O: Sink>(
     alloc: Global,
     limit: usize,
     choosers: &mut Vec<C>,

@@ -2,11 +2,12 @@
 //!
 //! It stands on the command line and on both ends of the channel, which it joins to the outside. For
 //! `render` the bytes of a recording are given to a client piece by piece, and what the client then
-//! holds is printed. For `audit` a line is written for each message of a recording, and at its end what the client
-//! then holds is told. For `encode` a script is read whole, and its stream is written frame by frame.
-//! For `session` a script is read whole, both ends of its session are played, and a line is written for
-//! each acknowledged frame; for `import` so too, from bitmaps that both ends kept. `make` writes a script that a number stands for, and `trial` plays its session. `fragment`
-//! writes the recording of fragments of a stream, and `join` the stream of such a recording.
+//! holds is printed. For `audit` a line is written for each message of a recording, and at its end what
+//! the client then holds is told. For `encode` a script is read whole, and its stream is written frame by
+//! frame. For `session` a script is read whole, both ends of its session are played, and a line is written
+//! for each acknowledged frame; for `import` so too, from bitmaps that both ends kept. `make` writes a
+//! script that a number stands for, and `trial` plays its session. `fragment` writes the recording of
+//! fragments of a stream, and `join` the stream of such a recording.
 #![tactic(auto)]
 
 mod audit;

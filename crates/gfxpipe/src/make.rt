@@ -11,7 +11,7 @@ use gfx_generator::make_script;
 use std::alloc::Global;
 
 /// Writes the script of a number.
-pub fn make<O: Sink>(alloc: Global, number: u32, out: &mut O) -> Result<Ending, Trouble>
+pub(crate) fn make<O: Sink>(alloc: Global, number: u32, out: &mut O) -> Result<Ending, Trouble>
     ensures { EndsUnread result (making number).writes_on ((making number).due [] 0 [])
         (change (O.faults out.old) (O.faults out.new) (O.held out.old) (O.held out.new)) }
 {

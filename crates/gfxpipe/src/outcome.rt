@@ -15,7 +15,7 @@ pub struct Outcome {
 }
 
 /// The outcome of a command that has no session.
-pub fn alone(ended: Result<Ending, Trouble>) -> Result<Outcome, Trouble>
+pub(crate) fn alone(ended: Result<Ending, Trouble>) -> Result<Outcome, Trouble>
     ensures ended { ended_of result ≡ ended }
     ensures session { session_of result ≡ None }
 {
@@ -26,7 +26,9 @@ pub fn alone(ended: Result<Ending, Trouble>) -> Result<Outcome, Trouble>
 }
 
 /// An outcome in two parts: how the command ended, and its session.
-pub fn parted(outcome: Result<Outcome, Trouble>) -> (Result<Ending, Trouble>, Option<Session>)
+pub(crate) fn parted(
+    outcome: Result<Outcome, Trouble>,
+) -> (Result<Ending, Trouble>, Option<Session>)
     ensures { result ≡ (ended_of outcome, session_of outcome) }
 {
     match outcome {

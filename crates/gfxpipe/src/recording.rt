@@ -50,7 +50,7 @@ impl Taker for Player {
 }
 
 /// How a recording ends that was given to this client.
-pub fn ending_of(read: Read, client: &Client) -> Ending
+pub(crate) fn ending_of(read: Read, client: &Client) -> Ending
     requires { IsAtEnd client.now }
     ensures { result ≡ ending_by read (end_of (closed_by client.now) (cursor_of client.now)) }
 {

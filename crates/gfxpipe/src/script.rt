@@ -12,7 +12,7 @@ use gfx_script_text::{ScriptError, read_script};
 use std::alloc::Global;
 
 /// Reads a script whole, within the limit, or finds how a run ends whose input is none.
-pub fn read_whole<I: Source>(
+pub(crate) fn read_whole<I: Source>(
     alloc: Global,
     limit: usize,
     input: &mut I,
@@ -31,7 +31,7 @@ pub fn read_whole<I: Source>(
 }
 
 /// Reads the text of a script, or finds how a run ends whose text is none.
-pub fn read_text(alloc: Global, text: &[u8]) -> Result<Result<Script, Ending>, Trouble>
+pub(crate) fn read_text(alloc: Global, text: &[u8]) -> Result<Result<Script, Ending>, Trouble>
     ensures { ReadsText result text.now }
 {
     match read_script(alloc, text) {

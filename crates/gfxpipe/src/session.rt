@@ -21,7 +21,7 @@ use gfx_session::{Acked, Session};
 use std::alloc::Global;
 
 /// Reads a script within the limit, plays its session, and writes a line for each acknowledged frame.
-pub fn session<C: Chooser, I: Source, O: Sink>(
+pub(crate) fn session<C: Chooser, I: Source, O: Sink>(
     alloc: Global,
     limit: usize,
     choosers: &mut Vec<C>,

@@ -17,7 +17,7 @@ use std::alloc::Global;
 
 /// Writes the stream of a script, each frame once it is planned. Paints that name no kind go as these choosers
 /// choose, which are asked once their step is planned.
-pub fn write_stream<C: Chooser, O: Sink>(
+pub(crate) fn write_stream<C: Chooser, O: Sink>(
     alloc: Global,
     script: &Script,
     choosers: &mut Vec<C>,

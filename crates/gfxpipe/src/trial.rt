@@ -18,7 +18,7 @@ use gfx_session::Session;
 use std::alloc::Global;
 
 /// Plays the session of the script of a number, and writes how many frames were acknowledged, and the last of them.
-pub fn trial<C: Chooser, O: Sink>(
+pub(crate) fn trial<C: Chooser, O: Sink>(
     alloc: Global,
     number: u32,
     choosers: &mut Vec<C>,

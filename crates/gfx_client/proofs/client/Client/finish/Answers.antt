@@ -1,12 +1,15 @@
 use Rattle.std.proofs.Common.{sym, ◌∙◌}
 use Rattle.gfx_state.proofs.Moves.{drained_by_none, needs_nothing}
 use Rattle.gfx_client.specs.Client.{cursor_of, closed_by}
-use Rattle.gfx_client.proofs.ClientLemmas.{end_ok, end_refused}
+use Rattle.gfx_client.proofs.ClientLemmas.{end_ok, end_refused, left_waiting}
 use Rattle.gfx_client.proofs.Playing.{end_is}
 use Rattle.gfx_client.proofs.client.Client.finish.Goals as goal
 
-pub finish-requires : goal.finish-requires
-finish-requires c = drained_by_none c.args.self.now.splitter (needs_nothing (cursor_of c.args.self.now) (c.requires c.in_default.is))
+pub finish-requires-clause-drained : goal.finish-requires-clause-drained
+finish-requires-clause-drained c = drained_by_none c.args.self.now.payloads.splitter (needs_nothing (cursor_of c.args.self.now) (c.requires c.in_default.is))
+
+pub finish-requires-clause-end : goal.finish-requires-clause-end
+finish-requires-clause-end c = left_waiting (cursor_of c.args.self.now) (c.requires c.in_default.is)
 
 pub returns-in-Ok-clause-exact : goal.returns-in-Ok-clause-exact
 returns-in-Ok-clause-exact c = end_ok c.args.self.now c.in_default.is (c.requires c.in_default.is) (sym c.in-Ok.ensures)

@@ -1,30 +1,45 @@
 use Rattle.std.proofs.Common.{ℕ, ◌+◌, ◌%◌, ◌^◌, List, Err, refl, sym, ap, ◌∙◌, subst}
 use Rattle.std.proofs.lemmas.Result.{err_from_is_err_and}
 use Rattle.gfx_base.specs.Outcome.{Gives}
+use Rattle.gfx_pdu.specs.Borrowed.{pdu_of, found_in}
 use Rattle.gfx_pdu.specs.Reading.{next_pdu}
 use Rattle.gfx_state.proofs.NextMoves.{next_pdu_none}
 use Rattle.gfx_client.proofs.ClientLemmas.{unread, not_applied, taken}
+use Rattle.gfx_client.proofs.client.Client.take_message.Goals.{in-Other+in-WireToSurface1-2, in-Other+in-WireToSurface2-2, in-Other+in-SolidFill-2, in-Other+in-SurfaceToSurface-2, in-Other+in-CacheToSurface-2, in-Other+in-ResetGraphics-2, in-Other+in-CapsConfirm-2, in-Other+in-DeleteEncodingContext-2, in-WireToSurface1-2}
 use Rattle.gfx_client.proofs.client.Client.take_message.Goals as goal
 
 pub returns-in_err-pdu-clause-takes : goal.returns-in_err-pdu-clause-takes
 returns-in_err-pdu-clause-takes c =
     let p = err_from_is_err_and c.from_residual.result c.from_residual.ensures.1 in
-    let due = subst (λ (z : List ℕ). Gives (λ found. found) (Err c.in_err-pdu.field-0.0) (next_pdu z c.args.self.now.at)) c.as_slice.ensures c.in_err-pdu.ensures.value in
+    let due = subst (λ (z : List ℕ). Gives found_in (Err c.in_err-pdu.field-0.0) (next_pdu z 0)) c.left.ensures c.in_err-pdu.ensures.value in
     rw (p.1, p.2) (unread c.args.self.now c.in_err-pdu.field-0.0 due)
 
 pub returns-in_default-clause-takes : goal.returns-in_default-clause-takes
 returns-in_default-clause-takes c =
-    let read = ap (λ (z : List ℕ). next_pdu z c.args.self.now.at) (sym c.as_slice.ensures) ∙ c.in_ok-pdu.ensures.value in
-    (next_pdu_none c.args.self.now.payload c.args.self.now.at (rw c.in_default.is at read), refl)
+    let read = ap (λ (z : List ℕ). next_pdu z 0) (sym c.left.ensures) ∙ c.in_ok-pdu.ensures.value in
+    (next_pdu_none c.args.self.now.payloads.left 0 (rw c.in_default.is at read), refl)
 
-pub returns-in_err-apply-clause-takes : goal.returns-in_err-apply-clause-takes
-returns-in_err-apply-clause-takes c =
-    let p = err_from_is_err_and c.from_residual-in_err-apply.result c.from_residual-in_err-apply.ensures.1 in
-    let read = ap (λ (z : List ℕ). next_pdu z c.args.self.now.at) (sym c.as_slice.ensures) ∙ c.in_ok-pdu.ensures.value in
-    rw (p.1, p.2) (not_applied c.args.self.now c.in-Some.pdu c.in-Some.after c.in_err-apply.field-0.0 c.apply.new.self (rw c.in-Some.is at read) c.in_err-apply.ensures.applies)
+pub returns-in_err-apply_ref-clause-takes : goal.returns-in_err-apply_ref-clause-takes
+returns-in_err-apply_ref-clause-takes c =
+    let p = err_from_is_err_and c.from_residual-in_err-apply_ref.result c.from_residual-in_err-apply_ref.ensures.1 in
+    let read = ap (λ (z : List ℕ). next_pdu z 0) (sym c.left.ensures) ∙ c.in_ok-pdu.ensures.value in
+    let stays = not_applied c.args.self.now (pdu_of c.in-Some.pdu) c.in-Some.size c.in_err-apply_ref.field-0.0 c.apply_ref.new.self (rw c.in-Some.is at read) c.in_err-apply_ref.ensures.applies in
+    rw (p.1, p.2)
+    (elim c.match-pdu-3.branch [
+      | in-Other+in-WireToSurface1-2 w ↦ rw w.self-is stays
+      | in-Other+in-WireToSurface2-2 w ↦ rw w.self-is stays
+      | in-Other+in-SolidFill-2 w ↦ rw w.self-is stays
+      | in-Other+in-SurfaceToSurface-2 w ↦ rw w.self-is stays
+      | in-Other+in-CacheToSurface-2 w ↦ rw w.self-is stays
+      | in-Other+in-ResetGraphics-2 w ↦ rw w.self-is stays
+      | in-Other+in-CapsConfirm-2 w ↦ rw w.self-is stays
+      | in-Other+in-DeleteEncodingContext-2 w ↦ rw w.self-is stays
+      | in-WireToSurface1-2 w ↦ rw w.self-is stays
+    ])
 
 pub returns-clause-takes : goal.returns-clause-takes
 returns-clause-takes c =
-    let read = ap (λ (z : List ℕ). next_pdu z c.args.self.now.at) (sym c.as_slice.ensures) ∙ c.in_ok-pdu.ensures.value in
-    taken c.args.self.now c.in-Some.pdu c.in-Some.after _ _ _ c.apply.new.self _ (rw c.in-Some.is at read) c.in_ok-apply.ensures.applies c.saturating_add-self.ensures (ap (λ n. (n + 1) % 2 ^ 32) c.decoded.ensures) refl
-    (c.stepped_of.ensures _ c.in_ok-reply.ensures)
+    let read = ap (λ (z : List ℕ). next_pdu z 0) (sym c.left.ensures) ∙ c.in_ok-pdu.ensures.value in
+    taken c.args.self.now (pdu_of c.in-Some.pdu) c.in-Some.size _ _ c.pass.new.self c.apply_ref.new.self _ (rw c.in-Some.is at read) c.in_ok-apply_ref.ensures.applies c.pass.ensures c.saturating_add-self.ensures
+    (ap (λ n. (n + 1) % 2 ^ 32) c.decoded.ensures)
+    (c.stepped_of-stepped.ensures (pdu_of c.in-Some.pdu) _ c.id.ensures c.in_ok-reply.ensures)

@@ -3,6 +3,16 @@
 //!
 //! In the pipe it stands beside the framing of a recording: a recording of fragments has fragments where a stream has
 //! channel messages. What is in a message it doesn't know.
+//!
+//! ```text
+//!              a message in one fragment
+//!                  +----+
+//!                  v    |
+//! Joiner::new() --> none --- first fragment ---> open --- the last one, gives the message --> none
+//!                   |                            |  ^ |
+//!                   |                            |  +-+ one between
+//!                   +--- what is refused --------+--> refused (each later call answers it again)
+//! ```
 #![tactic(auto)]
 
 mod fragment;

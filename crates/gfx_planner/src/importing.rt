@@ -31,7 +31,7 @@ fn keep_key(
 
 /// Keeps the keys that are imported of two files, one after another, where none is kept: they get slots 1, 2 and so
 /// on, and the last is the most recently used.
-pub fn keep_imported(
+pub(crate) fn keep_imported(
     alloc: Global,
     slots: &mut SlotPlan,
     server: &Kept,

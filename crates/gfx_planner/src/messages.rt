@@ -28,7 +28,7 @@ pub const PRIMARY: u32 = 1;
 /// The messages of a step that goes as a kind other than those of ClearCodec, and neither in passes nor as video, in the
 /// state before it. The choice of slots goes on by the step.
 #[tactic(auto, unfolding(crate::specs::Wire::made_as))]
-pub fn step_messages(
+pub(crate) fn step_messages(
     alloc: Global,
     script: &Script,
     state: &State,

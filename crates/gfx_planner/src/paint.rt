@@ -9,7 +9,7 @@ use gfx_script::Script;
 use std::alloc::Global;
 
 /// The uncompressed data of a picture of these sides ([MS-RDPEGFX] RDPGFX_CODECID_UNCOMPRESSED).
-pub fn raw_payload(
+pub(crate) fn raw_payload(
     alloc: Global,
     script: &Script,
     picture: u32,
@@ -30,7 +30,7 @@ pub fn raw_payload(
 }
 
 /// The colours of a picture of these sides, row by row.
-pub fn colours(
+pub(crate) fn colours(
     alloc: Global,
     script: &Script,
     picture: u32,

@@ -26,7 +26,7 @@ use std::alloc::Global;
 
 /// Whether a step that goes as a kind sends tiles that may be raised: a paint in passes, or an improvement. A client may
 /// be thin.
-pub fn sends_tiles(step: &Step, kind: Option<Kind>, thin: bool) -> bool
+pub(crate) fn sends_tiles(step: &Step, kind: Option<Kind>, thin: bool) -> bool
     ensures { result ≡ sends_tiles thin kind step.now }
 {
     match step {
@@ -47,7 +47,7 @@ fn goes_in_passes(kind: Option<Kind>, thin: bool) -> bool
 }
 
 /// The messages of a step that is painted in passes, in the state before it. Its tiles are live from then on.
-pub fn passes_messages(
+pub(crate) fn passes_messages(
     alloc: Global,
     script: &Script,
     state: &State,
@@ -145,7 +145,7 @@ fn as_messages(
 
 /// Ends the tiles that a step changes which goes neither in passes nor as video: those of a surface that it deletes, or of
 /// the cells in which it writes.
-pub fn end_touched(
+pub(crate) fn end_touched(
     script: &Script,
     state: &State,
     plan: &SlotPlan,
@@ -232,7 +232,7 @@ fn end_shown(
 }
 
 /// The same of a picture, where it is there, its top left corner at a place.
-pub fn end_painted(script: &Script, passes: &mut Passes, id: u16, picture: u32, at: Point)
+pub(crate) fn end_painted(script: &Script, passes: &mut Passes, id: u16, picture: u32, at: Point)
     requires { IfSome (slice_get script.now.pictures picture) (λ source. IsRect (place_of source at)) }
     ensures { passes.new ≡ ended_by passes.old (option_map (λ source. area id (place_of source at ∷ [])) (slice_get script.now.pictures picture)) }
 {

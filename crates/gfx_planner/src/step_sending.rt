@@ -26,7 +26,7 @@ use std::alloc::Global;
 
 /// Puts out the messages of a step that goes as a kind, and applies them. Tiles that it paints in passes are live from
 /// then on, and those that it changes otherwise no more.
-pub fn send_step(
+pub(crate) fn send_step(
     alloc: Global,
     sender: &mut Sender,
     plan: &mut SlotPlan,

@@ -25,7 +25,7 @@ use gfx_video_paint::video_messages;
 use std::alloc::Global;
 
 /// Whether a step that goes as a kind is a paint that goes as video. A client may be thin.
-pub fn is_video_paint(step: &Step, kind: Option<Kind>, thin: bool) -> bool
+pub(crate) fn is_video_paint(step: &Step, kind: Option<Kind>, thin: bool) -> bool
     ensures { result ≡ is_video_paint thin kind step.now }
 {
     match (step, kind) {
@@ -36,7 +36,7 @@ pub fn is_video_paint(step: &Step, kind: Option<Kind>, thin: bool) -> bool
 
 /// The messages of a paint that goes as video, in the state before it: they are counted, and the live tiles of the cells
 /// that it touches end.
-pub fn video_paint_messages(
+pub(crate) fn video_paint_messages(
     alloc: Global,
     script: &Script,
     state: &State,

@@ -21,7 +21,11 @@ const LARGE_AREA: u32 = 16_384;
 /// No command has this word. It stands for words that aren't UTF-8.
 const NO_COMMAND: &str = "\u{fffd}";
 
+/// The largest block by which the C library's allocator takes its measure of what to keep: a little below 32 MB.
+const MEASURE: usize = 33_546_240;
+
 fn main(rt: HostRuntime) -> ExitCode {
+    keep_freed_memory(&rt);
     let status = match start(&rt) {
         Ok(status) => status,
         Err(NoMemory) => {
@@ -30,6 +34,15 @@ fn main(rt: HostRuntime) -> ExitCode {
         }
     };
     ExitCode::from(status.number())
+}
+
+/// Has the allocator keep freed memory for what comes next. Payloads, canvases and pictures come again with each
+/// message, and the system would else map and clear their pages anew each time: half of a large recording's time.
+/// The C library's allocator gives a large block back once it is freed, until it has freed one at least as large;
+/// it then keeps up to twice that one's size. The block that is taken here is never touched, so it costs no page.
+fn keep_freed_memory(rt: &HostRuntime) {
+    let block: Result<Vec<u8>, _> = Vec::with_capacity(rt.alloc(), MEASURE);
+    drop(block);
 }
 
 /// Takes the words of the command line, and runs the program on the real streams.

@@ -119,7 +119,7 @@ impl Lifting for ReducedLifting {
 }
 
 #[inline]
-pub fn even_sample<L: Lifting>(low: i32, before: i32, here: i32) -> i32
+pub(crate) fn even_sample<L: Lifting>(low: i32, before: i32, here: i32) -> i32
     requires low { Within (2 ^ 28) low }
     requires before { Within (2 ^ 28) before }
     requires here { Within (2 ^ 28) here }
@@ -130,7 +130,7 @@ pub fn even_sample<L: Lifting>(low: i32, before: i32, here: i32) -> i32
 }
 
 #[inline]
-pub fn odd_sample<L: Lifting>(high: i32, left: i32, right: i32) -> i32
+pub(crate) fn odd_sample<L: Lifting>(high: i32, left: i32, right: i32) -> i32
     requires high { Within (2 ^ 28) high }
     requires left { Within (2 ^ 29) left }
     requires right { Within (2 ^ 29) right }
@@ -150,7 +150,7 @@ fn difference(left: i32, right: i32) -> i32
 }
 
 #[inline]
-pub fn between<L: Lifting>(left: i32, right: i32) -> i32
+pub(crate) fn between<L: Lifting>(left: i32, right: i32) -> i32
     requires left { Within (2 ^ 28) left }
     requires right { Within (2 ^ 28) right }
     ensures value { result ≡ halved L.transform (left +ℤ right) }
@@ -160,7 +160,7 @@ pub fn between<L: Lifting>(left: i32, right: i32) -> i32
 }
 
 #[inline]
-pub fn high_place<L: Lifting>(odd: i32, left: i32, right: i32) -> i32
+pub(crate) fn high_place<L: Lifting>(odd: i32, left: i32, right: i32) -> i32
     requires odd { Within (2 ^ 28) odd }
     requires left { Within (2 ^ 28) left }
     requires right { Within (2 ^ 28) right }
@@ -171,7 +171,7 @@ pub fn high_place<L: Lifting>(odd: i32, left: i32, right: i32) -> i32
 }
 
 #[inline]
-pub fn low_place<L: Lifting>(even: i32, before: i32, here: i32) -> i32
+pub(crate) fn low_place<L: Lifting>(even: i32, before: i32, here: i32) -> i32
     requires even { Within (2 ^ 30) even }
     requires before { Within (2 ^ 28) before }
     requires here { Within (2 ^ 28) here }
@@ -182,7 +182,7 @@ pub fn low_place<L: Lifting>(even: i32, before: i32, here: i32) -> i32
 
 /// The sample behind two neighbours, in a straight line with them.
 #[inline]
-pub fn beyond(before: i32, last: i32) -> i32
+pub(crate) fn beyond(before: i32, last: i32) -> i32
     requires before { Within (2 ^ 28) before }
     requires last { Within (2 ^ 28) last }
     ensures value { result ≡ beyond_of before last }

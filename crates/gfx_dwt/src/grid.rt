@@ -11,7 +11,7 @@ static NOUGHTS: [i32; 64] = [0; 64];
 
 /// A row of a plane of this width.
 #[inline(always)]
-pub fn row(plane: &[i32], width: usize, index: usize) -> &[i32]
+pub(crate) fn row(plane: &[i32], width: usize, index: usize) -> &[i32]
     requires { index * width + width ≤ length plane.now }
     ensures len { length result.now ≡ width }
     ensures each { (k : ℕ) → k < width → at result.now k ≡ cell width plane.now index k }
@@ -52,7 +52,7 @@ fn row_behind<'a>(transform: Transform, level: Scale, last: &'a [i32]) -> &'a [i
 
 /// A row of a high half, or what stands behind its end.
 #[inline]
-pub fn edge_row<'a>(
+pub(crate) fn edge_row<'a>(
     transform: Transform,
     level: Scale,
     high: &'a [i32],

@@ -83,7 +83,7 @@ fn split_first(line: &[i32], low: &mut [i32], high: &mut [i32])
 }
 
 /// Splits a line into its halves. Sizes stand here as numbers, so that each loop has a copy of its own for its size.
-pub fn split_line(
+pub(crate) fn split_line(
     transform: Transform,
     level: Scale,
     line: &[i32],

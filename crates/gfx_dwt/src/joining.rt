@@ -10,7 +10,7 @@ use crate::layout::{Scale, Transform};
 use crate::lines::join_line;
 
 /// Joins each row of a low and of a high quarter.
-pub fn join_rows(
+pub(crate) fn join_rows(
     transform: Transform,
     level: Scale,
     low: &[i32],
@@ -105,7 +105,7 @@ fn join_last(
 }
 
 /// Joins each column of the two halves of a plane, row by row over whole rows.
-pub fn join_columns(
+pub(crate) fn join_columns(
     transform: Transform,
     level: Scale,
     low: &[i32],

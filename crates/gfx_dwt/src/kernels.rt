@@ -66,7 +66,13 @@ fn raise_by<L: Lifting>(out: &mut [i32], high: &[i32], left: &[i32], right: &[i3
     }
 }
 
-pub fn lower(transform: Transform, out: &mut [i32], low: &[i32], before: &[i32], here: &[i32])
+pub(crate) fn lower(
+    transform: Transform,
+    out: &mut [i32],
+    low: &[i32],
+    before: &[i32],
+    here: &[i32],
+)
     requires low_len { length low.now ≡ length out.old }
     requires before_len { length before.now ≡ length out.old }
     requires here_len { length here.now ≡ length out.old }
@@ -81,7 +87,7 @@ pub fn lower(transform: Transform, out: &mut [i32], low: &[i32], before: &[i32],
     }
 }
 
-pub fn pair(
+pub(crate) fn pair(
     transform: Transform,
     above: &[i32],
     odds: &mut [i32],
@@ -108,7 +114,13 @@ pub fn pair(
     }
 }
 
-pub fn raise(transform: Transform, out: &mut [i32], high: &[i32], left: &[i32], right: &[i32])
+pub(crate) fn raise(
+    transform: Transform,
+    out: &mut [i32],
+    high: &[i32],
+    left: &[i32],
+    right: &[i32],
+)
     requires high_len { length high.now ≡ length out.old }
     requires left_len { length left.now ≡ length out.old }
     requires right_len { length right.now ≡ length out.old }
@@ -153,7 +165,13 @@ fn smooth_by<L: Lifting>(out: &mut [i32], even: &[i32], before: &[i32], here: &[
     }
 }
 
-pub fn differ(transform: Transform, out: &mut [i32], odd: &[i32], left: &[i32], right: &[i32])
+pub(crate) fn differ(
+    transform: Transform,
+    out: &mut [i32],
+    odd: &[i32],
+    left: &[i32],
+    right: &[i32],
+)
     requires odd_len { length odd.now ≡ length out.old }
     requires left_len { length left.now ≡ length out.old }
     requires right_len { length right.now ≡ length out.old }
@@ -168,7 +186,13 @@ pub fn differ(transform: Transform, out: &mut [i32], odd: &[i32], left: &[i32], 
     }
 }
 
-pub fn smooth(transform: Transform, out: &mut [i32], even: &[i32], before: &[i32], here: &[i32])
+pub(crate) fn smooth(
+    transform: Transform,
+    out: &mut [i32],
+    even: &[i32],
+    before: &[i32],
+    here: &[i32],
+)
     requires even_len { length even.now ≡ length out.old }
     requires before_len { length before.now ≡ length out.old }
     requires here_len { length here.now ≡ length out.old }
@@ -218,7 +242,7 @@ fn divide_by<L: Lifting>(
 }
 
 #[inline(always)]
-pub fn divide(
+pub(crate) fn divide(
     transform: Transform,
     even: &[i32],
     odd: &[i32],
@@ -247,7 +271,7 @@ pub fn divide(
 }
 
 /// Writes the row behind two neighbouring rows, in straight lines with them.
-pub fn extend(out: &mut [i32], before: &[i32], last: &[i32])
+pub(crate) fn extend(out: &mut [i32], before: &[i32], last: &[i32])
     requires before_len { length before.now ≡ length out.old }
     requires last_len { length last.now ≡ length out.old }
     requires before { AllWithin (2 ^ 28) before.now }

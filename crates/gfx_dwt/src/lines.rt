@@ -94,7 +94,13 @@ fn join_first(low: &[i32], high: &[i32], out: &mut [i32])
 }
 
 /// Joins a line of its halves.
-pub fn join_line(transform: Transform, level: Scale, low: &[i32], high: &[i32], out: &mut [i32])
+pub(crate) fn join_line(
+    transform: Transform,
+    level: Scale,
+    low: &[i32],
+    high: &[i32],
+    out: &mut [i32],
+)
     requires low_len { length low.now ≡ low_size transform level }
     requires high_len { length high.now ≡ high_size transform level }
     requires out_len { length out.old ≡ line_size transform level }

@@ -3,9 +3,20 @@ ghost use Rattle.gfx_dwt.specs.Narrow.{StaysNarrow};
 ghost use Rattle.gfx_dwt.specs.Ranges.{at};
 ghost use Rattle.gfx_dwt.specs.Samples.{cell, sample};
 
+mod flat;
+mod formula;
+mod grid;
+mod joining;
+mod kernels;
+mod levels;
+mod lines;
+mod range;
+mod rows;
+mod smooth;
+
 use crate::layout::{Scale, Transform};
-use crate::narrow_kernels::fill;
-use crate::narrow_levels::join_narrow;
+use crate::narrow::kernels::fill;
+use crate::narrow::levels::join_narrow;
 use crate::noughts::all_are;
 
 /// What `inverse_narrow` works on. Of what stands in it nothing is said between two calls.

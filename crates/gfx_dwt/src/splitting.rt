@@ -12,7 +12,7 @@ use crate::kernels::{differ, divide, extend, smooth};
 use crate::layout::{Scale, Transform};
 
 /// Splits each row of a half plane into its quarters.
-pub fn split_rows(
+pub(crate) fn split_rows(
     transform: Transform,
     level: Scale,
     source: &[i32],
@@ -186,7 +186,7 @@ fn split_pairs(
 }
 
 /// Splits each column of a plane into its halves, row by row over whole rows.
-pub fn split_columns(
+pub(crate) fn split_columns(
     transform: Transform,
     level: Scale,
     source: &[i32],

@@ -51,7 +51,7 @@ fn join_level(transform: Transform, level: Scale, part: &mut [i32], tmp: &mut [i
 
 /// Joins a level in the part that it fills at the end of a plane, or of a part of one; what stands before it stays.
 #[inline(always)]
-pub fn join_in_plane(transform: Transform, level: Scale, plane: &mut [i32], tmp: &mut [i32])
+pub(crate) fn join_in_plane(transform: Transform, level: Scale, plane: &mut [i32], tmp: &mut [i32])
     requires plane_len { line_size transform level * line_size transform level ≤ length plane.old }
     requires tmp_len { line_size transform level * line_size transform level ≤ length tmp.old }
     requires within { AllWithin (2 ^ 26) plane.old }

@@ -32,7 +32,7 @@ impl<'a> Readers<'a> {
 /// Reads the entry of a place whose position falls by `n`, if it is a raw number: one of LL3, or of a sum that isn't
 /// zero.
 #[inline(always)]
-pub fn read_raw(readers: &mut Readers<'_>, sum: i16, n: u8, low: bool) -> i32
+pub(crate) fn read_raw(readers: &mut Readers<'_>, sum: i16, n: u8, low: bool) -> i32
     requires some { 1 ≤ n }
     requires few { n ≤ 24 }
     ensures reads { (low ≡ false → sum ≡ pos 0 → ⊥) → ReadsEntry (way n low sum) n result readers.old readers.new }
@@ -56,7 +56,7 @@ fn read_number(bits: &mut BitReader<'_>, n: u8) -> i32
 
 /// The next four numbers of `n` bits, by one look.
 #[inline(always)]
-pub fn read_four(bits: &mut BitReader<'_>, n: u8) -> (i32, i32, i32, i32)
+pub(crate) fn read_four(bits: &mut BitReader<'_>, n: u8) -> (i32, i32, i32, i32)
     requires { n ≤ MOST_OF_FOUR }
     ensures first { result.0 ≡ pos (number n bits.old) }
     ensures second { result.1 ≡ pos (number n (drop n bits.old)) }
@@ -77,7 +77,7 @@ pub fn read_four(bits: &mut BitReader<'_>, n: u8) -> (i32, i32, i32, i32)
 }
 
 #[inline(always)]
-pub fn is_below_zero(sum: i16) -> bool
+pub(crate) fn is_below_zero(sum: i16) -> bool
     ensures { MatchBool result (sum <ℤ pos 0) (pos 0 ≤ℤ sum) }
 {
     sum < 0
@@ -85,7 +85,7 @@ pub fn is_below_zero(sum: i16) -> bool
 
 /// A magnitude with the sign that is known.
 #[inline(always)]
-pub fn away(magnitude: i32, down: bool) -> i32
+pub(crate) fn away(magnitude: i32, down: bool) -> i32
     requires { Within (2 ^ 24) magnitude }
     ensures value { result ≡ (if down then neg_ℤ magnitude else magnitude) }
     ensures small { Within (2 ^ 24) result }

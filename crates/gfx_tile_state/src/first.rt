@@ -10,7 +10,7 @@ use gfx_quant::{Band, band_start, dequantise_plane};
 use gfx_rlgr::decode;
 
 /// Reads the sums of a first pass by way of a plane, on which nothing depends. An `Err` leaves those that were there.
-pub fn read_sums(
+pub(crate) fn read_sums(
     bytes: &[u8],
     transform: Transform,
     positions: &[u8; 10],

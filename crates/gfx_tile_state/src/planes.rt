@@ -44,7 +44,7 @@ fn more(total: i32, number: i32) -> i32
 }
 
 /// The numbers of a plane with more room for each.
-pub fn load(from: &[i16], out: &mut [i32; 4096])
+pub(crate) fn load(from: &[i16], out: &mut [i32; 4096])
     requires { length from.now ≡ 4096 }
     ensures value { out.new ≡ from.now }
     ensures coefficients { AllCoefficients out.new }
@@ -55,7 +55,7 @@ pub fn load(from: &[i16], out: &mut [i32; 4096])
 }
 
 /// The numbers of a plane, each in its 16 bits.
-pub fn store(plane: &[i32; 4096], out: &mut [i16])
+pub(crate) fn store(plane: &[i32; 4096], out: &mut [i16])
     requires coefficients { AllCoefficients plane.now }
     requires room { length out.old ≡ 4096 }
     ensures { out.new ≡ plane.now }
@@ -66,7 +66,7 @@ pub fn store(plane: &[i32; 4096], out: &mut [i16])
 }
 
 /// A slice of a plane's size as a plane.
-pub fn as_plane(numbers: &[i16]) -> &[i16; 4096]
+pub(crate) fn as_plane(numbers: &[i16]) -> &[i16; 4096]
     requires { length numbers.now ≡ 4096 }
     ensures { result.now ≡ numbers.now }
 {
@@ -75,7 +75,7 @@ pub fn as_plane(numbers: &[i16]) -> &[i16; 4096]
 
 /// Writes the numbers of a plane in 16 bits, and says whether each fits them; one that doesn't is cut to their end.
 // No early return: so it is done on many numbers at a time.
-pub fn shorten(plane: &[i32; 4096], out: &mut [i16; 4096]) -> bool
+pub(crate) fn shorten(plane: &[i32; 4096], out: &mut [i16; 4096]) -> bool
     ensures { IsTrue result → out.new ≡ plane.now }
 {
     let mut fits = true;
@@ -100,7 +100,7 @@ fn is_same(short: i16, number: i32) -> bool
 }
 
 /// Two planes, place by place.
-pub fn add(kept: &[i16], sums: &[i16], out: &mut [i32; 4096])
+pub(crate) fn add(kept: &[i16], sums: &[i16], out: &mut [i32; 4096])
     requires kept { length kept.now ≡ 4096 }
     requires sums { length sums.now ≡ 4096 }
     ensures { out.new ≡ added kept.now sums.now }
@@ -111,7 +111,7 @@ pub fn add(kept: &[i16], sums: &[i16], out: &mut [i32; 4096])
 }
 
 /// Whether a plane with another stays in the range of a coefficient at each place.
-pub fn fits_onto(kept: &[i16], plane: &[i16; 4096]) -> bool
+pub(crate) fn fits_onto(kept: &[i16], plane: &[i16; 4096]) -> bool
     requires { length kept.now ≡ 4096 }
     ensures { MatchBool result (FitsOnto kept.now plane.now) (LeavesKept kept.now plane.now) }
 {
@@ -124,7 +124,7 @@ pub fn fits_onto(kept: &[i16], plane: &[i16; 4096]) -> bool
 
 /// Whether a number is in the range of a coefficient.
 #[inline(always)]
-pub fn is_small(number: i32) -> bool
+pub(crate) fn is_small(number: i32) -> bool
     ensures { result ≡ is_coefficient number }
 {
     -32768 <= number && number <= 32767
@@ -132,7 +132,7 @@ pub fn is_small(number: i32) -> bool
 
 /// Puts in place of each number its sum with all before it. Where one leaves 16 bits the answer is false, and nothing
 /// is said of the numbers.
-pub fn sum_up(values: &mut [i16]) -> bool
+pub(crate) fn sum_up(values: &mut [i16]) -> bool
     requires few { length values.old ≤ 81 }
     requires small { AllWithin 32767 values.old }
     ensures { MatchBool result (values.new ≡ running (pos 0) values.old) (SomeLeaves values.old) }
@@ -149,7 +149,7 @@ pub fn sum_up(values: &mut [i16]) -> bool
 }
 
 /// Whether two planes, place by place, stay in the range of a coefficient.
-pub fn fit_together(kept: &[i32; 4096], plane: &[i16; 4096]) -> bool
+pub(crate) fn fit_together(kept: &[i32; 4096], plane: &[i16; 4096]) -> bool
     requires { AllCoefficients kept.now }
     ensures { MatchBool result (FitsOnto kept.now plane.now) (LeavesKept kept.now plane.now) }
 {
@@ -170,7 +170,7 @@ fn fit_both(kept: i32, number: i32) -> bool
 }
 
 /// Puts a plane in place of what was kept.
-pub fn put(plane: &[i32; 4096], kept: &mut Vec<i16>)
+pub(crate) fn put(plane: &[i32; 4096], kept: &mut Vec<i16>)
     requires coefficients { AllCoefficients plane.now }
     requires room { length kept.old.items ≡ 4096 }
     ensures { kept.new.items ≡ plane.now }

@@ -2,3 +2,4 @@ pub mod Sizes
 pub mod Bodies
 pub mod Framing
 pub mod Laws
+pub mod Fronts

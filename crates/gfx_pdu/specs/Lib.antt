@@ -5,3 +5,4 @@ pub mod Spelling
 pub mod Laws
 pub mod Codecs
 pub mod Borrowed
+pub mod Writing

@@ -9,12 +9,13 @@ ghost use Rattle.gfx_pdu.specs.declared.pdu.Pdu.TheVariants as pdus;
 ghost use Rattle.gfx_pdu.specs.Borrowed.{pdu_of};
 ghost use Rattle.gfx_pdu.specs.Layouts.{wire_to_surface_1, wire_to_surface_2, delete_encoding_context, solid_fill, surface_to_surface, surface_to_cache, cache_to_surface, evict_cache_entry};
 ghost use Rattle.gfx_pdu.specs.Spelling.{spelling, IsSpellable};
+ghost use Rattle.gfx_pdu.specs.Writing.{PutsFront};
 
 use crate::header::put_header;
 use crate::id::Id;
 use crate::pdu::{Pdu, PduRef};
 use gfx_base::{Bytes, Cause, NoMemory, Pixel, Point, Points, Rect, Rects};
-use gfx_layout::{Fields, Part, Stop, put_list, put_sized};
+use gfx_layout::{Fields, Part, Stop, put_list};
 use std::alloc::Global;
 
 /// Reads the body of RDPGFX_WIRE_TO_SURFACE_PDU_1 ([MS-RDPEGFX] 2.2.2.1).
@@ -33,7 +34,7 @@ pub(crate) fn read_wire_to_surface_1(body: &[u8]) -> Result<PduRef<'_>, Stop>
     Ok(pdu)
 }
 
-/// Puts RDPGFX_WIRE_TO_SURFACE_PDU_1 at the end.
+/// Puts RDPGFX_WIRE_TO_SURFACE_PDU_1 at the end, all but its data.
 pub(crate) fn put_wire_to_surface_1(
     out: &mut Bytes,
     surface: u16,
@@ -43,7 +44,7 @@ pub(crate) fn put_wire_to_surface_1(
     payload: &Bytes,
 ) -> Result<(), NoMemory>
     requires { IsSpellable (pdus.WireToSurface1 surface codec format rect payload.now) }
-    ensures { Puts result out.old out.new (spelling (pdus.WireToSurface1 surface codec format rect payload.now)) }
+    ensures { PutsFront result out.old out.new (spelling (pdus.WireToSurface1 surface codec format rect payload.now)) payload.now }
 {
     put_header(
         out,
@@ -54,7 +55,7 @@ pub(crate) fn put_wire_to_surface_1(
     codec.put(out)?;
     format.put(out)?;
     rect.put(out)?;
-    put_sized(out, payload.as_slice())
+    (payload.len() as u32).put(out)
 }
 
 /// Reads the body of RDPGFX_WIRE_TO_SURFACE_PDU_2 ([MS-RDPEGFX] 2.2.2.2).
@@ -73,7 +74,7 @@ pub(crate) fn read_wire_to_surface_2(body: &[u8]) -> Result<PduRef<'_>, Stop>
     Ok(pdu)
 }
 
-/// Puts RDPGFX_WIRE_TO_SURFACE_PDU_2 at the end.
+/// Puts RDPGFX_WIRE_TO_SURFACE_PDU_2 at the end, all but its data.
 pub(crate) fn put_wire_to_surface_2(
     out: &mut Bytes,
     surface: u16,
@@ -83,7 +84,7 @@ pub(crate) fn put_wire_to_surface_2(
     payload: &Bytes,
 ) -> Result<(), NoMemory>
     requires { IsSpellable (pdus.WireToSurface2 surface codec context format payload.now) }
-    ensures { Puts result out.old out.new (spelling (pdus.WireToSurface2 surface codec context format payload.now)) }
+    ensures { PutsFront result out.old out.new (spelling (pdus.WireToSurface2 surface codec context format payload.now)) payload.now }
 {
     put_header(
         out,
@@ -94,7 +95,7 @@ pub(crate) fn put_wire_to_surface_2(
     codec.put(out)?;
     context.put(out)?;
     format.put(out)?;
-    put_sized(out, payload.as_slice())
+    (payload.len() as u32).put(out)
 }
 
 /// Reads the body of RDPGFX_DELETE_ENCODING_CONTEXT_PDU ([MS-RDPEGFX] 2.2.2.3).

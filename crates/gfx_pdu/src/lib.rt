@@ -24,4 +24,4 @@ pub use promises::{
     what_is_written_is_spelled,
 };
 pub use reading::{read_pdu, read_pdu_ref};
-pub use writing::write_pdu;
+pub use writing::{write_front, write_pdu};

@@ -9,12 +9,13 @@ ghost use Rattle.gfx_pdu.specs.declared.pdu.Pdu.TheVariants as pdus;
 ghost use Rattle.gfx_pdu.specs.Borrowed.{pdu_of};
 ghost use Rattle.gfx_pdu.specs.Layouts.{monitor, create_surface, delete_surface, start_frame, end_frame, reset_graphics, map_surface_to_output, caps_confirm};
 ghost use Rattle.gfx_pdu.specs.Spelling.{spelling, IsSpellable};
+ghost use Rattle.gfx_pdu.specs.Writing.{PutsFront};
 
 use crate::header::put_header;
 use crate::id::Id;
 use crate::pdu::{MOST_MONITORS, Monitor, Monitors, Pdu, PduRef};
 use gfx_base::{Bytes, Cause, NoMemory, Refusal};
-use gfx_layout::{Fields, Part, Stop, put_items, put_sized, put_zeros};
+use gfx_layout::{Fields, Part, Stop, put_items, put_zeros};
 use std::alloc::Global;
 
 impl Part for Monitor {
@@ -221,16 +222,16 @@ pub(crate) fn read_caps_confirm(body: &[u8]) -> Result<PduRef<'_>, Stop>
     Ok(pdu)
 }
 
-/// Puts RDPGFX_CAPS_CONFIRM_PDU at the end.
+/// Puts RDPGFX_CAPS_CONFIRM_PDU at the end, all but its data.
 pub(crate) fn put_caps_confirm(
     out: &mut Bytes,
     version: u32,
     payload: &Bytes,
 ) -> Result<(), NoMemory>
     requires { IsSpellable (pdus.CapsConfirm version payload.now) }
-    ensures { Puts result out.old out.new (spelling (pdus.CapsConfirm version payload.now)) }
+    ensures { PutsFront result out.old out.new (spelling (pdus.CapsConfirm version payload.now)) payload.now }
 {
     put_header(out, Id::CapsConfirm, 2 * u32::SIZE + payload.len())?;
     version.put(out)?;
-    put_sized(out, payload.as_slice())
+    (payload.len() as u32).put(out)
 }

@@ -1,8 +1,8 @@
 //! Writing a message.
 
-ghost use Rattle.std.specs.Prelude.{◌≡◌, ◌++◌, OnOk, OnErr};
-ghost use Rattle.gfx_layout.specs.Writing.{Puts};
+ghost use Rattle.std.specs.Prelude.{◌≡◌, ◌++◌, IfOk, OnOk, OnErr};
 ghost use Rattle.gfx_pdu.specs.Spelling.{spelling, IsSpellable};
+ghost use Rattle.gfx_pdu.specs.Writing.{PutsFront, data_of};
 
 use crate::drawing::{
     put_cache_to_surface, put_delete_encoding_context, put_evict_cache_entry, put_solid_fill,
@@ -23,18 +23,48 @@ pub fn write_pdu(pdu: &Pdu, out: &mut Bytes) -> Result<(), NoMemory>
     ensures err { OnErr result (out.new ≡ out.old) }
 {
     let start = out.len();
-    if put_pdu(pdu, out).is_err() {
+    let lent = write_front(pdu, out)?;
+    if out.append(lent).is_err() {
         out.truncate(start);
         return Err(NoMemory);
     }
     Ok(())
 }
 
-/// Puts the spelling of a message at the end; where memory ends, a part of it may stand there.
-#[rattlefmt::skip]
-fn put_pdu(pdu: &Pdu, out: &mut Bytes) -> Result<(), NoMemory>
+/// Puts the same at the end but for the data that the message ends with, and lends those: they are to
+/// stand behind it. A message without data is put whole, and none are lent.
+pub fn write_front<'p>(pdu: &'p Pdu, out: &mut Bytes) -> Result<&'p [u8], NoMemory>
     requires { IsSpellable pdu.now }
-    ensures { Puts result out.old out.new (spelling pdu.now) }
+    ensures ok { IfOk result (λ lent. out.new ++ lent.now ≡ out.old ++ spelling pdu.now) }
+    ensures lent { IfOk result (λ lent. lent.now ≡ data_of pdu.now) }
+    ensures err { OnErr result (out.new ≡ out.old) }
+{
+    let start = out.len();
+    if put_front(pdu, out).is_err() {
+        out.truncate(start);
+        return Err(NoMemory);
+    }
+    Ok(data_of(pdu))
+}
+
+/// The data that a message ends with.
+fn data_of(pdu: &Pdu) -> &[u8]
+    ensures { result.now ≡ data_of pdu.now }
+{
+    match pdu {
+        Pdu::WireToSurface1 { payload, .. } => payload.as_slice(),
+        Pdu::WireToSurface2 { payload, .. } => payload.as_slice(),
+        Pdu::CapsConfirm { payload, .. } => payload.as_slice(),
+        _ => &[],
+    }
+}
+
+/// Puts the spelling of a message at the end but for its data; where memory ends, a part of it may stand
+/// there.
+#[rattlefmt::skip]
+fn put_front(pdu: &Pdu, out: &mut Bytes) -> Result<(), NoMemory>
+    requires { IsSpellable pdu.now }
+    ensures { PutsFront result out.old out.new (spelling pdu.now) (data_of pdu.now) }
 {
     match pdu {
         Pdu::WireToSurface1 { surface, codec, format, rect, payload } => {

@@ -1,5 +1,5 @@
 -- The writer's form: how long it is, and that it is read back whatever follows.
-use Rattle.std.proofs.Common.{◌≡◌, ℕ, ◌+◌, ◌*◌, ◌≤◌, ◌<◌, zero, suc, List, [], ◌∷◌, ◌++◌, length, take, drop, refl, sym, ap, ◌∙◌, append_assoc, arith, length-append, length-drop, length-take}
+use Rattle.std.proofs.Common.{◌≡◌, ℕ, ◌+◌, ◌-◌, ◌*◌, ◌≤◌, ◌<◌, zero, suc, List, [], ◌∷◌, ◌++◌, length, take, drop, refl, sym, ap, ◌∙◌, append_assoc, arith, length-append, length-drop, length-take}
 use Rattle.std.specs.Int.{w16, w32, to_le_bytes, div_ceil}
 use Rattle.std.proofs.lemmas.List.{append-nil}
 use Rattle.std.proofs.lemmas.Grind.{div_ceil_times}
@@ -52,6 +52,29 @@ pub sent_all : (most n : ℕ) (old out content rest : List ℕ) (count : ℕ) �
 unfolding sized_blocks
 sent_all most n old out content rest count e sent =
     sym (append-nil out) ∙ ap (λ z. out ++ sized_blocks most z rest) (sym e) ∙ sent.due
+
+-- content in two pieces: what is cut off at its front, and what is left of it
+take_joined : (most : ℕ) (head tail : List ℕ) → take most (head ++ tail) ≡ take most head ++ take (most - length head) tail
+take_joined zero head tail = let e : 0 - length head ≡ 0 = omega arith in rw e refl
+take_joined (suc n) [] tail = let e : suc n - 0 ≡ suc n = omega arith in rw e refl
+take_joined (suc n) (x ∷ xs) tail = let e : suc n - suc (length xs) ≡ n - length xs = omega arith in rw e (ap (λ z. x ∷ z) (take_joined n xs tail))
+
+drop_joined : (most : ℕ) (head tail : List ℕ) → drop most (head ++ tail) ≡ drop most head ++ drop (most - length head) tail
+drop_joined zero head tail = let e : 0 - length head ≡ 0 = omega arith in rw e refl
+drop_joined (suc n) [] tail = let e : suc n - 0 ≡ suc n = omega arith in rw e refl
+drop_joined (suc n) (x ∷ xs) tail = let e : suc n - suc (length xs) ≡ n - length xs = omega arith in rw e (drop_joined n xs tail)
+
+-- the room behind what the first piece gave
+room_left : (most : ℕ) (head first : List ℕ) → first ≡ take most head → most - length first ≡ most - length head
+room_left most head first e = omega (arith, ap length e, length-take most head)
+
+pub cut_joined : (most : ℕ) (head tail first second : List ℕ) → first ≡ take most head → second ≡ take (most - length first) tail → first ++ second ≡ take most (head ++ tail)
+cut_joined most head tail first second front_is back_is =
+    rw (back_is, room_left most head first front_is, front_is) (sym (take_joined most head tail))
+
+pub left_joined : (most : ℕ) (head tail first head_after tail_after : List ℕ) → first ≡ take most head → head_after ≡ drop most head → tail_after ≡ drop (most - length first) tail → head_after ++ tail_after ≡ drop most (head ++ tail)
+left_joined most head tail first head_after tail_after front_is head_is tail_is =
+    rw (tail_is, room_left most head first front_is, head_is) (sym (drop_joined most head tail))
 
 -- what is put in the whole ------------------------------------------------------------------------------
 

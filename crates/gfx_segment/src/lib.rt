@@ -37,4 +37,4 @@ pub use profile::{
     TYPES,
 };
 pub use splitter::Splitter;
-pub use writing::{prefix, wrap};
+pub use writing::{prefix, wrap, wrap_joined};

@@ -1,7 +1,6 @@
-use Rattle.std.proofs.Common.{take, drop, ap, ◌∙◌, arith}
-use Rattle.std.proofs.lemmas.List.{take_min, drop_min}
+use Rattle.std.proofs.Common.{arith}
 use Rattle.gfx_segment.specs.declared.profile.TheConstants.{MOST_BLOCK}
-use Rattle.gfx_segment.proofs.WrapLemmas.{sent_none, sent_more, sent_all}
+use Rattle.gfx_segment.proofs.WrapLemmas.{sent_none, sent_more, sent_all, cut_joined, left_joined}
 use Rattle.gfx_segment.proofs.writing.put_blocks.Goals as goal
 
 pub turns-init : goal.turns-init
@@ -9,9 +8,13 @@ turns-init c = sent_none _ _ _ _ _ (omega arith)
 
 pub turns-preserved : goal.turns-preserved
 turns-preserved c =
+    let head = c.turns.head_left.now in
+    let tail = c.turns.tail_left.now in
+    let one = c.cut_at_most.ensures in
+    let other = c.cut_at_most-in-turns.ensures in
     sent_more _ _ _ _ _ _ _ _ _ _ _ (omega arith)
-    (c.split_at.ensures.front ∙ ap (λ z. take z c.turns.rest.now) c.min.ensures ∙ take_min MOST_BLOCK c.turns.rest.now)
-    (c.split_at.ensures.back ∙ ap (λ z. drop z c.turns.rest.now) c.min.ensures ∙ drop_min MOST_BLOCK c.turns.rest.now)
+    (cut_joined MOST_BLOCK head tail _ _ one.front other.front)
+    (left_joined MOST_BLOCK head tail _ _ _ one.front one.back other.back)
     c.in_ok-put_block.ensures c.turns.invariant
 
 pub returns : goal.returns

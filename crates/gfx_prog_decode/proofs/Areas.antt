@@ -16,7 +16,8 @@ use Rattle.gfx_surface.proofs.PictureLemmas.{pixel_at-drawn}
 use Rattle.gfx_tile_state.specs.declared.state.TileState.{TileState}
 use Rattle.gfx_tile_state.specs.Record.{pixel_of}
 use Rattle.gfx_prog_decode.specs.declared.key.Key.{Key}
-use Rattle.gfx_prog_decode.specs.Inside.{IsCanvas, area_shown, areas_shown, overlap}
+use Rattle.gfx_prog_decode.specs.Canvas.{IsCanvas}
+use Rattle.gfx_prog_decode.specs.Inside.{area_shown, areas_shown, overlap}
 use Rattle.gfx_prog_decode.specs.Showing.{cell_in, covered, has_pixel, shown_in, tile_pixel}
 use Rattle.gfx_prog_decode.proofs.Pictures.{choices, overlay, redrawn_same, redrawn_self}
 

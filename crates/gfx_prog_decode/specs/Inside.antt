@@ -1,12 +1,11 @@
 -- How records are kept, and what the calls between them hand on.
-use Rattle.std.specs.Prelude.{◌≡◌, ◌<◌, ℕ, ◌+◌, ◌-◌, ◌*◌, min, max, nat_le, Bool, ◌&&◌, IsTrue, if◌then◌else◌, List, Option, Some, Result, Ok, Err, slice_get}
+use Rattle.std.specs.Prelude.{◌≡◌, ◌<◌, ℕ, ◌+◌, ◌-◌, ◌*◌, min, max, nat_le, Bool, ◌&&◌, IsTrue, if◌then◌else◌, IfSome, List, Option, Some, Result, Ok, Err, slice_get}
 use Rattle.std.specs.FinMap as finmap
 use Rattle.std.specs.FinMap.{from_entries}
 use Rattle.std.specs.List.{list_any}
 use Rattle.std.specs.Option.{ok_or}
 use Rattle.gfx_base.specs.declared.answer.Cause.{Cause}
 use Rattle.gfx_base.specs.declared.answer.Cause.TheVariants.{Memory, Refused}
-use Rattle.gfx_base.specs.declared.format.Format.TheVariants.{Argb}
 use Rattle.gfx_base.specs.declared.geometry.Rect.{Rect}
 use Rattle.gfx_base.specs.declared.pixel.Pixel.{Pixel}
 use Rattle.gfx_base.specs.declared.refusal.Refusal.{Refusal}
@@ -28,10 +27,15 @@ use Rattle.gfx_prog_decode.specs.Coding.{Coding, Numbers}
 use Rattle.gfx_prog_decode.specs.Passes.{improved, start_of}
 use Rattle.gfx_prog_decode.specs.Records.{Records}
 use Rattle.gfx_prog_decode.specs.Showing.{covered, has_pixel}
+use Rattle.gfx_prog_decode.specs.Undo.{kept, nothing}
 
 -- the map that the entries stand for
 abbrev pub records_of : Inside → Records
 records_of a = from_entries a.tiles.entries
+
+-- the log of the bench that is kept, if there is one, is empty
+abbrev pub IsSpent : Inside → Type 0
+IsSpent a = IfSome a.bench (λ bench. kept bench.value.log ≡ nothing)
 
 -- a key has a record, which is before its first pass where the key had none; all else is as it was
 pub record Begins (key : Key) (old new : Records) : Type 0 where
@@ -81,12 +85,6 @@ has_all cell area =
 -- one of these areas has all of a cell
 abbrev pub is_in_one : Rect → List Area → Bool
 is_in_one cell areas = list_any (has_all cell) areas
-
--- a surface of one tile
-pub record IsCanvas (picture : Picture) : Type 0 where
-  pub width : picture.width ≡ 64
-  pub height : picture.height ≡ 64
-  pub format : picture.format ≡ Argb
 
 -- a picture with a canvas drawn where a test holds of a cell's pixels
 abbrev pub canvas_shown : (ℕ → ℕ → Bool) → Picture → Rect → Picture → Picture

@@ -3,6 +3,7 @@ pub mod Records
 pub mod Coding
 pub mod Passes
 pub mod Showing
+pub mod Canvas
 pub mod Scene
 pub mod Progressive
 pub mod Undo

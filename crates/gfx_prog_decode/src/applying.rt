@@ -4,17 +4,16 @@ ghost use Rattle.std.specs.FinMap as finmap;
 ghost use Rattle.gfx_base.specs.Outcome.{Applies, Gives, WantsOnlyIf};
 ghost use Rattle.gfx_prog_block.specs.Reading.{begins_block};
 ghost use Rattle.gfx_prog_decode.specs.Coding.{are_bases, begins_in};
-ghost use Rattle.gfx_prog_decode.specs.Inside.{IsCanvas};
 ghost use Rattle.gfx_prog_decode.specs.Progressive.{after_block, after_first, after_message, after_region, after_tile, after_upgrade};
 ghost use Rattle.gfx_prog_decode.specs.Scene.{in_turn, scene};
 ghost use Rattle.gfx_prog_decode.specs.Showing.{shown_in};
 ghost use Rattle.gfx_prog_decode.specs.Undo.{StaysUndoable, kept, nothing};
 
-use crate::canvas::Canvas;
+use crate::bench::Bench;
 use crate::coding::{check_bases, shape_of};
 use crate::improving::improve;
 use crate::key::{Key, Place};
-use crate::log::{Log, undo};
+use crate::log::undo;
 use crate::passing::check_start;
 use crate::records::Records;
 use crate::showing::show;
@@ -43,15 +42,7 @@ pub(crate) fn apply_data(
     if blocks.is_empty() {
         return Ok(());
     }
-    let mut canvas = Canvas::new(alloc)?;
-    apply_all(
-        alloc,
-        records,
-        surface,
-        &mut canvas,
-        place,
-        blocks.as_slice(),
-    )
+    apply_all(alloc, records, surface, place, blocks.as_slice())
 }
 
 /// Applies blocks, or none of them.
@@ -59,37 +50,32 @@ fn apply_all(
     alloc: Global,
     records: &mut Records,
     surface: &mut Surface,
-    canvas: &mut Canvas,
     place: Place,
     blocks: &[Block<'_>],
 ) -> Result<(), Fault>
-    requires { IsCanvas canvas.old }
     ensures { Applies result (scene records.old surface.old) (scene records.new surface.new) (in_turn (after_block place) blocks.now (scene records.old surface.old)) }
 {
-    let mut log = records.take_log(alloc);
-    let result = apply_whole(alloc, records, surface, canvas, &mut log, place, blocks);
-    records.give_back(log);
+    let mut bench = records.take_bench(alloc)?;
+    let result = apply_whole(&mut bench, records, surface, place, blocks);
+    records.give_back(bench);
     result
 }
 
-/// The same with a log, which is empty.
+/// The same on a bench whose log is empty.
 fn apply_whole(
-    alloc: Global,
+    bench: &mut Bench,
     records: &mut Records,
     surface: &mut Surface,
-    canvas: &mut Canvas,
-    log: &mut Log,
     place: Place,
     blocks: &[Block<'_>],
 ) -> Result<(), Fault>
-    requires canvas { IsCanvas canvas.old }
-    requires empty { kept log.old ≡ nothing }
+    requires { kept bench.old.log ≡ nothing }
     ensures { Applies result (scene records.old surface.old) (scene records.new surface.new) (in_turn (after_block place) blocks.now (scene records.old surface.old)) }
 {
-    match apply_blocks(alloc, records, surface, canvas, log, place, blocks) {
+    match apply_blocks(bench, records, surface, place, blocks) {
         Ok(()) => Ok(()),
         Err(fault) => {
-            undo(records, surface, log);
+            undo(records, surface, &mut bench.log);
             Err(fault)
         }
     }
@@ -97,67 +83,54 @@ fn apply_whole(
 
 /// Applies blocks in turn.
 fn apply_blocks(
-    alloc: Global,
+    bench: &mut Bench,
     records: &mut Records,
     surface: &mut Surface,
-    canvas: &mut Canvas,
-    log: &mut Log,
     place: Place,
     blocks: &[Block<'_>],
 ) -> Result<(), Fault>
-    requires { IsCanvas canvas.old }
     ensures gives { Gives (λ _. scene records.new surface.new) result (in_turn (after_block place) blocks.now (scene records.old surface.old)) }
-    ensures undo { StaysUndoable (kept log.old) (scene records.old surface.old) (kept log.new) (scene records.new surface.new) }
+    ensures undo { StaysUndoable (kept bench.old.log) (scene records.old surface.old) (kept bench.new.log) (scene records.new surface.new) }
 {
     'all: for block in blocks {
-        apply_block(alloc, records, surface, canvas, log, place, block)?;
+        apply_block(bench, records, surface, place, block)?;
     }
     Ok(())
 }
 
 /// Applies a block.
 fn apply_block(
-    alloc: Global,
+    bench: &mut Bench,
     records: &mut Records,
     surface: &mut Surface,
-    canvas: &mut Canvas,
-    log: &mut Log,
     place: Place,
     block: &Block<'_>,
 ) -> Result<(), Fault>
-    requires { IsCanvas canvas.old }
     ensures gives { Gives (λ _. scene records.new surface.new) result (after_block place block.now (scene records.old surface.old)) }
-    ensures undo { StaysUndoable (kept log.old) (scene records.old surface.old) (kept log.new) (scene records.new surface.new) }
-    ensures canvas { IsCanvas canvas.new }
+    ensures undo { StaysUndoable (kept bench.old.log) (scene records.old surface.old) (kept bench.new.log) (scene records.new surface.new) }
 {
     match block {
-        Block::Region(region) => apply_region(alloc, records, surface, canvas, log, place, region),
+        Block::Region(region) => apply_region(bench, records, surface, place, region),
         Block::Sync | Block::FrameBegin { .. } | Block::FrameEnd | Block::Context { .. } => Ok(()),
     }
 }
 
 /// Applies a region.
 fn apply_region(
-    alloc: Global,
+    bench: &mut Bench,
     records: &mut Records,
     surface: &mut Surface,
-    canvas: &mut Canvas,
-    log: &mut Log,
     place: Place,
     region: &Region<'_>,
 ) -> Result<(), Fault>
-    requires { IsCanvas canvas.old }
     ensures gives { Gives (λ _. scene records.new surface.new) result (after_region place region.now (scene records.old surface.old)) }
-    ensures undo { StaysUndoable (kept log.old) (scene records.old surface.old) (kept log.new) (scene records.new surface.new) }
-    ensures canvas { IsCanvas canvas.new }
+    ensures undo { StaysUndoable (kept bench.old.log) (scene records.old surface.old) (kept bench.new.log) (scene records.new surface.new) }
 {
     check_bases(region.quants.as_slice())?;
     apply_tiles(
-        alloc,
+        bench,
         records,
         surface,
-        canvas,
-        log,
         place,
         region,
         region.tiles.as_slice(),
@@ -166,47 +139,39 @@ fn apply_region(
 
 /// Applies tiles of a region in turn.
 fn apply_tiles(
-    alloc: Global,
+    bench: &mut Bench,
     records: &mut Records,
     surface: &mut Surface,
-    canvas: &mut Canvas,
-    log: &mut Log,
     place: Place,
     region: &Region<'_>,
     tiles: &[Tile<'_>],
 ) -> Result<(), Fault>
-    requires canvas { IsCanvas canvas.old }
-    requires bases { IsTrue (are_bases region.now.quants) }
+    requires { IsTrue (are_bases region.now.quants) }
     ensures gives { Gives (λ _. scene records.new surface.new) result (in_turn (after_tile place region.now) tiles.now (scene records.old surface.old)) }
-    ensures undo { StaysUndoable (kept log.old) (scene records.old surface.old) (kept log.new) (scene records.new surface.new) }
-    ensures canvas { IsCanvas canvas.new }
+    ensures undo { StaysUndoable (kept bench.old.log) (scene records.old surface.old) (kept bench.new.log) (scene records.new surface.new) }
 {
     'tiles: for tile in tiles {
-        apply_tile(alloc, records, surface, canvas, log, place, region, tile)?;
+        apply_tile(bench, records, surface, place, region, tile)?;
     }
     Ok(())
 }
 
 /// Applies a tile.
 fn apply_tile(
-    alloc: Global,
+    bench: &mut Bench,
     records: &mut Records,
     surface: &mut Surface,
-    canvas: &mut Canvas,
-    log: &mut Log,
     place: Place,
     region: &Region<'_>,
     tile: &Tile<'_>,
 ) -> Result<(), Fault>
-    requires canvas { IsCanvas canvas.old }
-    requires bases { IsTrue (are_bases region.now.quants) }
+    requires { IsTrue (are_bases region.now.quants) }
     ensures gives { Gives (λ _. scene records.new surface.new) result (after_tile place region.now tile.now (scene records.old surface.old)) }
-    ensures undo { StaysUndoable (kept log.old) (scene records.old surface.old) (kept log.new) (scene records.new surface.new) }
-    ensures canvas { IsCanvas canvas.new }
+    ensures undo { StaysUndoable (kept bench.old.log) (scene records.old surface.old) (kept bench.new.log) (scene records.new surface.new) }
 {
     match tile {
         Tile::Simple { head, flags, pass } => apply_first(
-            alloc, records, surface, canvas, log, place, region, head, *flags, NO_QUALITY, pass,
+            bench, records, surface, place, region, head, *flags, NO_QUALITY, pass,
         ),
         Tile::First {
             head,
@@ -214,25 +179,21 @@ fn apply_tile(
             quality,
             pass,
         } => apply_first(
-            alloc, records, surface, canvas, log, place, region, head, *flags, *quality, pass,
+            bench, records, surface, place, region, head, *flags, *quality, pass,
         ),
         Tile::Upgrade {
             head,
             quality,
             pass,
-        } => apply_upgrade(
-            alloc, records, surface, canvas, log, place, region, head, *quality, pass,
-        ),
+        } => apply_upgrade(bench, records, surface, place, region, head, *quality, pass),
     }
 }
 
 /// Applies a simple or first tile.
 fn apply_first(
-    alloc: Global,
+    bench: &mut Bench,
     records: &mut Records,
     surface: &mut Surface,
-    canvas: &mut Canvas,
-    log: &mut Log,
     place: Place,
     region: &Region<'_>,
     head: &TileHead,
@@ -240,11 +201,9 @@ fn apply_first(
     quality: u8,
     pass: &FirstPass<'_>,
 ) -> Result<(), Fault>
-    requires canvas { IsCanvas canvas.old }
-    requires bases { IsTrue (are_bases region.now.quants) }
+    requires { IsTrue (are_bases region.now.quants) }
     ensures gives { Gives (λ _. scene records.new surface.new) result (after_first place region.now head.now flags quality pass.now (scene records.old surface.old)) }
-    ensures undo { StaysUndoable (kept log.old) (scene records.old surface.old) (kept log.new) (scene records.new surface.new) }
-    ensures canvas { IsCanvas canvas.new }
+    ensures undo { StaysUndoable (kept bench.old.log) (scene records.old surface.old) (kept bench.new.log) (scene records.new surface.new) }
 {
     let shape = shape_of(region, surface.size(), head, quality)?;
     let key = place.key(head);
@@ -255,55 +214,46 @@ fn apply_first(
         records.count(),
         shape.transform,
     )?;
-    let scratch = &mut canvas.scratch;
-    start(
-        alloc, log, records, surface, key, difference, &shape, pass, scratch,
-    )?;
-    show_record(records, canvas, surface, key, region.rects.as_slice());
+    start(bench, records, surface, key, difference, &shape, pass)?;
+    show_record(bench, records, surface, key, region.rects.as_slice());
     Ok(())
 }
 
 /// Applies an upgrade tile.
 fn apply_upgrade(
-    alloc: Global,
+    bench: &mut Bench,
     records: &mut Records,
     surface: &mut Surface,
-    canvas: &mut Canvas,
-    log: &mut Log,
     place: Place,
     region: &Region<'_>,
     head: &TileHead,
     quality: u8,
     pass: &UpgradePass<'_>,
 ) -> Result<(), Fault>
-    requires canvas { IsCanvas canvas.old }
-    requires bases { IsTrue (are_bases region.now.quants) }
+    requires { IsTrue (are_bases region.now.quants) }
     ensures gives { Gives (λ _. scene records.new surface.new) result (after_upgrade place region.now head.now quality pass.now (scene records.old surface.old)) }
-    ensures undo { StaysUndoable (kept log.old) (scene records.old surface.old) (kept log.new) (scene records.new surface.new) }
-    ensures canvas { IsCanvas canvas.new }
+    ensures undo { StaysUndoable (kept bench.old.log) (scene records.old surface.old) (kept bench.new.log) (scene records.new surface.new) }
 {
     let shape = shape_of(region, surface.size(), head, quality)?;
     let key = place.key(head);
-    let scratch = &mut canvas.scratch;
-    improve(alloc, log, records, surface, key, &shape, pass, scratch)?;
-    show_record(records, canvas, surface, key, region.rects.as_slice());
+    improve(bench, records, surface, key, &shape, pass)?;
+    show_record(bench, records, surface, key, region.rects.as_slice());
     Ok(())
 }
 
 /// Draws the tile of a key's record.
 fn show_record(
+    bench: &mut Bench,
     records: &Records,
-    canvas: &mut Canvas,
     surface: &mut Surface,
     key: Key,
     areas: &[Area],
 )
-    requires canvas { IsCanvas canvas.old }
-    requires begins { IsTrue (begins_in surface.old.width surface.old.height key.x key.y) }
+    requires { IsTrue (begins_in surface.old.width surface.old.height key.x key.y) }
     ensures shown { IfSome (finmap.get records.now key) (λ tile. surface.new ≡ shown_in surface.old key areas.now tile) }
-    ensures canvas { IsCanvas canvas.new }
+    ensures log { bench.new.log ≡ bench.old.log }
 {
     if let Some(tile) = records.get(key) {
-        show(tile, canvas, surface, key, areas);
+        show(tile, bench, surface, key, areas);
     }
 }

@@ -9,36 +9,34 @@ ghost use Rattle.gfx_prog_decode.specs.Scene.{scene};
 ghost use Rattle.gfx_prog_decode.specs.Undo.{Keeps, StaysUndoable, kept};
 ghost use Rattle.gfx_surface.specs.Picture.{IsPicture};
 
+use crate::bench::Bench;
 use crate::key::Key;
-use crate::log::{Log, exchange};
+use crate::log::exchange;
 use crate::passing::improve_tile;
 use crate::records::Records;
 use gfx_base::{Fault, Refusal};
 use gfx_prog_block::UpgradePass;
 use gfx_surface::Surface;
 use gfx_tile_state::{PassShape, Scratch, TileState};
-use std::alloc::Global;
 
 /// An upgrade of a key's record. What it makes is another record, which takes its place.
 pub(crate) fn improve(
-    alloc: Global,
-    log: &mut Log,
+    bench: &mut Bench,
     records: &mut Records,
     surface: &Surface,
     key: Key,
     shape: &PassShape,
     pass: &UpgradePass<'_>,
-    scratch: &mut Scratch,
 ) -> Result<(), Fault>
     requires shape { IsPicture surface.now }
     requires begins { IsTrue (begins_in surface.now.width surface.now.height key.x key.y) }
     ensures starts { Starts result (improved_in (coding_seen shape.now) pass.now (finmap.get records.old key)) key records.old records.new }
-    ensures keeps { OnOk result (Keeps key (scene records.old surface.now) (kept log.old) (kept log.new)) }
-    ensures undo { OnErr result (StaysUndoable (kept log.old) (scene records.old surface.now) (kept log.new) (scene records.new surface.now)) }
+    ensures keeps { OnOk result (Keeps key (scene records.old surface.now) (kept bench.old.log) (kept bench.new.log)) }
+    ensures undo { OnErr result (StaysUndoable (kept bench.old.log) (scene records.old surface.now) (kept bench.new.log) (scene records.new surface.now)) }
 {
-    let mut tile = log.tile(alloc)?;
-    improve_found(&mut tile, records.get(key), shape, pass, scratch)?;
-    exchange(alloc, log, records, surface, key, tile)?;
+    let mut tile = bench.log.tile(bench.alloc)?;
+    improve_found(&mut tile, records.get(key), shape, pass, &mut bench.scratch)?;
+    exchange(bench.alloc, &mut bench.log, records, surface, key, tile)?;
     Ok(())
 }
 

@@ -6,6 +6,7 @@
 #![tactic(auto)]
 
 mod applying;
+mod bench;
 mod canvas;
 mod coding;
 mod improving;

@@ -12,23 +12,22 @@ ghost use Rattle.gfx_prog_decode.specs.Scene.{scene};
 ghost use Rattle.gfx_prog_decode.specs.Undo.{HasPlace, kept, nothing, records_back};
 
 use crate::applying::apply_data;
+use crate::bench::Bench;
 use crate::key::{Key, Place};
-use crate::log::Log;
 use gfx_base::{Fault, NoMemory};
 use gfx_surface::Surface;
 use gfx_tile_state::TileState;
 use indexmap::IndexMap;
 use std::alloc::Global;
 use std::marker::Model;
-use std::mem;
 
 /// The records of tiles that progressive messages left, each by its surface, its encoding context and its cell.
 /// Contracts see the map. Beside it stands memory that messages took, kept so that the next one takes none.
 #[derive(Drop)]
 pub struct Records {
     tiles: IndexMap<Key, TileState>,
-    /// Between messages nothing is kept in it but memory.
-    log: Log,
+    /// Made for the first message with blocks, and boxed, so that a message moves no more than its pointer. Its log is empty.
+    bench: Option<Box<Bench>>,
 }
 
 impl Model for Records {
@@ -38,9 +37,11 @@ impl Model for Records {
 
     ghost coded = { records_code };
 
-    ghost use Rattle.gfx_prog_decode.specs.Inside.{records_of};
+    ghost use Rattle.gfx_prog_decode.specs.Inside.{IsSpent, records_of};
 
     ghost view = { records_of };
+
+    ghost invariant = { IsSpent };
 }
 
 impl Records {
@@ -50,7 +51,7 @@ impl Records {
     {
         Records {
             tiles: IndexMap::new(alloc),
-            log: Log::new(alloc),
+            bench: None,
         }
     }
 
@@ -106,22 +107,23 @@ impl Records {
         );
     }
 
-    /// A log that keeps nothing, in the memory of messages before. It takes none itself.
-    pub(crate) fn take_log(&mut self, alloc: Global) -> Log
-        ensures empty { kept result ≡ nothing }
+    /// A bench whose log is empty: that of the messages before, or for the first of them another.
+    pub(crate) fn take_bench(&mut self, alloc: Global) -> Result<Box<Bench>, NoMemory>
+        ensures empty { IfOk result (λ bench. kept bench.value.log ≡ nothing) }
         ensures same { self.new ≡ self.old }
     {
-        let mut log = mem::replace(&mut self.log, Log::new(alloc));
-        log.spend();
-        log
+        match self.bench.take() {
+            Some(bench) => Ok(bench),
+            None => Bench::new(alloc),
+        }
     }
 
-    /// Keeps the memory of a log for the next message.
-    pub(crate) fn give_back(&mut self, log: Log)
+    /// Keeps a bench for the next message. What its log keeps is let go of, but for memory.
+    pub(crate) fn give_back(&mut self, mut bench: Box<Bench>)
         ensures { self.new ≡ self.old }
     {
-        self.log = log;
-        self.log.spend();
+        bench.log.spend();
+        self.bench = Some(bench);
     }
 
     /// The record of a key, if there is one.

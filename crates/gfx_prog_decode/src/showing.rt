@@ -2,14 +2,15 @@
 ghost use Rattle.std.specs.Prelude.{◌≡◌, ◌≤◌, ◌+◌, IsTrue};
 ghost use Rattle.gfx_base.specs.Cells.{cell};
 ghost use Rattle.gfx_base.specs.Geometry.{lies_in};
+ghost use Rattle.gfx_prog_decode.specs.Canvas.{IsCanvas};
 ghost use Rattle.gfx_prog_decode.specs.Coding.{begins_in};
 ghost use Rattle.gfx_prog_decode.specs.Showing.{cell_in, shown_in};
-ghost use Rattle.gfx_prog_decode.specs.Inside.{ArePixels, IsCanvas, area_shown, areas_shown, has_all, is_in_one, overlap};
+ghost use Rattle.gfx_prog_decode.specs.Inside.{ArePixels, area_shown, areas_shown, has_all, is_in_one, overlap};
 ghost use Rattle.gfx_surface.specs.Picture.{AreOpaque};
 ghost use Rattle.gfx_surface.specs.Views.{with_cell};
 ghost use Rattle.gfx_tile_state.specs.declared.state.TileState.{TileState as Record};
 
-use crate::canvas::Canvas;
+use crate::bench::Bench;
 use crate::key::Key;
 use gfx_base::{CELL_SIDE, Pixel, Point, Rect};
 use gfx_prog_block::Area;
@@ -35,17 +36,17 @@ pub(crate) fn cell_in(size: (u16, u16), key: Key) -> Rect
 /// Draws a record's tile where these rectangles have its cell.
 pub(crate) fn show(
     tile: &TileState,
-    canvas: &mut Canvas,
+    bench: &mut Bench,
     surface: &mut Surface,
     key: Key,
     areas: &[Area],
 )
-    requires canvas { IsCanvas canvas.old }
-    requires begins { IsTrue (begins_in surface.old.width surface.old.height key.x key.y) }
+    requires { IsTrue (begins_in surface.old.width surface.old.height key.x key.y) }
     ensures shown { surface.new ≡ shown_in surface.old key areas.now tile.now }
-    ensures canvas { IsCanvas canvas.new }
+    ensures log { bench.new.log ≡ bench.old.log }
 {
-    tile.pixels(&mut canvas.pixels, &mut canvas.scratch);
+    let canvas = &mut bench.canvas;
+    tile.pixels(&mut canvas.pixels, &mut bench.scratch);
     show_pixels(&canvas.pixels, &mut canvas.surface, surface, key, areas);
 }
 

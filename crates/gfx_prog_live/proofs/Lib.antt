@@ -1,4 +1,3 @@
-mod Maps
 mod InPlace
 pub mod Ending
 mod Taking

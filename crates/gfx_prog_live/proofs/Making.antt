@@ -17,7 +17,7 @@ use Rattle.gfx_script.specs.Scripted.{Script}
 use Rattle.gfx_surface.specs.Picture.{drawn, no_pixel}
 use Rattle.gfx_surface.proofs.PictureLemmas.{drawn_by_all}
 use Rattle.gfx_tile_make.specs.Levels.{Fits, Leaves}
-use Rattle.gfx_tile_make.specs.Source.{Source, difference_of, source_of}
+use Rattle.gfx_tile_make.specs.Source.{SourceTile, difference_of, source_of}
 use Rattle.gfx_prog_live.specs.Cells.{cell_key}
 use Rattle.gfx_prog_live.specs.Inside.{sent_over}
 use Rattle.gfx_prog_live.specs.Live.{Live, send_of}
@@ -69,12 +69,12 @@ tests_same d e b from listed old taken setting same level count is by test =
     let lists : listed ≡ length old.tile.setting.levels = count ∙ ap (λ (s : Setting). length s.levels) (is ∙ sym by) in
     (λ i. sym same i && (sym level i == sym lists i)) ∙ test
 
-three_tests : (a b c : Bool) (x y : Source) → (if a && b && c then x else y) ≡ (if (a && b) && c then x else y)
+three_tests : (a b c : Bool) (x y : SourceTile) → (if a && b && c then x else y) ≡ (if (a && b) && c then x else y)
 three_tests true b c x y = refl
 three_tests false b c x y = refl
 
 -- a tile that may go on the one before it, and was tried
-pub gone_on_tried : (differences fits : Bool) (old : TileSend) (tile new : Source)
+pub gone_on_tried : (differences fits : Bool) (old : TileSend) (tile new : SourceTile)
     → MatchBool fits (Fits (difference_of tile old.tile) × (new ≡ difference_of tile old.tile)) (Leaves (difference_of tile old.tile) × (new ≡ tile))
     → (differences && (old.level == length old.tile.setting.levels)) ≡ true
     → new ≡ gone_on differences (Some old) tile
@@ -87,7 +87,7 @@ gone_on_tried differences false old tile new says may =
     ∙ (λ i. if may i && leaves_range (difference_of tile old.tile) says.0 i then difference_of tile old.tile else tile))
 
 -- and one that may not
-pub gone_on_left : (differences : Bool) (old : TileSend) (tile : Source)
+pub gone_on_left : (differences : Bool) (old : TileSend) (tile : SourceTile)
     → (differences && (old.level == length old.tile.setting.levels)) ≡ false → tile ≡ gone_on differences (Some old) tile
 unfolding gone_on
 gone_on_left differences old tile may =
@@ -95,7 +95,7 @@ gone_on_left differences old tile may =
     ∙ (λ i. if may i && is_in_range (difference_of tile old.tile) then difference_of tile old.tile else tile))
 
 -- nor where there is none
-pub gone_on_none : (differences : Bool) (tile : Source) → tile ≡ gone_on differences None tile
+pub gone_on_none : (differences : Bool) (tile : SourceTile) → tile ≡ gone_on differences None tile
 unfolding gone_on
 gone_on_none differences tile = refl
 
@@ -108,7 +108,7 @@ unfolding sent_over send_of
 send_is_over script live id picture rect c = refl
 
 -- the tile of a cell, as it is put together
-pub sent_made : (script : Script) (before : Option TileSend) (drawing : Picture) (rect cut : Rect) (c : Cell) (pixels : List Pixel) (setting : Setting) (made gone : Source)
+pub sent_made : (script : Script) (before : Option TileSend) (drawing : Picture) (rect cut : Rect) (c : Cell) (pixels : List Pixel) (setting : Setting) (made gone : SourceTile)
     → cut ≡ cut_to_cell rect c → pixels ≡ cell_pixels drawing rect c → setting ≡ script.setting → made ≡ source_of setting pixels
     → gone ≡ gone_on script.differences before made
     → ◌≡◌ {A = TileSend} (record { cell = c; rect = cut; tile = gone; level = 0 }) (sent_over script before drawing rect c)

@@ -9,7 +9,7 @@ use Rattle.gfx_quant.specs.Setting.{all_below}
 use Rattle.gfx_quant.proofs.Accepted.{each-below}
 use Rattle.gfx_tile_state.specs.Passes.{LeavesIt, Part}
 use Rattle.gfx_tile_make.specs.Levels.{ComponentFits, ComponentLeaves, Fits, Leaves, StaysWithin, record_at}
-use Rattle.gfx_tile_make.specs.Source.{Source}
+use Rattle.gfx_tile_make.specs.Source.{SourceTile}
 use Rattle.gfx_prog_live.specs.Tiles.{is_in_range, stays_within}
 
 -- what passes at each number below one
@@ -47,17 +47,17 @@ leaves_it : (part : Part) → LeavesIt part.kept (at part.sums) → stays_within
 leaves_it part h = below-not 4096 _ h.0 h.1 (not_both _ _ h.2)
 
 -- a component at each level
-abbrev component_stays : Source → Component → Bool
+abbrev component_stays : SourceTile → Component → Bool
 component_stays tile component = all_below (suc (length tile.setting.levels)) (λ level. stays_within (record_at tile component level))
 
-component_fits : (tile : Source) (component : Component) → ComponentFits tile component → component_stays tile component ≡ true
+component_fits : (tile : SourceTile) (component : Component) → ComponentFits tile component → component_stays tile component ≡ true
 component_fits tile component fits = below-each (suc (length tile.setting.levels)) _ (λ level h. stays (record_at tile component level) (fits level (omega arith)))
 
-component_back : (tile : Source) (component : Component) → component_stays tile component ≡ true → ComponentFits tile component
+component_back : (tile : SourceTile) (component : Component) → component_stays tile component ≡ true → ComponentFits tile component
 component_back tile component is level h =
     stays_back (record_at tile component level) (each-below (suc (length tile.setting.levels)) (λ level. stays_within (record_at tile component level)) is level (omega arith))
 
-component_leaves : (tile : Source) (component : Component) → ComponentLeaves tile component → component_stays tile component ≡ false
+component_leaves : (tile : SourceTile) (component : Component) → ComponentLeaves tile component → component_stays tile component ≡ false
 component_leaves tile component out = below-not (suc (length tile.setting.levels)) _ out.0 (let low : out.0 ≤ length tile.setting.levels = out.1.0 in omega arith) (leaves_it (record_at tile component out.0) out.1.1)
 
 three : (a b c : Bool) → a ≡ true → b ≡ true → c ≡ true → (a && (b && (c && true))) ≡ true
@@ -69,14 +69,14 @@ not_three a b c (inr (inl y)) = not_both a _ (inr (not_both b _ (inl y)))
 not_three a b c (inr (inr z)) = not_both a _ (inr (not_both b _ (inr (not_both c true (inl z)))))
 
 -- a tile that fits is in range
-pub fits_in_range : (tile : Source) → Fits tile → is_in_range tile ≡ true
+pub fits_in_range : (tile : SourceTile) → Fits tile → is_in_range tile ≡ true
 unfolding is_in_range
 fits_in_range tile fits =
     three (component_stays tile Y) (component_stays tile Cb) (component_stays tile Cr)
     (component_fits tile Y (fits Y)) (component_fits tile Cb (fits Cb)) (component_fits tile Cr (fits Cr))
 
 -- one that leaves the range isn't
-pub leaves_range : (tile : Source) → Leaves tile → is_in_range tile ≡ false
+pub leaves_range : (tile : SourceTile) → Leaves tile → is_in_range tile ≡ false
 unfolding is_in_range
 leaves_range tile out = not_three (component_stays tile Y) (component_stays tile Cb) (component_stays tile Cr) (by out.0 out.1)
   where
@@ -86,7 +86,7 @@ leaves_range tile out = not_three (component_stays tile Y) (component_stays tile
     by Cr h = inr (inr (component_leaves tile Cr h))
 
 -- and one in range fits
-pub in_range_fits : (tile : Source) → is_in_range tile ≡ true → Fits tile
+pub in_range_fits : (tile : SourceTile) → is_in_range tile ≡ true → Fits tile
 unfolding is_in_range
 in_range_fits tile is = by
   where

@@ -16,7 +16,7 @@ use Rattle.gfx_prog_encode.specs.declared.send.TileSend.{TileSend}
 use Rattle.gfx_script.specs.declared.picture.Picture.{Picture}
 use Rattle.gfx_script.specs.Scripted.{Script}
 use Rattle.gfx_script.specs.Writes.{Area}
-use Rattle.gfx_tile_make.specs.Source.{Source, difference_of}
+use Rattle.gfx_tile_make.specs.Source.{SourceTile, difference_of}
 use Rattle.gfx_prog_live.specs.Cells.{cell_key}
 use Rattle.gfx_prog_live.specs.Inside.{AreBy, IsBy}
 use Rattle.gfx_prog_live.specs.Live.{Live, Passes, after_sends, ended_in, improved_sends, painted_sends, passes_after, raised, send_of, with_live, without_surface}
@@ -58,12 +58,12 @@ pub after_sends_by : (setting : Setting) (id : ℕ) (sends : List TileSend) (liv
 after_sends_by setting id [] live each are = are
 after_sends_by setting id (send ∷ sends) live each are = after_sends_by setting id sends (with_live id live send) each.1 (with_by setting id live send each.0 are)
 
-either : (b : Bool) (x y : Source) (setting : Setting) → x.setting ≡ setting → y.setting ≡ setting → (if b then x else y).setting ≡ setting
+either : (b : Bool) (x y : SourceTile) (setting : Setting) → x.setting ≡ setting → y.setting ≡ setting → (if b then x else y).setting ≡ setting
 either true x y setting e f = e
 either false x y setting e f = f
 
 -- a tile keeps its setting, whatever it goes on
-gone_on_by : (differences : Bool) (before : Option TileSend) (tile : Source) → (gone_on differences before tile).setting ≡ tile.setting
+gone_on_by : (differences : Bool) (before : Option TileSend) (tile : SourceTile) → (gone_on differences before tile).setting ≡ tile.setting
 unfolding gone_on
 gone_on_by differences None tile = refl
 gone_on_by differences (Some old) tile =

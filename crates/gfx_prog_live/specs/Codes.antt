@@ -10,7 +10,7 @@ use Rattle.gfx_quant.specs.declared.quant.Quant.{Quant}
 use Rattle.gfx_quant.specs.declared.setting.Level.{Level}
 use Rattle.gfx_quant.specs.declared.setting.Setting.{Setting}
 use Rattle.gfx_quant.specs.Quant.{are_nibbles}
-use Rattle.gfx_tile_make.specs.Source.{Planes, Source}
+use Rattle.gfx_tile_make.specs.Source.{Planes, SourceTile}
 use Rattle.gfx_prog_decode.specs.Codes.{transform_code}
 use Rattle.gfx_prog_decode.specs.Records.{key_code}
 use Rattle.gfx_base.specs.Cells.{cell}
@@ -45,7 +45,7 @@ planes_code =
     (λ p. (p.own, p.kept)) (λ t. record { own = t.0; kept = t.1 }) (λ _. refl)
 
 -- a tile as its setting, its components, and whether it goes on another
-abbrev source_code : Coded Source
+abbrev source_code : Coded SourceTile
 source_code =
     code_by (Setting × (Planes × (Planes × (Planes × Bool)))) (coded× setting_code (coded× planes_code (coded× planes_code (coded× planes_code coded_bool))))
     (λ s. (s.setting, (s.y, (s.cb, (s.cr, s.difference)))))
@@ -54,7 +54,7 @@ source_code =
 -- a tile as it was sent
 abbrev send_code : Coded TileSend
 send_code =
-    code_by (ℕ × (ℕ × (Rect × (Source × ℕ)))) (coded× coded_ℕ (coded× coded_ℕ (coded× rect_code (coded× source_code coded_ℕ))))
+    code_by (ℕ × (ℕ × (Rect × (SourceTile × ℕ)))) (coded× coded_ℕ (coded× coded_ℕ (coded× rect_code (coded× source_code coded_ℕ))))
     (λ s. (s.cell.x, (s.cell.y, (s.rect, (s.tile, s.level)))))
     (λ t. record { cell = cell t.0 t.1.0; rect = t.1.1.0; tile = t.1.1.1.0; level = t.1.1.1.1 }) (λ _. refl)
 

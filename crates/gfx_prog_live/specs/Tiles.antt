@@ -15,7 +15,7 @@ use Rattle.gfx_script.specs.declared.picture.Picture.{Picture}
 use Rattle.gfx_script.specs.Patterns.{pixel_of}
 use Rattle.gfx_surface.specs.Picture.{drawn}
 use Rattle.gfx_tile_make.specs.Levels.{record_at}
-use Rattle.gfx_tile_make.specs.Source.{Source, difference_of}
+use Rattle.gfx_tile_make.specs.Source.{SourceTile, difference_of}
 use Rattle.gfx_tile_state.specs.Passes.{Part}
 
 -- the place of a picture that is nearest to a coordinate, where the picture begins and ends at these
@@ -32,13 +32,13 @@ abbrev pub stays_within : Part → Bool
 stays_within part = all_below 4096 (λ k. is_coefficient (at part.sums k) && is_coefficient (at part.kept k +ℤ at part.sums k))
 
 -- so it is with each component of a tile, at each level
-unfoldable pub is_in_range : Source → Bool
+unfoldable pub is_in_range : SourceTile → Bool
 is_in_range tile =
     list_all (λ component. all_below (suc (length tile.setting.levels)) (λ level. stays_within (record_at tile component level))) (Y ∷ Cb ∷ Cr ∷ [])
 
 -- a tile goes on the one before it in its cell, where the script lets it, that one is at the last level, and what is
 -- sent then stays in range
-unfoldable pub gone_on : Bool → Option TileSend → Source → Source
+unfoldable pub gone_on : Bool → Option TileSend → SourceTile → SourceTile
 gone_on differences None tile = tile
 gone_on differences (Some old) tile =
     if differences && (old.level == length old.tile.setting.levels) && is_in_range (difference_of tile old.tile) then difference_of tile old.tile else tile

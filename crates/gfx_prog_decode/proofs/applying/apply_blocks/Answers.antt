@@ -14,16 +14,15 @@ returns-in_err-apply_block-clause-gives c =
 
 pub returns-in_err-apply_block-clause-undo : goal.returns-in_err-apply_block-clause-undo
 returns-in_err-apply_block-clause-undo c =
-    still (kept c.args.log.now) (kept c.all.log) (kept c.apply_block.new.log) (scene c.args.records.now c.args.surface.now) (scene c.all.records c.all.surface)
+    still (kept c.args.bench.now.log) (kept c.all.bench.log) (kept c.apply_block.new.bench.log) (scene c.args.records.now c.args.surface.now) (scene c.all.records c.all.surface)
     (scene c.apply_block.new.records c.apply_block.new.surface) c.all.invariant.undo c.apply_block.ensures.undo
 
 pub all-preserved : goal.all-preserved
 all-preserved c = record {
   so = so_more (after_block c.args.place) c.args.blocks.now (scene c.args.records.now c.args.surface.now) (scene c.all.records c.all.surface)
       (scene c.apply_block.new.records c.apply_block.new.surface) c.all.block-index _ (omega (arith, c.all-test.true)) (rw c.block-item.is at c.in_ok-apply_block.ensures.gives) c.all.invariant.so;
-  undo = still (kept c.args.log.now) (kept c.all.log) (kept c.apply_block.new.log) (scene c.args.records.now c.args.surface.now) (scene c.all.records c.all.surface)
+  undo = still (kept c.args.bench.now.log) (kept c.all.bench.log) (kept c.apply_block.new.bench.log) (scene c.args.records.now c.args.surface.now) (scene c.all.records c.all.surface)
       (scene c.apply_block.new.records c.apply_block.new.surface) c.all.invariant.undo c.apply_block.ensures.undo;
-  drawing = c.apply_block.ensures.canvas;
 }
 
 pub returns-clause-gives : goal.returns-clause-gives

@@ -1,4 +1,3 @@
-use Rattle.gfx_prog_decode.specs.Inside.{IsCanvas}
 use Rattle.gfx_prog_decode.specs.Progressive.{after_block}
 use Rattle.gfx_prog_decode.specs.Scene.{scene}
 use Rattle.gfx_prog_decode.specs.Undo.{StaysUndoable, kept}
@@ -9,6 +8,5 @@ use Rattle.gfx_prog_decode.proofs.applying.apply_blocks.Given as goal
 abbrev pub invariant-all : goal.invariant-all
 invariant-all l = record {
   so : SoFar (after_block l.place) l.blocks (scene l.initial.records l.initial.surface) l.block-index (scene l.records l.surface);
-  undo : StaysUndoable (kept l.initial.log) (scene l.initial.records l.initial.surface) (kept l.log) (scene l.records l.surface);
-  drawing : IsCanvas l.canvas;
+  undo : StaysUndoable (kept l.initial.bench.log) (scene l.initial.records l.initial.surface) (kept l.bench.log) (scene l.records l.surface);
 }

@@ -22,10 +22,6 @@ returns-then-is_empty-clause-value c =
     data_empty c.args.place c.args.bytes.now c.in_ok-blocks.blocks (scene c.args.records.now c.args.surface.now) c.in_ok-blocks.ensures.value
     (sym c.is_empty.ensures ∙ c.if-is_empty.true)
 
-pub returns-in_err-canvas-clause-memory : goal.returns-in_err-canvas-clause-memory
-returns-in_err-canvas-clause-memory c =
-    wants_any c.from_residual-in_err-canvas.result _ (blocks_begin c.args.bytes.now c.in_ok-blocks.blocks c.in_ok-blocks.ensures.value (sym c.is_empty.ensures ∙ c.if-is_empty.false))
-
 pub returns-clause-value : goal.returns-clause-value
 returns-clause-value c =
     data_read c.args.place c.args.bytes.now c.in_ok-blocks.blocks c.apply_all.result (scene c.args.records.now c.args.surface.now) (scene c.apply_all.new.records c.apply_all.new.surface)

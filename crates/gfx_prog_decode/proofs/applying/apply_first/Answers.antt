@@ -43,5 +43,6 @@ returns-clause-gives c =
 
 pub returns-clause-undo : goal.returns-clause-undo
 returns-clause-undo c =
-    started_shown c.key-key.result c.args.records.now c.start.new.records _ c.args.surface.now c.show_record.new.surface c.as_slice.result.now
-    (kept c.args.log.now) (kept c.start.new.log) c.in_ok-start.ensures.starts c.show_record.ensures.shown c.in_ok-start.ensures.keeps
+    rw c.show_record.ensures.log
+    (started_shown c.key-key.result c.args.records.now c.start.new.records _ c.args.surface.now c.show_record.new.surface c.as_slice.result.now
+    (kept c.args.bench.now.log) (kept c.start.new.bench.log) c.in_ok-start.ensures.starts c.show_record.ensures.shown c.in_ok-start.ensures.keeps)

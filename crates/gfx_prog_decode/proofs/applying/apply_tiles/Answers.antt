@@ -14,16 +14,15 @@ returns-in_err-apply_tile-clause-gives c =
 
 pub returns-in_err-apply_tile-clause-undo : goal.returns-in_err-apply_tile-clause-undo
 returns-in_err-apply_tile-clause-undo c =
-    still (kept c.args.log.now) (kept c.tiles.log) (kept c.apply_tile.new.log) (scene c.args.records.now c.args.surface.now) (scene c.tiles.records c.tiles.surface)
+    still (kept c.args.bench.now.log) (kept c.tiles.bench.log) (kept c.apply_tile.new.bench.log) (scene c.args.records.now c.args.surface.now) (scene c.tiles.records c.tiles.surface)
     (scene c.apply_tile.new.records c.apply_tile.new.surface) c.tiles.invariant.undo c.apply_tile.ensures.undo
 
 pub tiles-preserved : goal.tiles-preserved
 tiles-preserved c = record {
   so = so_more (after_tile c.args.place c.args.region.now) c.args.tiles.now (scene c.args.records.now c.args.surface.now) (scene c.tiles.records c.tiles.surface)
       (scene c.apply_tile.new.records c.apply_tile.new.surface) c.tiles.tile-index _ (omega (arith, c.tiles-test.true)) (rw c.tile-item.is at c.in_ok-apply_tile.ensures.gives) c.tiles.invariant.so;
-  undo = still (kept c.args.log.now) (kept c.tiles.log) (kept c.apply_tile.new.log) (scene c.args.records.now c.args.surface.now) (scene c.tiles.records c.tiles.surface)
+  undo = still (kept c.args.bench.now.log) (kept c.tiles.bench.log) (kept c.apply_tile.new.bench.log) (scene c.args.records.now c.args.surface.now) (scene c.tiles.records c.tiles.surface)
       (scene c.apply_tile.new.records c.apply_tile.new.surface) c.tiles.invariant.undo c.apply_tile.ensures.undo;
-  drawing = c.apply_tile.ensures.canvas;
 }
 
 pub returns-clause-gives : goal.returns-clause-gives

@@ -1,4 +1,3 @@
-use Rattle.gfx_prog_decode.specs.Inside.{IsCanvas}
 use Rattle.gfx_prog_decode.specs.Progressive.{after_tile}
 use Rattle.gfx_prog_decode.specs.Scene.{scene}
 use Rattle.gfx_prog_decode.specs.Undo.{StaysUndoable, kept}
@@ -9,6 +8,5 @@ use Rattle.gfx_prog_decode.proofs.applying.apply_tiles.Given as goal
 abbrev pub invariant-tiles : goal.invariant-tiles
 invariant-tiles l = record {
   so : SoFar (after_tile l.place l.region) l.tiles (scene l.initial.records l.initial.surface) l.tile-index (scene l.records l.surface);
-  undo : StaysUndoable (kept l.initial.log) (scene l.initial.records l.initial.surface) (kept l.log) (scene l.records l.surface);
-  drawing : IsCanvas l.canvas;
+  undo : StaysUndoable (kept l.initial.bench.log) (scene l.initial.records l.initial.surface) (kept l.bench.log) (scene l.records l.surface);
 }

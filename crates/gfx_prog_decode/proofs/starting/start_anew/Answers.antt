@@ -24,18 +24,18 @@ returns-clause-starts c = (
 
 pub returns-clause-keeps : goal.returns-clause-keeps
 returns-clause-keeps c =
-    keeps_from c.args.key (scene c.args.records.now c.args.surface.now) (kept c.args.log.now) (kept c.tile.new.self) (kept c.exchange.new.log) c.tile.ensures c.in_ok-exchange.ensures.keeps
+    keeps_from c.args.key (scene c.args.records.now c.args.surface.now) (kept c.args.bench.now.log) (kept c.tile.new.self) (kept c.exchange.new.log) c.tile.ensures c.in_ok-exchange.ensures.keeps
 
 pub returns-in_err-tile-clause-undo : goal.returns-in_err-tile-clause-undo
 returns-in_err-tile-clause-undo c =
-    where_err c.from_residual.result _ (stays_same (kept c.args.log.now) (kept c.tile.new.self) (scene c.args.records.now c.args.surface.now) c.tile.ensures)
+    where_err c.from_residual.result _ (stays_same (kept c.args.bench.now.log) (kept c.tile.new.self) (scene c.args.records.now c.args.surface.now) c.tile.ensures)
 
 pub returns-in_err-start_tile-clause-undo : goal.returns-in_err-start_tile-clause-undo
 returns-in_err-start_tile-clause-undo c =
-    where_err c.from_residual-in_err-start_tile.result _ (stays_same (kept c.args.log.now) (kept c.tile.new.self) (scene c.args.records.now c.args.surface.now) c.tile.ensures)
+    where_err c.from_residual-in_err-start_tile.result _ (stays_same (kept c.args.bench.now.log) (kept c.tile.new.self) (scene c.args.records.now c.args.surface.now) c.tile.ensures)
 
 pub returns-in_err-exchange-clause-undo : goal.returns-in_err-exchange-clause-undo
 returns-in_err-exchange-clause-undo c =
     where_err c.from_residual-in_err-exchange.result _
-    (stays_from (kept c.args.log.now) (kept c.tile.new.self) (kept c.exchange.new.log) (scene c.args.records.now c.args.surface.now) (scene c.exchange.new.records c.args.surface.now)
+    (stays_from (kept c.args.bench.now.log) (kept c.tile.new.self) (kept c.exchange.new.log) (scene c.args.records.now c.args.surface.now) (scene c.exchange.new.records c.args.surface.now)
     c.tile.ensures c.in_err-exchange.ensures.undo)

@@ -14,6 +14,6 @@ returns c =
           (λ x is w. inserted _ key_ties c.self.inside.tiles.entries (c.get_mut.follows.lender w).entries c.args.key w
           ((c.get_mut.follows.holds w).3 (subst IsSome (sym (sym c.get_mut.ensures.value ∙ ap option_copied_mut is)) refl)).0
           ∙ ap (λ m. insert m c.args.key w) c.self.view_is)
-          (ap (λ m. records_of record { tiles = m; log = c.self.inside.log }) c.get_mut.follows.holds-at-none ∙ c.self.view_is),
+          (ap (λ m. records_of record { tiles = m; bench = c.self.inside.bench }) c.get_mut.follows.holds-at-none ∙ c.self.view_is),
       record { writes_back = tt; value = value },
     )

@@ -2,9 +2,9 @@ use Rattle.std.proofs.Common.{◌∙◌, ◌==◌, ap, not, rules, sym, subst}
 use Rattle.std.specs.FinMap.{from_entries, retain_keys}
 use Rattle.indexmap.proofs.CallerLemmas.{filter-RetainsPairs}
 use Rattle.gfx_prog_decode.specs.Records.{key_cmp}
+use Rattle.gfx_prog_decode.proofs.Keys.{retained}
 use Rattle.gfx_prog_live.specs.Inside.{AreInPlace}
 use Rattle.gfx_prog_live.proofs.InPlace.{retained_in_place}
-use Rattle.gfx_prog_live.proofs.Maps.{retained}
 use Rattle.gfx_prog_live.proofs.live.LiveTiles.drop_surface.Goals as goal
 
 pub invariant_of-self : goal.invariant_of-self

@@ -1,7 +1,7 @@
 use Rattle.std.proofs.Common.{◌∙◌, ap, sym}
 use Rattle.std.specs.FinMap.{get}
+use Rattle.gfx_prog_decode.proofs.Keys.{get-by}
 use Rattle.gfx_prog_decode.proofs.Ties.{key_ties}
-use Rattle.gfx_prog_live.proofs.Maps.{get-by}
 use Rattle.gfx_prog_live.proofs.live.LiveTiles.get.Goals as goal
 
 pub returns : goal.returns

@@ -1,8 +1,8 @@
 use Rattle.std.proofs.Common.{◌∙◌, ap, sym}
 use Rattle.std.specs.Prelude.{◌==◌}
 use Rattle.std.specs.FinMap.{len}
+use Rattle.gfx_prog_decode.proofs.Keys.{len-from}
 use Rattle.gfx_prog_decode.proofs.Ties.{key_ties}
-use Rattle.gfx_prog_live.proofs.Maps.{len-from}
 use Rattle.gfx_prog_live.proofs.live.LiveTiles.is_empty.Goals as goal
 
 pub returns : goal.returns

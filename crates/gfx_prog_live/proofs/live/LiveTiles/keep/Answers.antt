@@ -1,9 +1,9 @@
 use Rattle.std.proofs.Common.{◌∙◌, ap, sym, subst}
 use Rattle.std.specs.FinMap.{from_entries, insert}
+use Rattle.gfx_prog_decode.proofs.Keys.{inserted}
 use Rattle.gfx_prog_decode.proofs.Ties.{key_ties}
 use Rattle.gfx_prog_live.specs.Inside.{AreInPlace}
 use Rattle.gfx_prog_live.proofs.InPlace.{kept_in_place}
-use Rattle.gfx_prog_live.proofs.Maps.{inserted}
 use Rattle.gfx_prog_live.proofs.live.LiveTiles.keep.Goals as goal
 
 pub invariant_of-self-2 : goal.invariant_of-self-2

@@ -1,9 +1,9 @@
 use Rattle.std.proofs.Common.{◌∙◌, ap, sym, subst}
 use Rattle.std.specs.FinMap.{get, remove}
+use Rattle.gfx_prog_decode.proofs.Keys.{get-by, removed}
 use Rattle.gfx_prog_decode.proofs.Ties.{key_ties}
 use Rattle.gfx_prog_live.specs.Inside.{AreInPlace}
 use Rattle.gfx_prog_live.proofs.InPlace.{removed_in_place}
-use Rattle.gfx_prog_live.proofs.Maps.{get-by, removed}
 use Rattle.gfx_prog_live.proofs.live.LiveTiles.remove.Goals as goal
 
 pub invariant_of-self : goal.invariant_of-self

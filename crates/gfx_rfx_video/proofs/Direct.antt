@@ -27,7 +27,7 @@ use Rattle.gfx_tile_state.specs.Passes.{added, blank}
 use Rattle.gfx_tile_state.proofs.Parts.{added-blank}
 use Rattle.gfx_tile_state.proofs.Places.{is-coefficient}
 use Rattle.gfx_tile_make.specs.Levels.{MayBeSent, StaysWithin, direct_pixel, direct_plane, first_values, positions_at, record_at, record_by, summed_at, truncated_plane}
-use Rattle.gfx_tile_make.specs.Source.{Planes as SourcePlanes, Source, planes_of, sent}
+use Rattle.gfx_tile_make.specs.Source.{Planes as SourcePlanes, SourceTile, planes_of, sent}
 use Rattle.gfx_tile_make.proofs.ByBand.{is-by_band, length-by_band}
 use Rattle.gfx_tile_make.proofs.Differing.{AreFirst, all-in-range, all-small, are-first}
 use Rattle.gfx_tile_make.proofs.InRange.{truncated-none}
@@ -39,7 +39,7 @@ use Rattle.gfx_rfx_video.specs.Message.{AreShort, bases_by, code_of, coded_tile,
 use Rattle.gfx_rfx_video.specs.Tiles.{coefficients_of, pixel_of, planes_by}
 use Rattle.gfx_rfx_video.proofs.Decoded.{planned}
 
-module _ (source : Source) (component : Component) (may : MayBeSent source) (plain : source.setting.transform ≡ Plain) where
+module _ (source : SourceTile) (component : Component) (may : MayBeSent source) (plain : source.setting.transform ≡ Plain) where
   -- its planes, its base, and what the level behind the listed ones leaves out
   abbrev planes : SourcePlanes
   planes = planes_of source component
@@ -123,12 +123,12 @@ module _ (source : Source) (component : Component) (may : MayBeSent source) (pla
       ∙ ap (λ l. Ok l) (direct none)
 
 -- so are a tile's codes
-pub codes-short : (mode : Mode) (source : Source) → MayBeSent source → source.setting.transform ≡ Plain → AreShort (codes_of mode source)
+pub codes-short : (mode : Mode) (source : SourceTile) → MayBeSent source → source.setting.transform ≡ Plain → AreShort (codes_of mode source)
 unfolding codes_of
 codes-short mode source may plain = (code-short source Y may plain mode, code-short source Cb may plain mode, code-short source Cr may plain mode)
 
 -- and they show its own values
-pub tile-direct : (mode : Mode) (source : Source) (head : TileHead) → MayBeSent source → source.setting.transform ≡ Plain → ((component : Component) → (planes_of source component).kept ≡ blank)
+pub tile-direct : (mode : Mode) (source : SourceTile) (head : TileHead) → MayBeSent source → source.setting.transform ≡ Plain → ((component : Component) → (planes_of source component).kept ≡ blank)
     → planes_by mode (bases_by source.setting) (coded_tile head (codes_of mode source)) ≡ Ok (direct_planes source)
 unfolding planes_by codes_of
 tile-direct mode source head may plain none =
@@ -136,7 +136,7 @@ tile-direct mode source head may plain none =
     ∙ and_then_at (coefficients_of mode source.setting.cb.values (code_of mode source Cb)) (direct_planes source).cb _ (code-direct source Cb may plain mode (none Cb))
     ∙ and_then_at (coefficients_of mode source.setting.cr.values (code_of mode source Cr)) (direct_planes source).cr _ (code-direct source Cr may plain mode (none Cr))
 
-pub pixel-direct : (source : Source) → source.setting.transform ≡ Plain → (y x : ℕ) → pixel_of (direct_planes source) y x ≡ direct_pixel source y x
+pub pixel-direct : (source : SourceTile) → source.setting.transform ≡ Plain → (y x : ℕ) → pixel_of (direct_planes source) y x ≡ direct_pixel source y x
 pixel-direct source plain y x i =
     let t : Transform = sym plain i in
     colour_of (sample t (direct_plane t source.setting.y.values source.y.own) y x) (sample t (direct_plane t source.setting.cb.values source.cb.own) y x) (sample t (direct_plane t source.setting.cr.values source.cr.own) y x)

@@ -11,3 +11,4 @@ pub mod Undo
 pub mod Inside
 pub mod Message
 pub mod Painted
+pub mod Kept

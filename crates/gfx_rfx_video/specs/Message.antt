@@ -18,7 +18,7 @@ use Rattle.gfx_prog_block.specs.declared.area.Area.{Area}
 use Rattle.gfx_prog_block.specs.declared.tile.TileHead.{TileHead}
 use Rattle.gfx_prog_block.specs.Spelling.{framed}
 use Rattle.gfx_tile_make.specs.Levels.{direct_plane, first_values, values_at}
-use Rattle.gfx_tile_make.specs.Source.{Source}
+use Rattle.gfx_tile_make.specs.Source.{SourceTile}
 use Rattle.gfx_rfx_video.specs.declared.block.VideoBlock.{VideoBlock}
 use Rattle.gfx_rfx_video.specs.declared.block.VideoBlock.TheVariants as blocks
 use Rattle.gfx_rfx_video.specs.declared.coding.Codes.{Codes}
@@ -37,11 +37,11 @@ use Rattle.gfx_rfx_video.specs.Tiles.{Bases}
 -- ---- tiles
 
 -- a component: its values at the level behind the listed ones, which leaves nothing out, LL3 as differences
-abbrev pub code_of : Mode → Source → Component → List ℕ
+abbrev pub code_of : Mode → SourceTile → Component → List ℕ
 code_of mode source component = encoded mode (first_values Plain (values_at source component (length source.setting.levels)))
 
 -- a tile's codes
-unfoldable pub codes_of : Mode → Source → Codes
+unfoldable pub codes_of : Mode → SourceTile → Codes
 codes_of mode source = record { y = code_of mode source Y; cb = code_of mode source Cb; cr = code_of mode source Cr }
 
 -- a tile of these codes
@@ -53,7 +53,7 @@ abbrev pub bases_by : Setting → Bases
 bases_by setting = record { y = setting.y.values; cb = setting.cb.values; cr = setting.cr.values }
 
 -- the coefficients of a tile's own values
-abbrev pub direct_planes : Source → Planes
+abbrev pub direct_planes : SourceTile → Planes
 direct_planes source = record {
   y = direct_plane Plain source.setting.y.values source.y.own;
   cb = direct_plane Plain source.setting.cb.values source.cb.own;

@@ -1,18 +1,16 @@
-//! The data of a message, applied block after block, whole or not at all.
+//! Blocks, applied one after another, all or none of them.
 ghost use Rattle.std.specs.Prelude.{◌≡◌, [], IsTrue, OnOk};
 ghost use Rattle.gfx_base.specs.Geometry.{lies_in};
-ghost use Rattle.gfx_base.specs.Outcome.{Applies, Gives, Says, WantsOnlyIf};
+ghost use Rattle.gfx_base.specs.Outcome.{Applies, Gives};
 ghost use Rattle.std.specs.Option.{ok_or};
 ghost use Rattle.gfx_base.specs.declared.refusal.Refusal.TheVariants.{EntropyUnknown};
-ghost use Rattle.gfx_rfx_video.specs.BlockReading.{begins_block};
 ghost use Rattle.gfx_rfx_video.specs.Inside.{IsCanvas};
 ghost use Rattle.gfx_rfx_video.specs.Showing.{open_areas};
 ghost use Rattle.gfx_rfx_video.specs.Tiles.{are_bases};
 ghost use Rattle.gfx_rfx_video.specs.Undo.{StaysUndoable};
-ghost use Rattle.gfx_rfx_video.specs.Video.{after_block, after_blocks, after_set, after_tile, after_video, entropy_of, in_turn, scene};
+ghost use Rattle.gfx_rfx_video.specs.Video.{after_block, after_blocks, after_set, after_tile, entropy_of, in_turn, scene};
 
 use crate::block::VideoBlock;
-use crate::block_reading::read_video_blocks;
 use crate::canvas::Canvas;
 use crate::colours::colour;
 use crate::planes::{check_bases, read_planes};
@@ -26,48 +24,8 @@ use gfx_rlgr::Mode;
 use gfx_surface::{CellLog, Surface};
 use std::alloc::Global;
 
-/// Applies the data of a message for a rectangle of a surface ([MS-RDPRFX] 2.2.2 and 3.1.8.1).
-///
-/// Refusals are BlockLength, BlockUnknown and TileCount of all its structure, and then, tile set after tile set,
-/// EntropyUnknown, QuantRange, and tile after tile QuantIndex and CoefficientRange; tiles outside the rectangle are
-/// decoded all the same. Any fault leaves the surface as it was. Memory is wanted only where the first block's frame and
-/// type are accepted.
-pub fn decode_video(
-    alloc: Global,
-    surface: &mut Surface,
-    rect: Rect,
-    bytes: &[u8],
-) -> Result<(), Fault>
-    requires { IsTrue (lies_in surface.old.width surface.old.height rect) }
-    ensures value { Applies result surface.old surface.new (after_video rect bytes.now surface.old) }
-    ensures memory { WantsOnlyIf result (begins_block bytes.now) }
-{
-    let blocks = read_video_blocks(alloc, bytes)?;
-    if blocks.is_empty() {
-        return Ok(());
-    }
-    let mut canvas = Canvas::new(alloc)?;
-    apply_all(alloc, surface, &mut canvas, rect, blocks.as_slice())
-}
-
-/// Applies blocks, or none of them.
-fn apply_all(
-    alloc: Global,
-    surface: &mut Surface,
-    canvas: &mut Canvas,
-    rect: Rect,
-    blocks: &[VideoBlock<'_>],
-) -> Result<(), Fault>
-    requires inside { IsTrue (lies_in surface.old.width surface.old.height rect) }
-    requires canvas { IsCanvas canvas.old }
-    ensures { Applies result surface.old surface.new (after_blocks rect blocks.now surface.old) }
-{
-    let mut log = CellLog::new(alloc);
-    apply_whole(alloc, surface, canvas, &mut log, rect, blocks)
-}
-
-/// The same with a log, which is empty.
-fn apply_whole(
+/// Applies blocks, or none of them. The log is empty, and is empty again behind them.
+pub(crate) fn apply_whole(
     alloc: Global,
     surface: &mut Surface,
     canvas: &mut Canvas,
@@ -78,10 +36,15 @@ fn apply_whole(
     requires inside { IsTrue (lies_in surface.old.width surface.old.height rect) }
     requires canvas { IsCanvas canvas.old }
     requires empty { log.old.cells.items ≡ [] }
-    ensures { Applies result surface.old surface.new (after_blocks rect blocks.now surface.old) }
+    ensures applies { Applies result surface.old surface.new (after_blocks rect blocks.now surface.old) }
+    ensures empty { log.new.cells.items ≡ [] }
+    ensures canvas { IsCanvas canvas.new }
 {
     match apply_blocks(alloc, surface, canvas, log, rect, blocks) {
-        Ok(()) => Ok(()),
+        Ok(()) => {
+            log.spend();
+            Ok(())
+        }
         Err(fault) => {
             log.put_back(surface);
             Err(fault)
@@ -102,6 +65,7 @@ fn apply_blocks(
     requires canvas { IsCanvas canvas.old }
     ensures gives { Gives (λ _. surface.new) result (after_blocks rect blocks.now surface.old) }
     ensures undo { StaysUndoable log.old.cells.items surface.old log.new.cells.items surface.new }
+    ensures canvas { IsCanvas canvas.new }
 {
     let mut areas: &[Area] = &[];
     'all: for block in blocks {

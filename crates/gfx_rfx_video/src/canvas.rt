@@ -9,8 +9,8 @@ use gfx_surface::Surface;
 use std::alloc::Global;
 use std::marker::Model;
 
-/// A surface of one tile, from which parts of tiles are drawn, and what tiles are read and coloured in: one for a
-/// message. Contracts see the surface's picture; of what else stands in it nothing is said between two tiles.
+/// A surface of one tile, from which parts of tiles are drawn, and what tiles are read and coloured in: one for all messages
+/// of a decoder. Contracts see the surface's picture; of what else stands in it nothing is said between two tiles.
 #[derive(Drop)]
 pub(crate) struct Canvas {
     pub(crate) surface: Surface,

@@ -15,7 +15,7 @@ ghost use Rattle.gfx_rlgr.specs.Rlgr.{Decodes, Encodes, in_range};
 ghost use Rattle.gfx_prog_block.specs.declared.tile.TileHead.{TileHead};
 ghost use Rattle.gfx_tile_state.specs.Passes.{blank};
 ghost use Rattle.gfx_tile_make.specs.Levels.{MayBeSent, direct_pixel};
-ghost use Rattle.gfx_tile_make.specs.Source.{Source, planes_of};
+ghost use Rattle.gfx_tile_make.specs.Source.{SourceTile, planes_of};
 ghost use Rattle.gfx_rfx_video.specs.declared.video_tile.VideoTile.{VideoTile};
 ghost use Rattle.gfx_rfx_video.specs.BlockReading.{video_blocks_of};
 ghost use Rattle.gfx_rfx_video.specs.Message.{IsSent, bases_by, blocks_by, coded_tile, codes_of, direct_planes, video_data};
@@ -42,9 +42,9 @@ pub fn plain_codes_are_short()
 /// The codes of a tile at its source that goes on nothing, by either coder, are decoded by its setting's base values to
 /// the coefficients of its own values, and so show Direct.
 pub fn tile_codes_are_direct()
-    ensures planes { (mode : Mode) (source : Source) (head : TileHead) → MayBeSent source → source.setting.transform ≡ Plain → ((component : Component) → (planes_of source component).kept ≡ blank)
+    ensures planes { (mode : Mode) (source : SourceTile) (head : TileHead) → MayBeSent source → source.setting.transform ≡ Plain → ((component : Component) → (planes_of source component).kept ≡ blank)
         → planes_by mode (bases_by source.setting) (coded_tile head (codes_of mode source)) ≡ Ok (direct_planes source) }
-    ensures pixels { (source : Source) → source.setting.transform ≡ Plain → (y x : ℕ) → pixel_of (direct_planes source) y x ≡ direct_pixel source y x }
+    ensures pixels { (source : SourceTile) → source.setting.transform ≡ Plain → (y x : ℕ) → pixel_of (direct_planes source) y x ≡ direct_pixel source y x }
 {}
 
 /// The data of a server's message are read as the blocks that they were made of.

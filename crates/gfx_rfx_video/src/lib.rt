@@ -14,6 +14,7 @@ mod block_reading;
 mod canvas;
 mod coding;
 mod colours;
+mod decoder;
 mod digits;
 mod frame;
 mod header_reading;
@@ -34,9 +35,9 @@ mod tile_reading;
 mod video_tile;
 mod writing;
 
-pub use applying::decode_video;
 pub use block::{VideoBlock, VideoBlocks};
 pub use block_reading::read_video_blocks;
+pub use decoder::{VideoDecoder, decode_video};
 pub use gfx_prog_block::{Area, Areas, Piece, TileHead};
 pub use gfx_rlgr::Mode as Entropy;
 pub use kinds::{BlockType, TILE};

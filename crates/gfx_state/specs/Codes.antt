@@ -7,7 +7,7 @@ use Rattle.gfx_bitmap_cache.specs.Codes.{cached_code}
 use Rattle.gfx_surface_map.specs.Shown.{Shown, shown_code}
 use Rattle.gfx_clear_store.specs.Rings.{Places, Rings}
 use Rattle.gfx_glyph.specs.declared.glyph.Glyph.{Glyph}
-use Rattle.gfx_clear.specs.State.{State as ClearState}
+use Rattle.gfx_clear.specs.State.{ClearState}
 use Rattle.gfx_prog_decode.specs.Records.{Records, records_code}
 use Rattle.gfx_state.specs.State.{State}
 

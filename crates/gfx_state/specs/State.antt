@@ -4,7 +4,7 @@ use Rattle.std.specs.Ordering.{nat_cmp}
 use Rattle.std.specs.FinMap as finmap
 use Rattle.std.specs.FinMap.{FinMap}
 use Rattle.gfx_bitmap_cache.specs.Slots.{Entry, Cached, cached}
-use Rattle.gfx_clear.specs.State.{State as ClearState, fresh as nothing_decoded}
+use Rattle.gfx_clear.specs.State.{ClearState, fresh as nothing_decoded}
 use Rattle.gfx_prog_decode.specs.Records.{Records}
 use Rattle.gfx_surface_map.specs.Shown.{Shown, nothing_shown}
 

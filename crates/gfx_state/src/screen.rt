@@ -24,20 +24,21 @@ use gfx_bitmap_cache::Cache;
 use gfx_clear::{ClearState, Layer};
 use gfx_pdu::{Codec, PROGRESSIVE, Pdu, PduRef};
 use gfx_prog_decode::Records;
-use gfx_rfx_video::decode_video;
+use gfx_rfx_video::VideoDecoder;
 use gfx_surface_map::{SurfaceMap, fits_size};
 use std::alloc::Global;
 use std::marker::Model;
 
 /// What the messages change: what is shown, the cache, what ClearCodec streams and progressive messages
 /// left for later ones, the open frame and the count of frames. Contracts see the state. No surface has more pixels than there is
-/// room to copy.
+/// room to copy. The decoder of RemoteFX video, of which they see nothing, keeps memory for the next message.
 #[derive(Drop)]
 pub struct State {
     surfaces: SurfaceMap,
     cache: Cache,
     clear: ClearState,
     records: Records,
+    video: VideoDecoder,
     frame: Option<u32>,
     decoded: u32,
 }
@@ -71,6 +72,7 @@ impl State {
             cache,
             clear,
             records: Records::new(alloc),
+            video: VideoDecoder::new(alloc),
             frame: None,
             decoded: 0,
         })
@@ -345,7 +347,7 @@ impl State {
                 Ok(()) => Ok(()),
                 Err(refusal) => Err(Fault::Refused(refusal)),
             },
-            Codec::Video => self.paint_video(alloc, id, rect, payload),
+            Codec::Video => self.paint_video(id, rect, payload),
             Codec::ClearCodec => self.paint_stream(id, rect, payload),
         }
     }
@@ -372,13 +374,13 @@ impl State {
 
     /// Applies a message of RemoteFX video to a rectangle that lies on a surface. Any fault leaves all as it was.
     #[tactic(auto, unfolding(crate::specs::Step::video_painted, gfx_base::specs::Results::and_then))]
-    fn paint_video(&mut self, alloc: Global, id: u16, rect: Rect, bytes: &[u8]) -> Result<(), Fault>
+    fn paint_video(&mut self, id: u16, rect: Rect, bytes: &[u8]) -> Result<(), Fault>
         requires { IsSomeAnd (map.get self.old.shown.surfaces id) (λ picture. IsTrue (lies_in picture.width picture.height rect)) }
         ensures { IfSome (map.get self.old.shown.surfaces id)
             (λ picture. Applies result self.old self.new (video_painted self.old id picture rect bytes.now)) }
     {
         match self.surfaces.get_mut(id) {
-            Some(surface) => decode_video(alloc, surface, rect, bytes),
+            Some(surface) => self.video.decode(surface, rect, bytes),
             None => unreachable!(),
         }
     }

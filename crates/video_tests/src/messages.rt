@@ -1,6 +1,6 @@
 //! Messages on one surface: what is drawn and what is refused, by an independent program.
 use gfx_base::{Fault, Format, Pixel, Rect, Refusal};
-use gfx_rfx_video::decode_video;
+use gfx_rfx_video::{VideoDecoder, decode_video};
 use gfx_surface::Surface;
 use std::alloc::Global;
 use std::process::Abort;
@@ -163,14 +163,14 @@ const CASES: [Case; 10] = [
 
 // The answer to a message for a rectangle, if it lies on the surface.
 fn answer(
-    alloc: Global,
+    decoder: &mut VideoDecoder,
     surface: &mut Surface,
     rect: Rect,
     bytes: &[u8],
 ) -> Option<Result<(), Fault>> {
     let (width, height) = surface.size();
     if rect.lies_in(width, height) {
-        Some(decode_video(alloc, surface, rect, bytes))
+        Some(decoder.decode(surface, rect, bytes))
     } else {
         None
     }
@@ -191,9 +191,24 @@ fn sum_of(surface: &Surface) -> u32 {
     sum
 }
 
+// The answer to a message alone, by memory of its own.
+fn answer_alone(
+    alloc: Global,
+    surface: &mut Surface,
+    rect: Rect,
+    bytes: &[u8],
+) -> Option<Result<(), Fault>> {
+    let (width, height) = surface.size();
+    if rect.lies_in(width, height) {
+        Some(decode_video(alloc, surface, rect, bytes))
+    } else {
+        None
+    }
+}
+
 // Whether a message is answered and drawn so.
-fn is_so(alloc: Global, surface: &mut Surface, rect: Rect, case: &Case) -> bool {
-    answer(alloc, surface, rect, case.bytes) == Some(case.due) && sum_of(surface) == case.sum
+fn is_so(decoder: &mut VideoDecoder, surface: &mut Surface, rect: Rect, case: &Case) -> bool {
+    answer(decoder, surface, rect, case.bytes) == Some(case.due) && sum_of(surface) == case.sum
 }
 
 // Tiles across cells, in regions, by both coders, and refusals behind tiles that are drawn already.
@@ -206,9 +221,10 @@ fn messages(rt: HostRuntime) -> Result<(), Fail> {
         right: 137,
         bottom: 121,
     };
+    let mut decoder = VideoDecoder::new(rt.alloc());
     let mut all = true;
     for case in &CASES {
-        all = is_so(rt.alloc(), &mut surface, rect, case) && all;
+        all = is_so(&mut decoder, &mut surface, rect, case) && all;
     }
     assert!(rt; all);
     Ok(())
@@ -245,12 +261,13 @@ fn entropy_unknown(rt: HostRuntime) -> Result<(), Fail> {
     };
     fill(&mut surface, before);
     let rect = Rect::sized(64, 64);
+    let mut decoder = VideoDecoder::new(rt.alloc());
     let mut unknown = *GREY;
     unknown[PROPERTIES] = 0x48;
-    let refused = answer(rt.alloc(), &mut surface, rect, &unknown);
+    let refused = answer(&mut decoder, &mut surface, rect, &unknown);
     assert_eq!(rt; refused, Some(Err(Fault::Refused(Refusal::EntropyUnknown))));
     assert!(rt; is_filled(&surface, before));
-    let drawn = answer(rt.alloc(), &mut surface, rect, GREY);
+    let drawn = answer_alone(rt.alloc(), &mut surface, rect, GREY);
     assert_eq!(rt; drawn, Some(Ok(())));
     let grey = Pixel {
         b: 0x80,

@@ -14,7 +14,7 @@ use Rattle.gfx_surface.specs.Picture.{Picture, redrawn, pixel_at, no_pixel}
 use Rattle.gfx_surface.proofs.PictureLemmas.{pixel_at-drawn}
 use Rattle.gfx_surface_map.specs.Shown.{Shown}
 use Rattle.gfx_surface_map.specs.Surfaces.{Surfaces}
-use Rattle.gfx_planner.specs.Want.{drawn_on}
+use Rattle.gfx_planner.specs.SurfaceEffects.{drawn_on}
 use Rattle.gfx_planner.specs.Within.{IsOutside, ChangesWithin}
 
 -- pictures ------------------------------------------------------------------------------------------

@@ -1,5 +1,5 @@
 -- A server's end that begins with bitmaps: its choice of slots and its cache are tied, and what a script's checks hold of it.
-use Rattle.std.proofs.Common.{◌≡◌, ◌∙◌, ap, sym, refl, subst, cond, Bool, true, false, ℕ, ◌+◌, List, [], ◌∷◌, ◌++◌, ◌≤◌, length, map, not, take, drop, Option, Some, None, Result, Ok, Err, zero, suc, arith}
+use Rattle.std.proofs.Common.{◌≡◌, ◌∙◌, ap, sym, refl, subst, cond, Bool, true, false, ℕ, ◌+◌, List, [], ◌∷◌, ◌++◌, ◌≤◌, length, map, not, take, drop, Option, Some, None, Result, Ok, Err, suc, arith}
 use Rattle.std.specs.Prelude.{slice_get}
 use Rattle.std.specs.Cmp.{nat_cmp_total}
 use Rattle.std.specs.Ordering.{nat_cmp, eq_by_cmp}
@@ -12,7 +12,6 @@ use Rattle.std.proofs.lemmas.Option.{slice_get-map}
 use Rattle.gfx_base.specs.declared.refusal.Refusal.{Refusal}
 use Rattle.gfx_bitmap_cache.specs.declared.limits.TheConstants.{MOST_SLOTS}
 use Rattle.gfx_bitmap_cache.specs.Slots.{Entry, Cached, cached, bytes_of, takes_slot}
-use Rattle.gfx_bitmap_cache.specs.Slots.{total as total_in}
 use Rattle.gfx_clear.proofs.Keeping.{rings_fresh}
 use Rattle.gfx_import.specs.Imported.{imported}
 use Rattle.gfx_import.specs.Started.{in_slots, put_from}
@@ -20,7 +19,6 @@ use Rattle.gfx_import.proofs.StartedLemmas.{get-in_slots, total-in_slots}
 use Rattle.gfx_import.proofs.TakingLemmas.{front-at, rest-at}
 use Rattle.gfx_prog_live.specs.Live.{Passes}
 use Rattle.gfx_script.specs.declared.held.Sides.{Sides}
-use Rattle.gfx_script.specs.declared.start.StartBitmap.{StartBitmap}
 use Rattle.gfx_script.specs.Script.{IsAcceptedAtStart, held_at_start}
 use Rattle.gfx_script.specs.Scripted.{Script}
 use Rattle.gfx_script.specs.Starting.{IsStart, key_bytes, sides_from, start_of, starts_of, stock_with}
@@ -30,11 +28,13 @@ use Rattle.gfx_slot_plan.specs.declared.kept.Kept.{Kept}
 use Rattle.gfx_slot_plan.specs.Plan.{Allocations, Plan, keeps, place, plan, total}
 use Rattle.gfx_slot_plan.specs.Started.{placed_from, plan_with}
 use Rattle.gfx_state.specs.State.{State, started_with}
-use Rattle.gfx_planner.specs.Agree.{Agree, HoldsBitmaps, Holds}
+use Rattle.gfx_planner.specs.Bitmaps.{sides_in}
+use Rattle.gfx_planner.specs.Slots.{InSlot, PlanFitsCache, SidesIn, SidesFitSlots}
+use Rattle.gfx_planner.specs.Wanted.{bitmaps_wanted}
+use Rattle.gfx_planner.specs.Server.{at_start, server_with}
+use Rattle.gfx_planner.specs.Agree.{Agree}
+use Rattle.gfx_planner.specs.Holds.{HoldsBitmaps, Holds}
 use Rattle.gfx_planner.specs.Planned.{Planned, ready}
-use Rattle.gfx_planner.specs.Slots.{InSlot, PlanFitsCache, SidesIn, SidesFitSlots, sides_in}
-use Rattle.gfx_planner.specs.Want.{bitmaps_wanted}
-use Rattle.gfx_planner.specs.Wire.{Server, at_start, server_with}
 use Rattle.gfx_planner.proofs.Calls.{planned}
 use Rattle.gfx_planner.proofs.Held.{holds-nothing}
 use Rattle.gfx_planner.proofs.TilesFollow.{tiles-at-start}

@@ -35,12 +35,18 @@ use Rattle.gfx_state.specs.State.{State}
 use Rattle.gfx_state.specs.Step as message
 use Rattle.gfx_state.specs.Step.{image_in, showing}
 use Rattle.gfx_state.specs.Sending.{IsCarried}
-use Rattle.gfx_planner.specs.Agree.{sides_of}
-use Rattle.gfx_planner.specs.Want.{Wanted, drawing, with_bitmap, bitmap_in, with_stamps, without_slot, wanted_as}
-use Rattle.gfx_planner.specs.Wire.{Server, made, alone, keeping, showing_slot, emptying, made_as}
+use Rattle.gfx_planner.specs.Bitmaps.{bitmap_in, without_slot, sides_in, emptied}
+use Rattle.gfx_planner.specs.Wanted.{Wanted}
+use Rattle.gfx_planner.specs.SurfaceEffects.{drawing}
+use Rattle.gfx_planner.specs.BitmapEffects.{with_bitmap, with_stamps}
+use Rattle.gfx_planner.specs.Want.{wanted_as}
+use Rattle.gfx_planner.specs.Server.{Server}
+use Rattle.gfx_planner.specs.Made.{made, alone}
+use Rattle.gfx_planner.specs.BitmapMessages.{keeping, showing_slot, emptying}
+use Rattle.gfx_planner.specs.StepMessages.{made_as}
+use Rattle.gfx_planner.specs.Holds.{sides_of}
 use Rattle.gfx_planner.proofs.Carried.{carried-store, carried-show, carried-evict}
 use Rattle.gfx_planner.proofs.Effects.{all_steps-one}
-use Rattle.gfx_planner.specs.Slots.{sides_in, emptied}
 use Rattle.gfx_planner.proofs.Slots.{Showing, cache_kept, rect_sides, fits_cache-kept, small_kept, fits_cache-shows, fits_cache-touched, fits_cache-forgotten, sides_fit-kept, sides_fit-touched, sides_fit-forgotten, sides_fit-shows, shown-step, forgotten-steps}
 use Rattle.gfx_planner.proofs.Held.{holds-drawn, sides-stay}
 use Rattle.gfx_planner.proofs.Lists.{all_both}

@@ -16,10 +16,15 @@ use Rattle.gfx_slot_plan.specs.Plan.{Plan}
 use Rattle.gfx_state.specs.State.{State}
 use Rattle.gfx_state.specs.Step as message
 use Rattle.gfx_state.specs.Sending.{all_steps, sent, IsCarried}
-use Rattle.gfx_planner.specs.Agree.{Agree, Holds, IsInFrame, IsAllowed, IsAllowedStep, kinded_at}
-use Rattle.gfx_planner.specs.Planned.{Planned, PutsFront, SendsMade, SendsMessages, Sends, ShowsStep, PutsStep}
 use Rattle.gfx_planner.specs.Want.{wanted_after}
-use Rattle.gfx_planner.specs.Wire.{Server, Made, made, made_by, passes_by, frame_start, frame_end, after_put, after_open, after_close}
+use Rattle.gfx_planner.specs.Server.{Server}
+use Rattle.gfx_planner.specs.Made.{Made, made}
+use Rattle.gfx_planner.specs.Wire.{made_by, frame_start, frame_end}
+use Rattle.gfx_planner.specs.After.{passes_by, after_put, after_open, after_close}
+use Rattle.gfx_planner.specs.Agree.{Agree}
+use Rattle.gfx_planner.specs.Holds.{Holds}
+use Rattle.gfx_planner.specs.Allowed.{IsInFrame, IsAllowed, IsAllowedStep, kinded_at}
+use Rattle.gfx_planner.specs.Planned.{Planned, PutsFront, SendsMade, SendsMessages, Sends, ShowsStep, PutsStep}
 use Rattle.gfx_planner.specs.declared.planner.TheConstants.{MOST_FRAMES}
 use Rattle.gfx_planner.proofs.Effects.{after_messages-is}
 use Rattle.gfx_planner.proofs.SurfaceSteps.{starts, ends}

@@ -30,11 +30,16 @@ use Rattle.gfx_state.specs.Sending.{sent, IsCarried}
 use Rattle.gfx_state.specs.State.{State}
 use Rattle.gfx_state.specs.Step.{step}
 use Rattle.gfx_surface.specs.Picture.{Picture}
-use Rattle.gfx_planner.specs.Agree.{Holds, IsAllowed}
+use Rattle.gfx_planner.specs.Pixels.{colours_in}
+use Rattle.gfx_planner.specs.Server.{Server}
+use Rattle.gfx_planner.specs.Made.{Made, alone, made}
+use Rattle.gfx_planner.specs.PaintMessages.{paint_message}
+use Rattle.gfx_planner.specs.StepMessages.{made_as, paint_made}
+use Rattle.gfx_planner.specs.CanSend.{CanBeSent}
 use Rattle.gfx_planner.specs.ClearPaints.{MayPaintClear, clear_message, clear_paint_by, clear_paint_of}
+use Rattle.gfx_planner.specs.Holds.{Holds}
+use Rattle.gfx_planner.specs.Allowed.{IsAllowed}
 use Rattle.gfx_planner.specs.Planned.{PutsFront, SendsMade, SendsMessages}
-use Rattle.gfx_planner.specs.Want.{colours_in}
-use Rattle.gfx_planner.specs.Wire.{CanBeSent, Made, Server, alone, made, made_as, paint_made, paint_message}
 use Rattle.gfx_planner.specs.declared.clear_paint.ClearPaint.{ClearPaint}
 use Rattle.gfx_planner.proofs.Effects.{sent_nothing}
 use Rattle.gfx_planner.proofs.PaintSteps.{MayPaint, may_paint, may_send_stream, paint_carried, painting_there}
@@ -61,7 +66,7 @@ allowed_paint script server held after id number at named glyph (Some (ByLayer l
   carried = paint_carried (Some layer) script server id number at glyph m fits;
 }
 
-pub may_paint_clear : (script : Script) (server : Server) (kind : Option Kind) (step : Step) → IsAllowed script server (as_kind kind step) → IfSome (clear_paint_of script.thin step kind) (MayPaintClear script server.state)
+pub may_paint_clear : (script : Script) (server : Server) (kind : Option Kind) (step : Step) → IsAllowed script server (as_kind kind step) → IfSome (clear_paint_of script.thin kind step) (MayPaintClear script server.state)
 unfolding held_after
 may_paint_clear script server kind (Paint id number at named glyph) allowed =
     let may = may_paint script server allowed.held allowed.after id number at named glyph (seen script allowed.held server allowed.holds) allowed.numbers.1 allowed.numbers.2 allowed.checked in
@@ -196,7 +201,7 @@ by_layer script state passes plan (Some (ByLayer layer)) id number at glyph pain
     ∙ ap (λ (z : ClearPaint). made (paint_message (Some z.layer) state.clear z.glyph may.surface may.picture z.id z.at ∷ []) plan) same
 
 -- a step that is one is made into its message
-pub clear_made : (script : Script) (state : State) (passes : Passes) (plan : Plan) (kind : Option Kind) (step : Step) (paint : ClearPaint) (may : MayPaintClear script state paint) → clear_paint_of script.thin step kind ≡ Some paint
+pub clear_made : (script : Script) (state : State) (passes : Passes) (plan : Plan) (kind : Option Kind) (step : Step) (paint : ClearPaint) (may : MayPaintClear script state paint) → clear_paint_of script.thin kind step ≡ Some paint
     → made_as script state passes plan kind step ≡ made (paint_message (Some paint.layer) state.clear paint.glyph may.surface may.picture paint.id paint.at ∷ []) plan
 unfolding made_as
 clear_made script state passes plan kind (Paint id number at named glyph) paint may is =
@@ -219,7 +224,7 @@ both_done (Ok done) old new plan before now pdus sends = (sends, refl)
 both_done (Err e) old new plan before now pdus sends = sends
 
 pub made_sent : (result : Result (Unit {0}) NoMemory) (script : Script) (old new : State) (passes : Passes) (plan : Plan) (kind : Option Kind) (step : Step) (paint : ClearPaint) (before now : List ℕ) → MayPaintClear script old paint
-    → clear_paint_of script.thin step kind ≡ Some paint
+    → clear_paint_of script.thin kind step ≡ Some paint
     → IfSome (get old.shown.surfaces paint.id) (λ surface. IfSome (slice_get script.pictures paint.picture)
     (λ picture. SendsMessages result old new before now (paint_message (Some paint.layer) old.clear paint.glyph surface picture paint.id paint.at ∷ [])))
     → SendsMade result old new plan before now (made_as script old passes plan kind step)

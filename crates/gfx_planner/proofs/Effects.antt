@@ -9,8 +9,9 @@ use Rattle.gfx_segment.specs.Framing.{wrapped}
 use Rattle.gfx_state.specs.State.{State}
 use Rattle.gfx_state.specs.Step.{step}
 use Rattle.gfx_state.specs.Sending.{all_steps, sent}
+use Rattle.gfx_planner.specs.Server.{Server}
+use Rattle.gfx_planner.specs.After.{reached, after_messages}
 use Rattle.gfx_planner.specs.Planned.{PutsFront}
-use Rattle.gfx_planner.specs.Wire.{Server, reached, after_messages}
 
 pub all_steps-none : (state : State) → all_steps state [] ≡ Ok state
 unfolding all_steps

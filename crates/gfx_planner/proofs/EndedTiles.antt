@@ -25,9 +25,11 @@ use Rattle.gfx_slot_plan.specs.Plan.{Plan, slot_of}
 use Rattle.gfx_surface_map.specs.Surfaces.{Surfaces}
 use Rattle.gfx_script.specs.Ways.{goes_by}
 use Rattle.gfx_planner.proofs.Ways.{live_whole}
-use Rattle.gfx_planner.specs.Passes.{FitsAt, ended_by, goes_in_passes, sends_tiles, passes_as, goes_as_video, is_video_paint}
-use Rattle.gfx_planner.specs.Slots.{PlanFitsCache, sides_in}
-use Rattle.gfx_planner.specs.Want.{bitmap_in, sides_kept}
+use Rattle.gfx_planner.specs.Bitmaps.{sides_in, bitmap_in, sides_kept}
+use Rattle.gfx_planner.specs.Slots.{PlanFitsCache}
+use Rattle.gfx_planner.specs.TileSteps.{goes_in_passes, sends_tiles, goes_as_video, is_video_paint}
+use Rattle.gfx_planner.specs.Passes.{ended_by, passes_as}
+use Rattle.gfx_planner.specs.CanSend.{FitsAt}
 use Rattle.gfx_planner.proofs.Payloads.{sides}
 use Rattle.gfx_planner.proofs.Slots.{fits_cache-shows, shown-ok}
 

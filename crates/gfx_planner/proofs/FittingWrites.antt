@@ -23,11 +23,12 @@ use Rattle.gfx_script.specs.Writes.{area, at_each, place_of, writes_by}
 use Rattle.gfx_surface.specs.declared.TheConstants.{MOST_SIDE}
 use Rattle.gfx_surface.specs.Picture.{Picture}
 use Rattle.gfx_surface_map.specs.Surfaces.{Surfaces}
-use Rattle.gfx_planner.specs.Agree.{HoldsSurfaces, IsAllowed, sides_of}
-use Rattle.gfx_planner.specs.Passes.{FitsAt, sends_tiles}
-use Rattle.gfx_planner.specs.Slots.{sides_in}
-use Rattle.gfx_planner.specs.Want.{bitmap_in, sides_kept}
-use Rattle.gfx_planner.specs.Wire.{Server}
+use Rattle.gfx_planner.specs.Bitmaps.{sides_in, bitmap_in, sides_kept}
+use Rattle.gfx_planner.specs.TileSteps.{sends_tiles}
+use Rattle.gfx_planner.specs.Server.{Server}
+use Rattle.gfx_planner.specs.CanSend.{FitsAt}
+use Rattle.gfx_planner.specs.Holds.{HoldsSurfaces, sides_of}
+use Rattle.gfx_planner.specs.Allowed.{IsAllowed}
 use Rattle.gfx_planner.proofs.BitmapSteps.{may_show}
 use Rattle.gfx_planner.proofs.PaintSteps.{may_paint}
 use Rattle.gfx_planner.proofs.Seen.{seen}

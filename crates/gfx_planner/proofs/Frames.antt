@@ -8,10 +8,12 @@ use Rattle.gfx_script.specs.declared.step.Step.{Step}
 use Rattle.gfx_script.specs.declared.step.Step.TheVariants.{Frame}
 use Rattle.gfx_state.specs.Sending.{sent}
 use Rattle.gfx_state.proofs.Sent.{sent-append}
-use Rattle.gfx_planner.specs.Agree.{IsAllowed, IsAllowedStep, IsInFrame, KeepsFrame}
+use Rattle.gfx_planner.specs.Server.{Server}
+use Rattle.gfx_planner.specs.Wire.{messages, frame_start, frame_end}
+use Rattle.gfx_planner.specs.After.{after_put, after_open, after_close}
+use Rattle.gfx_planner.specs.Allowed.{IsAllowed, IsAllowedStep, IsInFrame, KeepsFrame}
 use Rattle.gfx_planner.specs.Planned.{Planned, ready, PutsFront, Sends, PutsStep, AllSent, PartSent, SendsOn}
 use Rattle.gfx_planner.specs.Stream.{opening, opened, closing, closed, sends, served, PutsInFrame}
-use Rattle.gfx_planner.specs.Wire.{Server, messages, frame_start, frame_end, after_put, after_open, after_close}
 use Rattle.gfx_planner.proofs.Calls.{same_out}
 use Rattle.gfx_planner.proofs.Streams.{opened_fine, allowed_opened, put_in_frame}
 

@@ -8,9 +8,9 @@ use Rattle.gfx_script.specs.Scripted.{Script}
 use Rattle.gfx_script.specs.declared.step.Step.{Step}
 use Rattle.gfx_state.specs.Sending.{sent}
 use Rattle.gfx_state.proofs.Sent.{sent-append}
-use Rattle.gfx_planner.specs.Agree.{KeepsFrame, IsAllowed}
+use Rattle.gfx_planner.specs.Server.{Server, at_start}
+use Rattle.gfx_planner.specs.Allowed.{KeepsFrame, IsAllowed}
 use Rattle.gfx_planner.specs.Stream.{stream, sends, served, end_after, stream_of}
-use Rattle.gfx_planner.specs.Wire.{Server, at_start}
 use Rattle.gfx_planner.specs.declared.planner.TheConstants.{MOST_FRAMES}
 use Rattle.gfx_planner.proofs.Streams.{bare, along, held_through-cons, stream-nil, stream-cons, stream-append}
 

@@ -12,7 +12,7 @@ use Rattle.gfx_surface.specs.Picture.{Picture}
 use Rattle.gfx_surface_map.specs.declared.TheConstants.{MOST_CELLS, MOST_SURFACES}
 use Rattle.gfx_surface_map.specs.Surfaces.{Surfaces, cells, cells_of, cells_of_picture, fits_beside}
 use Rattle.gfx_script.specs.declared.held.Sides.{Sides}
-use Rattle.gfx_planner.specs.Agree.{sides_of, HoldsSurfaces}
+use Rattle.gfx_planner.specs.Holds.{sides_of, HoldsSurfaces}
 
 -- what is held ------------------------------------------------------------------------------------
 

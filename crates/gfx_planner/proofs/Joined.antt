@@ -6,7 +6,7 @@ use Rattle.gfx_base.specs.declared.format.Format.{Format}
 use Rattle.gfx_base.specs.declared.geometry.Point.{Point}
 use Rattle.gfx_base.specs.declared.geometry.Rect.{Rect}
 use Rattle.gfx_base.specs.declared.refusal.Refusal.{Refusal}
-use Rattle.gfx_clear.specs.State.{State as ClearState}
+use Rattle.gfx_clear.specs.State.{ClearState}
 use Rattle.gfx_clear.specs.declared.layer.Layer.{Layer}
 use Rattle.gfx_pdu.specs.declared.pdu.Pdu.{Pdu}
 use Rattle.gfx_pdu.specs.declared.pdu.Pdu.TheVariants.{EvictCacheEntry}
@@ -25,13 +25,25 @@ use Rattle.gfx_state.specs.History.{ends_frame}
 use Rattle.gfx_state.specs.State.{State}
 use Rattle.gfx_state.specs.Sending.{all_steps, IsCarried}
 use Rattle.gfx_surface.specs.Picture.{Picture}
-use Rattle.gfx_planner.specs.Agree.{Agree, Holds, IsInFrame}
-use Rattle.gfx_planner.specs.Joined.{all_messages, after_all, frame_of, after_frame, JoinedFramesAreShown}
+use Rattle.gfx_planner.specs.Wanted.{Wanted}
+use Rattle.gfx_planner.specs.Want.{wanted_after}
+use Rattle.gfx_planner.specs.Server.{Server}
+use Rattle.gfx_planner.specs.Made.{alone, pdus_of}
+use Rattle.gfx_planner.specs.BitmapMessages.{showing_slot, emptying, keeping}
+use Rattle.gfx_planner.specs.PaintMessages.{painting}
+use Rattle.gfx_planner.specs.TileMessages.{painting_in_passes, passes_message, improving}
+use Rattle.gfx_planner.specs.VideoMessages.{painting_as_video, video_message}
+use Rattle.gfx_planner.specs.StepMessages.{made_as, paint_made}
+use Rattle.gfx_planner.specs.Wire.{messages, frame_start, frame_end}
+use Rattle.gfx_planner.specs.After.{after_put, after_open, after_close}
+use Rattle.gfx_planner.specs.Agree.{Agree}
+use Rattle.gfx_planner.specs.Holds.{Holds}
+use Rattle.gfx_planner.specs.Allowed.{IsInFrame}
+use Rattle.gfx_planner.specs.Joined.{all_messages, after_all, frame_of, after_frame}
+use Rattle.gfx_planner.specs.JoinedShown.{JoinedFramesAreShown}
 use Rattle.gfx_script.specs.Ways.{goes_by}
 use Rattle.gfx_script.specs.declared.way.Way.{Way}
 use Rattle.gfx_script.specs.declared.way.Way.TheVariants.{Uncompressed, ByLayer, InPasses, Video}
-use Rattle.gfx_planner.specs.Want.{Wanted, wanted_after}
-use Rattle.gfx_planner.specs.Wire.{Server, alone, painting, painting_in_passes, passes_message, improving, showing_slot, emptying, keeping, made_as, paint_made, pdus_of, messages, frame_start, frame_end, after_put, after_open, after_close, painting_as_video, video_message}
 use Rattle.gfx_planner.proofs.Lists.{all_both}
 use Rattle.gfx_planner.proofs.Effects.{all_steps-none, all_steps-one}
 use Rattle.gfx_planner.proofs.Steps.{step_fine, messages-is, after_put-is}

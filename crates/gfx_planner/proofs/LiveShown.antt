@@ -41,16 +41,23 @@ use Rattle.gfx_surface.specs.Picture.{Picture, pixel_at, shade}
 use Rattle.gfx_surface_map.specs.Shown.{Shown}
 use Rattle.gfx_surface_map.specs.Surfaces.{Surfaces}
 use Rattle.gfx_tile_make.specs.Levels.{shown_at}
-use Rattle.gfx_tile_make.specs.Source.{Source as Tile}
+use Rattle.gfx_tile_make.specs.Source.{SourceTile}
 use Rattle.gfx_tile_make.proofs.Sources.{last-shown}
-use Rattle.gfx_planner.specs.Agree.{Agree, Holds}
-use Rattle.gfx_planner.specs.Passes.{ended_by, improved_passes, sends_tiles, painted_passes, passes_as}
-use Rattle.gfx_planner.specs.Stream.{served}
+use Rattle.gfx_planner.specs.Bitmaps.{sides_kept}
+use Rattle.gfx_planner.specs.TileSteps.{sends_tiles}
+use Rattle.gfx_planner.specs.Passes.{ended_by, improved_passes, painted_passes, passes_as}
 use Rattle.gfx_planner.specs.Tiles.{HoldsTiles}
-use Rattle.gfx_planner.specs.TilesShown.{LiveTilesAreShown}
-use Rattle.gfx_planner.specs.Want.{Wanted, drawn_on, nothing_wanted, passes_wanted, sides_kept, wanted_after, wanted_as, with_improved, with_painting, with_tiles}
-use Rattle.gfx_planner.specs.Wire.{Server, at_start}
+use Rattle.gfx_planner.specs.Wanted.{Wanted, nothing_wanted}
+use Rattle.gfx_planner.specs.SurfaceEffects.{drawn_on}
+use Rattle.gfx_planner.specs.TileEffects.{with_improved, with_tiles}
+use Rattle.gfx_planner.specs.PaintEffects.{with_painting}
+use Rattle.gfx_planner.specs.Want.{passes_wanted, wanted_after, wanted_as}
+use Rattle.gfx_planner.specs.Server.{Server, at_start}
+use Rattle.gfx_planner.specs.Agree.{Agree}
+use Rattle.gfx_planner.specs.Holds.{Holds}
+use Rattle.gfx_planner.specs.Stream.{served}
 use Rattle.gfx_planner.specs.Within.{ChangesWithin, IsOutside}
+use Rattle.gfx_planner.specs.TilesShown.{LiveTilesAreShown}
 use Rattle.gfx_script.specs.Ways.{goes_by}
 use Rattle.gfx_planner.proofs.Ways.{live_in_passes, live_left, painted_in_passes}
 use Rattle.gfx_planner.proofs.PaintSteps.{MayPaint, may_paint}
@@ -67,7 +74,7 @@ AllShow live surfaces =
     → pixel_at picture x y ≡ shown_at send.tile send.level (y - CELL_SIDE * send.cell.y) (x - CELL_SIDE * send.cell.x)
 
 -- a format keeps a tile's pixel, which is opaque
-pub tile-kept : (format : Format) (tile : Tile) (level y x : ℕ) → shade format (shown_at tile level y x) ≡ shown_at tile level y x
+pub tile-kept : (format : Format) (tile : SourceTile) (level y x : ℕ) → shade format (shown_at tile level y x) ≡ shown_at tile level y x
 tile-kept Xrgb tile level y x = refl
 tile-kept Argb tile level y x = refl
 

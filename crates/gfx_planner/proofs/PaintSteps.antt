@@ -15,7 +15,7 @@ use Rattle.gfx_base.specs.declared.geometry.Rect.{Rect}
 use Rattle.gfx_base.specs.declared.pixel.Pixel.{Pixel}
 use Rattle.gfx_clear_store.specs.Rings.{AreRings}
 use Rattle.gfx_clear.specs.declared.layer.Layer.{Layer}
-use Rattle.gfx_clear.specs.State.{State as ClearState}
+use Rattle.gfx_clear.specs.State.{ClearState}
 use Rattle.gfx_clear.specs.Sending.{MaySend as MaySendStream, MayStore}
 use Rattle.gfx_clear.proofs.Keeping.{rings_sent, sent_few}
 use Rattle.gfx_surface.specs.declared.TheConstants.{MOST_SIDE}
@@ -39,7 +39,18 @@ use Rattle.gfx_state.specs.State.{State}
 use Rattle.gfx_state.specs.Step as message
 use Rattle.gfx_pdu.specs.Codecs.{id_of}
 use Rattle.gfx_state.specs.Sending.{IsCarried}
-use Rattle.gfx_planner.specs.Agree.{sides_of, HoldsSurfaces}
+use Rattle.gfx_planner.specs.Pixels.{pixels_in, colours_in}
+use Rattle.gfx_planner.specs.TileSteps.{goes_as_video, goes_in_passes}
+use Rattle.gfx_planner.specs.Wanted.{Wanted}
+use Rattle.gfx_planner.specs.SurfaceEffects.{drawing}
+use Rattle.gfx_planner.specs.PaintEffects.{with_painting, with_pixels, with_video}
+use Rattle.gfx_planner.specs.Want.{wanted_as}
+use Rattle.gfx_planner.specs.Server.{Server}
+use Rattle.gfx_planner.specs.Made.{alone, made}
+use Rattle.gfx_planner.specs.PaintMessages.{codec_by, data_by, paint_message, painting}
+use Rattle.gfx_planner.specs.VideoMessages.{mode_of, painting_as_video, video_message}
+use Rattle.gfx_planner.specs.StepMessages.{made_as}
+use Rattle.gfx_planner.specs.Holds.{sides_of, HoldsSurfaces}
 use Rattle.gfx_script.specs.declared.way.Way.{Way}
 use Rattle.gfx_script.specs.declared.way.Way.TheVariants.{Uncompressed, ByLayer, InPasses, Video}
 use Rattle.gfx_script.specs.Ways.{goes_by, is_in_passes, is_stream, is_video, way_of}
@@ -52,9 +63,6 @@ use Rattle.gfx_video_paint.proofs.Groups.{payloads-short, payloads-show}
 use Rattle.gfx_rfx_video.specs.Video.{after_video, in_turn}
 use Rattle.gfx_quant.specs.Setting.{IsSetting}
 use Rattle.gfx_video_paint.specs.Video.{laid, video_payloads}
-use Rattle.gfx_planner.specs.Passes.{goes_as_video, goes_in_passes}
-use Rattle.gfx_planner.specs.Want.{Wanted, drawing, pixels_in, colours_in, with_painting, with_pixels, with_video, wanted_as}
-use Rattle.gfx_planner.specs.Wire.{Server, alone, codec_by, data_by, made, mode_of, paint_message, painting, painting_as_video, made_as, video_message}
 use Rattle.gfx_planner.proofs.Carried.{carried-wire}
 use Rattle.gfx_planner.proofs.Effects.{all_steps-one}
 use Rattle.gfx_planner.proofs.Held.{holds-drawn, sides-stay}

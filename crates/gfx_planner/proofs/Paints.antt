@@ -16,7 +16,7 @@ use Rattle.gfx_base.specs.declared.pixel.Pixel.{Pixel}
 use Rattle.gfx_base.specs.declared.refusal.Refusal.TheVariants as refusal
 use Rattle.gfx_clear_store.specs.Rings.{AreRings}
 use Rattle.gfx_clear.specs.declared.layer.Layer.{Layer}
-use Rattle.gfx_clear.specs.State.{State as ClearState}
+use Rattle.gfx_clear.specs.State.{ClearState}
 use Rattle.gfx_base.specs.Colour.{colour_of, opaque}
 use Rattle.gfx_clear.specs.Painting.{scene, decoded}
 use Rattle.gfx_clear.specs.Sending.{MaySend as MaySendStream, sent as stream_sent}
@@ -33,9 +33,9 @@ use Rattle.gfx_state.specs.Step as message
 use Rattle.gfx_pdu.specs.Codecs.{UNCOMPRESSED, CLEAR_CODEC, codec_of}
 use Rattle.gfx_pdu.specs.declared.codec.Codec.TheVariants.{Uncompressed, ClearCodec}
 use Rattle.gfx_state.specs.Step.{data_painted, bytes_painted, stream_painted}
-use Rattle.gfx_planner.specs.Want.{pixels_in, colours_in}
+use Rattle.gfx_planner.specs.Pixels.{pixels_in, colours_in}
+use Rattle.gfx_planner.specs.PaintMessages.{raw_bytes, paint_message}
 use Rattle.gfx_planner.proofs.Ways.{shown_by}
-use Rattle.gfx_planner.specs.Wire.{raw_bytes, paint_message}
 
 -- data that are read back as a format keeps them
 raw_back : (format : Format) (pixels : List Pixel) → raw_pixels format (raw_bytes pixels) ≡ map (shade format) pixels

@@ -21,8 +21,12 @@ use Rattle.gfx_state.specs.State.{State}
 use Rattle.gfx_surface.specs.Picture.{Picture}
 use Rattle.gfx_surface_map.specs.Surfaces.{Surfaces}
 use Rattle.gfx_script.specs.Ways.{goes_by}
-use Rattle.gfx_planner.specs.Passes.{goes_in_passes, improved_passes, painted_passes, passes_as}
-use Rattle.gfx_planner.specs.Wire.{CanBeSent, Made, improving, made, made_as, painting_in_passes, passes_message}
+use Rattle.gfx_planner.specs.TileSteps.{goes_in_passes}
+use Rattle.gfx_planner.specs.Passes.{improved_passes, painted_passes, passes_as}
+use Rattle.gfx_planner.specs.Made.{Made, made}
+use Rattle.gfx_planner.specs.TileMessages.{improving, painting_in_passes, passes_message}
+use Rattle.gfx_planner.specs.StepMessages.{made_as}
+use Rattle.gfx_planner.specs.CanSend.{CanBeSent}
 use Rattle.gfx_planner.proofs.Payloads.{sides}
 use Rattle.gfx_planner.proofs.Ways.{live_in_passes, made_in_passes}
 

@@ -25,13 +25,15 @@ use Rattle.gfx_slot_plan.specs.Plan.{Plan}
 use Rattle.gfx_state.specs.State.{State}
 use Rattle.gfx_surface.specs.Picture.{Picture}
 use Rattle.gfx_surface_map.specs.Surfaces.{Surfaces}
-use Rattle.gfx_planner.specs.Agree.{IsAllowed}
+use Rattle.gfx_planner.specs.TileSteps.{goes_in_passes, sends_tiles, goes_as_video, is_video_paint}
+use Rattle.gfx_planner.specs.Tiles.{HoldsTiles}
+use Rattle.gfx_planner.specs.Server.{Server}
+use Rattle.gfx_planner.specs.StepMessages.{made_as, paint_made}
+use Rattle.gfx_planner.specs.CanSend.{IsPlaced, MayGoAsTiles}
+use Rattle.gfx_planner.specs.Allowed.{IsAllowed}
 use Rattle.gfx_script.specs.Ways.{goes_by}
 use Rattle.gfx_script.specs.declared.way.Way.{Way}
 use Rattle.gfx_script.specs.declared.way.Way.TheVariants.{Uncompressed, ByLayer, InPasses, Video}
-use Rattle.gfx_planner.specs.Passes.{IsPlaced, MayGoAsTiles, goes_in_passes, sends_tiles, goes_as_video, is_video_paint}
-use Rattle.gfx_planner.specs.Tiles.{HoldsTiles}
-use Rattle.gfx_planner.specs.Wire.{Server, made_as, paint_made}
 use Rattle.gfx_planner.proofs.PaintSteps.{may_paint}
 use Rattle.gfx_planner.proofs.Seen.{seen}
 

@@ -33,11 +33,22 @@ use Rattle.gfx_script.specs.declared.step.Kind.{Kind}
 use Rattle.gfx_script.specs.declared.step.Step.{Step}
 use Rattle.gfx_script.specs.declared.step.Step.TheVariants.{Paint, Improve}
 use Rattle.gfx_state.specs.State.{State}
-use Rattle.gfx_planner.specs.Agree.{Agree, Holds, HoldsSurfaces, sides_of}
+use Rattle.gfx_planner.specs.Bitmaps.{sides_kept}
+use Rattle.gfx_planner.specs.TileSteps.{goes_in_passes, sends_tiles}
+use Rattle.gfx_planner.specs.Passes.{improved_passes, painted_passes, passes_as}
+use Rattle.gfx_planner.specs.Wanted.{Wanted}
+use Rattle.gfx_planner.specs.SurfaceEffects.{drawing}
+use Rattle.gfx_planner.specs.TileEffects.{with_improved, with_tiles}
+use Rattle.gfx_planner.specs.Want.{wanted_as}
+use Rattle.gfx_planner.specs.Server.{Server}
+use Rattle.gfx_planner.specs.Made.{made}
+use Rattle.gfx_planner.specs.TileMessages.{improving, painting_in_passes, passes_message}
+use Rattle.gfx_planner.specs.StepMessages.{made_as}
+use Rattle.gfx_planner.specs.Wire.{made_by}
+use Rattle.gfx_planner.specs.After.{passes_by}
+use Rattle.gfx_planner.specs.Agree.{Agree}
+use Rattle.gfx_planner.specs.Holds.{Holds, HoldsSurfaces, sides_of}
 use Rattle.gfx_script.specs.Ways.{goes_by}
-use Rattle.gfx_planner.specs.Passes.{goes_in_passes, improved_passes, sends_tiles, painted_passes, passes_as}
-use Rattle.gfx_planner.specs.Want.{Wanted, drawing, sides_kept, with_improved, with_tiles, wanted_as}
-use Rattle.gfx_planner.specs.Wire.{Server, improving, made, made_as, made_by, painting_in_passes, passes_by, passes_message}
 use Rattle.gfx_planner.proofs.Ways.{live_in_passes, made_in_passes, painted_in_passes}
 use Rattle.gfx_planner.proofs.Cells.{has_room}
 use Rattle.gfx_planner.proofs.Held.{holds-drawn}

@@ -10,8 +10,8 @@ use Rattle.gfx_surface.specs.Picture.{no_pixel}
 use Rattle.gfx_surface.proofs.PictureLemmas.{pixel_at-drawn}
 use Rattle.gfx_script.specs.declared.picture.Picture.{Picture as Source}
 use Rattle.gfx_script.specs.Patterns.{pixel_of}
-use Rattle.gfx_planner.specs.Want.{pixels_in, colours_in}
-use Rattle.gfx_planner.specs.Wire.{raw_bytes}
+use Rattle.gfx_planner.specs.Pixels.{pixels_in, colours_in}
+use Rattle.gfx_planner.specs.PaintMessages.{raw_bytes}
 use Rattle.gfx_planner.proofs.Paints.{length-pixels_in}
 
 -- a pixel's four bytes

@@ -12,9 +12,10 @@ use Rattle.gfx_script.specs.Scripted.{Script}
 use Rattle.gfx_script.specs.declared.step.Step.{Step}
 use Rattle.gfx_script.specs.declared.step.Step.TheVariants.{Surface, Delete}
 use Rattle.gfx_state.specs.State.{State}
-use Rattle.gfx_planner.specs.Agree.{Agree, Holds, HoldsBitmaps, HoldsSurfaces, sides_of}
-use Rattle.gfx_planner.specs.Want.{Wanted}
-use Rattle.gfx_planner.specs.Wire.{Server}
+use Rattle.gfx_planner.specs.Wanted.{Wanted}
+use Rattle.gfx_planner.specs.Server.{Server}
+use Rattle.gfx_planner.specs.Agree.{Agree}
+use Rattle.gfx_planner.specs.Holds.{Holds, HoldsBitmaps, HoldsSurfaces, sides_of}
 
 -- what a script's checks hold of the server's end, but for its tiles
 pub record HoldsSeen (script : Script) (held : Held) (server : Server) : Type 0 where

@@ -22,8 +22,12 @@ use Rattle.gfx_script.specs.Scripted.{Script}
 use Rattle.gfx_script.specs.Ways.{is_stream, way_of}
 use Rattle.gfx_script.specs.Patterns.{pixel_of}
 use Rattle.gfx_script.specs.Writes.{place_of}
+use Rattle.gfx_planner.specs.Pixels.{pixels_in, colours_in, opaque_in}
+use Rattle.gfx_planner.specs.Wanted.{Wanted}
+use Rattle.gfx_planner.specs.SurfaceEffects.{drawn_on}
+use Rattle.gfx_planner.specs.PaintEffects.{with_painting, with_pixels}
+use Rattle.gfx_planner.specs.Want.{wanted_as}
 use Rattle.gfx_planner.specs.Sources.{ShowsSource, ClearPaintsShowTheirSource}
-use Rattle.gfx_planner.specs.Want.{Wanted, drawn_on, pixels_in, colours_in, opaque_in, with_painting, with_pixels, wanted_as}
 use Rattle.gfx_planner.proofs.Paints.{length-pixels_in, length-colours_in}
 
 -- the pixel of a picture at its place in the list

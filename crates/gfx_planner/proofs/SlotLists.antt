@@ -23,7 +23,7 @@ use Rattle.gfx_slot_plan.proofs.Dropping.{denied}
 use Rattle.gfx_slot_plan.proofs.Order.{not_among, room_alone, staying_stops, staying_goes, length-without, length-held}
 use Rattle.gfx_slot_plan.proofs.Ranges.{first_passes}
 use Rattle.gfx_slot_plan.proofs.Ties.{slots_middle, total_middle}
-use Rattle.gfx_planner.specs.Slots.{emptied}
+use Rattle.gfx_planner.specs.Bitmaps.{emptied}
 
 -- finite maps -------------------------------------------------------------------------------------
 

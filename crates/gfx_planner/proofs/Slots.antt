@@ -33,7 +33,8 @@ use Rattle.gfx_state.specs.State.{State}
 use Rattle.gfx_state.specs.Step.{step, caching, showing, rect_stored, slot_put, image_in}
 use Rattle.gfx_surface.specs.Picture.{Picture}
 use Rattle.gfx_surface_map.specs.Shown.{pixels_put}
-use Rattle.gfx_planner.specs.Slots.{emptied, InSlot, PlanFitsCache, sides_in, SidesIn, SidesFitSlots}
+use Rattle.gfx_planner.specs.Bitmaps.{emptied, sides_in}
+use Rattle.gfx_planner.specs.Slots.{InSlot, PlanFitsCache, SidesIn, SidesFitSlots}
 use Rattle.gfx_planner.proofs.SlotLists.{Filled, cut_at, get-insert_here, get-insert_apart, filled-out, filled-touched, filled-kept, left_of, slot_for, room_for, dropped-within, length-dropped}
 
 -- both ways to say it ----------------------------------------------------------------------------

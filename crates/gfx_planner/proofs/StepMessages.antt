@@ -7,7 +7,7 @@ use Rattle.gfx_base.specs.Format.{byte_of}
 use Rattle.gfx_base.specs.declared.geometry.Point.{Point}
 use Rattle.gfx_base.specs.declared.geometry.Rect.{Rect}
 use Rattle.gfx_base.specs.declared.refusal.Refusal.{Refusal}
-use Rattle.gfx_clear.specs.State.{State as ClearState}
+use Rattle.gfx_clear.specs.State.{ClearState}
 use Rattle.gfx_pdu.specs.declared.pdu.Pdu.{Pdu}
 use Rattle.gfx_pdu.specs.declared.pdu.Pdu.TheVariants.{WireToSurface1}
 use Rattle.gfx_script.specs.declared.picture.Picture.{Picture as Source}
@@ -24,11 +24,15 @@ use Rattle.gfx_slot_plan.specs.Plan.{Plan}
 use Rattle.gfx_state.specs.Sending.{IsCarried}
 use Rattle.gfx_pdu.specs.Codecs.{UNCOMPRESSED}
 use Rattle.gfx_surface.specs.Picture.{Picture}
+use Rattle.gfx_planner.specs.Pixels.{pixels_in}
+use Rattle.gfx_planner.specs.TileSteps.{goes_in_passes, sends_tiles, goes_as_video, is_video_paint}
+use Rattle.gfx_planner.specs.Made.{alone, made}
+use Rattle.gfx_planner.specs.BitmapMessages.{keeping, showing_slot, emptying}
+use Rattle.gfx_planner.specs.PaintMessages.{painting, raw_bytes}
+use Rattle.gfx_planner.specs.StepMessages.{made_as, paint_made}
+use Rattle.gfx_planner.specs.CanSend.{CanBeSent}
 use Rattle.gfx_planner.specs.ClearPaints.{clear_paint_by, clear_paint_of}
 use Rattle.gfx_script.specs.Ways.{goes_by}
-use Rattle.gfx_planner.specs.Passes.{goes_in_passes, sends_tiles, goes_as_video, is_video_paint}
-use Rattle.gfx_planner.specs.Want.{pixels_in}
-use Rattle.gfx_planner.specs.Wire.{CanBeSent, alone, made, made_as, paint_made, painting, keeping, showing_slot, emptying, raw_bytes}
 use Rattle.gfx_planner.proofs.Payloads.{sides}
 use Rattle.gfx_planner.proofs.PaintSteps.{painting_there}
 
@@ -102,7 +106,7 @@ raw_way script state passes plan (Some Video) source glyph id number at possible
 
 -- so is a step that is one
 pub raw_made : (script : Script) (state : State) (passes : Passes) (plan : Plan) (kind named : Option Kind) (glyph : Option ℕ) (id number : ℕ) (at : Point) (step : Step) → step ≡ Paint id number at named glyph
-    → CanBeSent (made_as script state passes plan kind step) → clear_paint_of script.thin step kind ≡ None → sends_tiles script.thin kind step ≡ false → is_video_paint script.thin kind step ≡ false
+    → CanBeSent (made_as script state passes plan kind step) → clear_paint_of script.thin kind step ≡ None → sends_tiles script.thin kind step ≡ false → is_video_paint script.thin kind step ≡ false
     → GoesRaw script state passes plan kind (slice_get script.pictures number) glyph id at
 unfolding made_as
 raw_made script state passes plan kind named glyph id number at step is possible none apart still =
@@ -112,7 +116,7 @@ raw_made script state passes plan kind named glyph id number at step is possible
     record { made = made; there = some.0; fits = some.1 }
 
 pub raw_made_is : {V E : Type 0} (result : Result V E) (items : V → List Pdu) (script : Script) (state : State) (passes : Passes) (plan : Plan) (kind named : Option Kind) (glyph : Option ℕ) (id number : ℕ) (at : Point) (step : Step) (pdu : Pdu)
-    → step ≡ Paint id number at named glyph → CanBeSent (made_as script state passes plan kind step) → clear_paint_of script.thin step kind ≡ None → sends_tiles script.thin kind step ≡ false → is_video_paint script.thin kind step ≡ false
+    → step ≡ Paint id number at named glyph → CanBeSent (made_as script state passes plan kind step) → clear_paint_of script.thin kind step ≡ None → sends_tiles script.thin kind step ≡ false → is_video_paint script.thin kind step ≡ false
     → painting None state.clear (get state.shown.surfaces id) (slice_get script.pictures number) None id at ≡ Some pdu → IfOk result (λ v. items v ≡ pdu ∷ [])
     → IfOk result (λ v. made_as script state passes plan kind step ≡ made (items v) plan)
 unfolding made_as

@@ -10,11 +10,16 @@ use Rattle.gfx_script.specs.declared.step.Step.{Step}
 use Rattle.gfx_script.specs.declared.step.Step.TheVariants.{Surface, Delete, Reset, Map, Fill, Copy, Keep, Show, Forget, Paint, Improve, Frame}
 use Rattle.gfx_state.specs.State.{State}
 use Rattle.gfx_state.specs.Sending.{all_steps}
-use Rattle.gfx_planner.specs.Agree.{Holds, IsAllowed}
+use Rattle.gfx_planner.specs.TileSteps.{sends_tiles}
+use Rattle.gfx_planner.specs.Server.{Server}
+use Rattle.gfx_planner.specs.Made.{Made, pdus_of}
+use Rattle.gfx_planner.specs.Wire.{made_by, messages}
+use Rattle.gfx_planner.specs.After.{after_made, after_put, passes_by}
+use Rattle.gfx_planner.specs.CanSend.{CanBeSent}
+use Rattle.gfx_planner.specs.Holds.{Holds}
+use Rattle.gfx_planner.specs.Allowed.{IsAllowed}
 use Rattle.gfx_planner.specs.Planned.{MaySend}
-use Rattle.gfx_planner.specs.Wire.{Server, Made, made_by, CanBeSent, pdus_of, messages, after_made, after_put, passes_by}
 use Rattle.gfx_planner.proofs.Effects.{accepted_ok, after_messages-is}
-use Rattle.gfx_planner.specs.Passes.{sends_tiles}
 use Rattle.gfx_planner.proofs.PassesSteps.{passes_fine}
 use Rattle.gfx_planner.proofs.Seen.{HoldsSeen, seen}
 use Rattle.gfx_planner.proofs.Whole.{FineStep, gone, whole}

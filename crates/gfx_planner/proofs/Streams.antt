@@ -20,13 +20,18 @@ use Rattle.gfx_state.specs.State.{State, fresh}
 use Rattle.gfx_state.specs.Sending.{all_steps, sent, IsCarried, count_after}
 use Rattle.gfx_state.proofs.Sent.{all_steps-append, sent-append}
 use Rattle.gfx_state.proofs.Wider.{sent_wider, started_fresh, Wider_same}
-use Rattle.gfx_planner.specs.Agree.{Agree, HoldsSurfaces, HoldsBitmaps, Holds, IsInFrame, KeepsFrame, IsAllowed}
-use Rattle.gfx_planner.specs.Stream.{opening, opened, closing, closed, sends, served, stream, serves, end_after}
 use Rattle.gfx_planner.specs.Tiles.{HoldsLive, HoldsTiles}
-use Rattle.gfx_planner.proofs.TilesFollow.{has-records, tiles-at-start}
-use Rattle.gfx_planner.specs.Want.{Wanted, nothing_wanted, wanted_after, want}
+use Rattle.gfx_planner.specs.Wanted.{Wanted, nothing_wanted}
+use Rattle.gfx_planner.specs.Want.{wanted_after, want}
+use Rattle.gfx_planner.specs.Server.{Server, at_start}
+use Rattle.gfx_planner.specs.Wire.{messages, frame_start, frame_end}
+use Rattle.gfx_planner.specs.After.{after_put, after_open, after_close}
+use Rattle.gfx_planner.specs.Agree.{Agree}
+use Rattle.gfx_planner.specs.Holds.{HoldsSurfaces, HoldsBitmaps, Holds}
+use Rattle.gfx_planner.specs.Allowed.{IsInFrame, KeepsFrame, IsAllowed}
+use Rattle.gfx_planner.specs.Stream.{opening, opened, closing, closed, sends, served, stream, served_all, end_after}
 use Rattle.gfx_planner.specs.Shows.{ScriptsAreShown}
-use Rattle.gfx_planner.specs.Wire.{Server, at_start, messages, frame_start, frame_end, after_put, after_open, after_close}
+use Rattle.gfx_planner.proofs.TilesFollow.{has-records, tiles-at-start}
 use Rattle.gfx_planner.proofs.Lists.{all_both, all_front, all_behind}
 use Rattle.gfx_planner.proofs.Effects.{all_steps-none, all_steps-one, after_messages-is}
 use Rattle.gfx_planner.proofs.Held.{holds-nothing}
@@ -200,10 +205,10 @@ bare steps = map (λ (one : KindedStep). one.step) steps
 
 -- the stream of steps is accepted, and the server's end stays in step with the script
 pub record Streams (script : Script) (server : Server) (steps : List KindedStep) (after : Held) (wanted : Wanted) : Type 0 where
-  pub accepted : all_steps server.state (stream script server steps) ≡ Ok (serves script server steps).state
+  pub accepted : all_steps server.state (stream script server steps) ≡ Ok (served_all script server steps).state
   pub carried : AllByRecursion IsCarried (stream script server steps)
-  pub stands : Stands script (serves script server steps) after wanted
-  pub frames : (serves script server steps).frames ≤ server.frames + length steps
+  pub stands : Stands script (served_all script server steps) after wanted
+  pub frames : (served_all script server steps).frames ≤ server.frames + length steps
 
 pub stream-nil : (script : Script) (server : Server) → stream script server [] ≡ []
 unfolding stream
@@ -243,12 +248,12 @@ streams script server held after wanted (one ∷ steps) few stands numbers kinds
     }
 
 -- in two parts
-pub stream-append : (script : Script) (server : Server) (xs ys : List KindedStep) → stream script server (xs ++ ys) ≡ stream script server xs ++ stream script (serves script server xs) ys
+pub stream-append : (script : Script) (server : Server) (xs ys : List KindedStep) → stream script server (xs ++ ys) ≡ stream script server xs ++ stream script (served_all script server xs) ys
 stream-append script server [] ys = ap (λ z. z ++ stream script server ys) (sym (stream-nil script server))
 stream-append script server (x ∷ xs) ys =
     stream-cons script server x (xs ++ ys) ∙ ap (λ z. sends script server x ++ z) (stream-append script (served script server x) xs ys)
     ∙ sym (append_assoc (sends script server x) (stream script (served script server x) xs) _)
-    ∙ ap (λ z. z ++ stream script (serves script (served script server x) xs) ys) (sym (stream-cons script server x xs))
+    ∙ ap (λ z. z ++ stream script (served_all script (served script server x) xs) ys) (sym (stream-cons script server x xs))
 
 -- a front of checked steps is checked
 pub held_through-append : (held after : Held) (xs ys : List Step) → held_through held (xs ++ ys) ≡ Ok after

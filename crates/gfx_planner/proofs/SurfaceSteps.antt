@@ -45,9 +45,14 @@ use Rattle.gfx_state.specs.State.{State}
 use Rattle.gfx_state.specs.Step as message
 use Rattle.gfx_state.specs.Step.{graphics_reset, frame_started, frame_ended, is_open, surface_created, surface_ended, showing}
 use Rattle.gfx_state.specs.Sending.{all_steps, IsCarried}
-use Rattle.gfx_planner.specs.Agree.{sides_of, HoldsSurfaces}
-use Rattle.gfx_planner.specs.Want.{Wanted, drawn_on, drawing, without_surface, with_map, with_copy, wanted_as}
-use Rattle.gfx_planner.specs.Wire.{Server, Made, one_monitor, made_as, made_by}
+use Rattle.gfx_planner.specs.Wanted.{Wanted}
+use Rattle.gfx_planner.specs.SurfaceEffects.{drawn_on, drawing, without_surface, with_map, with_copy}
+use Rattle.gfx_planner.specs.Want.{wanted_as}
+use Rattle.gfx_planner.specs.Server.{Server}
+use Rattle.gfx_planner.specs.Made.{Made}
+use Rattle.gfx_planner.specs.StepMessages.{one_monitor, made_as}
+use Rattle.gfx_planner.specs.Wire.{made_by}
+use Rattle.gfx_planner.specs.Holds.{sides_of, HoldsSurfaces}
 use Rattle.gfx_planner.proofs.Carried.{carried-create, carried-delete, carried-reset, carried-map, carried-fill, carried-copy, carried-start, carried-end}
 use Rattle.gfx_planner.proofs.Effects.{all_steps-one}
 use Rattle.gfx_planner.proofs.Paints.{format_back}

@@ -21,7 +21,7 @@ use Rattle.gfx_state.specs.State.{State}
 use Rattle.gfx_state.specs.Step as message
 use Rattle.gfx_state.specs.Step.{tiles_drawn, tiles_painted}
 use Rattle.gfx_state.specs.Sending.{all_steps}
-use Rattle.gfx_planner.specs.Wire.{passes_message}
+use Rattle.gfx_planner.specs.TileMessages.{passes_message}
 use Rattle.gfx_planner.proofs.Paints.{format_back}
 
 -- ---- a surface in the place of another

@@ -26,7 +26,7 @@ use Rattle.gfx_segment.specs.declared.profile.TheConstants.{MOST_PAYLOAD}
 use Rattle.gfx_state.specs.Sending.{IsCarried}
 use Rattle.gfx_surface.specs.declared.TheConstants.{MOST_SIDE}
 use Rattle.gfx_tile_make.specs.Levels.{tile_at}
-use Rattle.gfx_planner.specs.Wire.{passes_message}
+use Rattle.gfx_planner.specs.TileMessages.{passes_message}
 use Rattle.gfx_planner.proofs.Carried.{carried}
 
 -- ---- one message

@@ -27,11 +27,13 @@ use Rattle.gfx_surface.specs.Picture.{Picture, blank}
 use Rattle.gfx_surface_map.specs.Surfaces.{Surfaces}
 use Rattle.gfx_tile_state.specs.declared.state.TileState.{TileState}
 use Rattle.gfx_tile_make.specs.Levels.{tile_at}
-use Rattle.gfx_planner.specs.Agree.{sides_of}
-use Rattle.gfx_planner.specs.Passes.{ended_by, sends_tiles, passes_as}
+use Rattle.gfx_planner.specs.Bitmaps.{sides_kept}
+use Rattle.gfx_planner.specs.TileSteps.{sends_tiles}
+use Rattle.gfx_planner.specs.Passes.{ended_by, passes_as}
 use Rattle.gfx_planner.specs.Tiles.{HoldsLive, HoldsTiles, IsCellOf}
-use Rattle.gfx_planner.specs.Want.{sides_kept}
-use Rattle.gfx_planner.specs.Wire.{Server, passes_by}
+use Rattle.gfx_planner.specs.Server.{Server}
+use Rattle.gfx_planner.specs.After.{passes_by}
+use Rattle.gfx_planner.specs.Holds.{sides_of}
 use Rattle.gfx_script.specs.Ways.{goes_by}
 use Rattle.gfx_planner.proofs.Ways.{live_left}
 use Rattle.gfx_planner.proofs.Seen.{KeepsTiles}

@@ -17,8 +17,8 @@ use Rattle.gfx_prog_encode.specs.declared.send.TileSend.{TileSend}
 use Rattle.gfx_quant.specs.declared.setting.Setting.{Setting}
 use Rattle.gfx_surface.specs.Picture.{Picture}
 use Rattle.gfx_surface_map.specs.Surfaces.{Surfaces}
-use Rattle.gfx_planner.specs.Agree.{sides_of}
 use Rattle.gfx_planner.specs.Tiles.{HoldsTiles, IsCellOf}
+use Rattle.gfx_planner.specs.Holds.{sides_of}
 use Rattle.gfx_planner.proofs.Held.{sides-stay}
 use Rattle.gfx_planner.proofs.TilesAccepted.{surface_elsewhere, surface_here}
 

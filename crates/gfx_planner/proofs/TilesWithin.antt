@@ -17,9 +17,12 @@ use Rattle.gfx_script.specs.Checks.{Held}
 use Rattle.gfx_script.specs.Scripted.{Script}
 use Rattle.gfx_script.specs.Writes.{area, everywhere, place_of}
 use Rattle.gfx_script.specs.declared.picture.Picture.{Picture as Source}
-use Rattle.gfx_planner.specs.Agree.{Agree, Holds, sides_of}
-use Rattle.gfx_planner.specs.Want.{Wanted, drawn_on, with_improved, with_tiles}
-use Rattle.gfx_planner.specs.Wire.{Server}
+use Rattle.gfx_planner.specs.Wanted.{Wanted}
+use Rattle.gfx_planner.specs.SurfaceEffects.{drawn_on}
+use Rattle.gfx_planner.specs.TileEffects.{with_improved, with_tiles}
+use Rattle.gfx_planner.specs.Server.{Server}
+use Rattle.gfx_planner.specs.Agree.{Agree}
+use Rattle.gfx_planner.specs.Holds.{Holds, sides_of}
 use Rattle.gfx_planner.specs.Within.{ChangesWithin}
 use Rattle.gfx_planner.proofs.Alike.{AlikeAt, never, within_drawn, within_insert, within_same}
 

@@ -24,8 +24,12 @@ use Rattle.gfx_surface_map.specs.Surfaces.{Surfaces}
 use Rattle.gfx_video_paint.proofs.Cover.{placed-some}
 use Rattle.gfx_video_paint.specs.Inside.{HasSome}
 use Rattle.gfx_video_paint.specs.Video.{video_payloads, videos_after}
-use Rattle.gfx_planner.specs.Passes.{counted_in, ended_by, goes_as_video, passes_as}
-use Rattle.gfx_planner.specs.Wire.{CanBeSent, made, made_as, mode_of, painting_as_video, video_message}
+use Rattle.gfx_planner.specs.TileSteps.{goes_as_video}
+use Rattle.gfx_planner.specs.Passes.{counted_in, ended_by, passes_as}
+use Rattle.gfx_planner.specs.Made.{made}
+use Rattle.gfx_planner.specs.VideoMessages.{mode_of, painting_as_video, video_message}
+use Rattle.gfx_planner.specs.StepMessages.{made_as}
+use Rattle.gfx_planner.specs.CanSend.{CanBeSent}
 use Rattle.gfx_planner.proofs.Payloads.{sides}
 use Rattle.gfx_planner.proofs.Ways.{live_as_video, made_as_video}
 

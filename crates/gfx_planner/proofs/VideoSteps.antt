@@ -33,8 +33,8 @@ use Rattle.gfx_tile_make.specs.Levels.{direct_pixel}
 use Rattle.gfx_video_paint.proofs.Cover.{shown-height, shown-width}
 use Rattle.gfx_video_paint.specs.Shown.{shown_as_video}
 use Rattle.gfx_video_paint.specs.Video.{video_tiles}
-use Rattle.gfx_planner.specs.Agree.{sides_of}
-use Rattle.gfx_planner.specs.Wire.{video_message}
+use Rattle.gfx_planner.specs.VideoMessages.{video_message}
+use Rattle.gfx_planner.specs.Holds.{sides_of}
 use Rattle.gfx_planner.proofs.Alike.{AlikeAt, alike_both, alike_same, outside_drawn}
 use Rattle.gfx_planner.proofs.Carried.{carried-wire}
 use Rattle.gfx_planner.proofs.Paints.{format_back}

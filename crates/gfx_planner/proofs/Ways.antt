@@ -13,9 +13,17 @@ use Rattle.gfx_script.specs.Scripted.{Script}
 use Rattle.gfx_script.specs.Writes.{Area}
 use Rattle.gfx_slot_plan.specs.Plan.{Plan}
 use Rattle.gfx_state.specs.State.{State}
-use Rattle.gfx_planner.specs.Passes.{counted_in, ended_by, goes_as_video, goes_in_passes, live_after, painted_passes}
-use Rattle.gfx_planner.specs.Want.{Wanted, opaque_in, pixels_in, with_painting, with_pixels, with_tiles}
-use Rattle.gfx_planner.specs.Wire.{alone, paint_made, painting, painting_as_video, painting_in_passes}
+use Rattle.gfx_planner.specs.Pixels.{opaque_in, pixels_in}
+use Rattle.gfx_planner.specs.TileSteps.{goes_as_video, goes_in_passes}
+use Rattle.gfx_planner.specs.Passes.{counted_in, ended_by, live_after, painted_passes}
+use Rattle.gfx_planner.specs.Wanted.{Wanted}
+use Rattle.gfx_planner.specs.TileEffects.{with_tiles}
+use Rattle.gfx_planner.specs.PaintEffects.{with_painting, with_pixels}
+use Rattle.gfx_planner.specs.Made.{alone}
+use Rattle.gfx_planner.specs.PaintMessages.{painting}
+use Rattle.gfx_planner.specs.TileMessages.{painting_in_passes}
+use Rattle.gfx_planner.specs.VideoMessages.{painting_as_video}
+use Rattle.gfx_planner.specs.StepMessages.{paint_made}
 
 -- the layer of what goes whole
 abbrev pub layer_in : Way → Option Layer

@@ -9,10 +9,17 @@ use Rattle.gfx_script.specs.declared.step.Step.{Step}
 use Rattle.gfx_slot_plan.specs.Plan.{Plan}
 use Rattle.gfx_state.specs.State.{State}
 use Rattle.gfx_state.specs.Sending.{all_steps, IsCarried}
-use Rattle.gfx_planner.specs.Agree.{Agree, Holds}
-use Rattle.gfx_planner.specs.Passes.{sends_tiles, passes_as}
-use Rattle.gfx_planner.specs.Want.{Wanted, passes_wanted, sides_kept, wanted_after}
-use Rattle.gfx_planner.specs.Wire.{Server, Made, made_by, passes_by}
+use Rattle.gfx_planner.specs.Bitmaps.{sides_kept}
+use Rattle.gfx_planner.specs.TileSteps.{sends_tiles}
+use Rattle.gfx_planner.specs.Passes.{passes_as}
+use Rattle.gfx_planner.specs.Wanted.{Wanted}
+use Rattle.gfx_planner.specs.Want.{passes_wanted, wanted_after}
+use Rattle.gfx_planner.specs.Server.{Server}
+use Rattle.gfx_planner.specs.Made.{Made}
+use Rattle.gfx_planner.specs.Wire.{made_by}
+use Rattle.gfx_planner.specs.After.{passes_by}
+use Rattle.gfx_planner.specs.Agree.{Agree}
+use Rattle.gfx_planner.specs.Holds.{Holds}
 use Rattle.gfx_planner.proofs.Seen.{agree-seen}
 use Rattle.gfx_planner.proofs.SurfaceSteps.{Fine}
 use Rattle.gfx_planner.proofs.TilesFollow.{number-stays, tiles-follow}

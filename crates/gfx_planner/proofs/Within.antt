@@ -29,14 +29,20 @@ use Rattle.gfx_surface.specs.Picture.{Picture, shade, in_rect, filled, copied, o
 use Rattle.gfx_surface.proofs.PictureLemmas.{filled-width, filled-height, copied-width, copied-height, overlaid-width, overlaid-height}
 use Rattle.gfx_surface_map.specs.Shown.{copied_to, stamped}
 use Rattle.gfx_surface_map.specs.Surfaces.{painted}
-use Rattle.gfx_planner.specs.Agree.{Agree, Holds}
-use Rattle.gfx_planner.specs.Slots.{sides_in}
+use Rattle.gfx_planner.specs.Bitmaps.{sides_in, bitmap_in, sides_kept}
+use Rattle.gfx_planner.specs.Pixels.{opaque_in, pixels_in}
+use Rattle.gfx_planner.specs.Wanted.{Wanted}
+use Rattle.gfx_planner.specs.SurfaceEffects.{drawing, with_copy}
+use Rattle.gfx_planner.specs.BitmapEffects.{with_bitmap, with_stamps}
+use Rattle.gfx_planner.specs.PaintEffects.{with_painting, with_pixels, with_video}
+use Rattle.gfx_planner.specs.Want.{wanted_as}
+use Rattle.gfx_planner.specs.Server.{Server}
+use Rattle.gfx_planner.specs.Agree.{Agree}
+use Rattle.gfx_planner.specs.Holds.{Holds}
+use Rattle.gfx_planner.specs.Within.{ChangesWithin, StepsWriteWithin}
 use Rattle.gfx_script.specs.Ways.{goes_by}
 use Rattle.gfx_script.specs.declared.way.Way.{Way}
 use Rattle.gfx_script.specs.declared.way.Way.TheVariants.{Uncompressed, ByLayer, InPasses, Video}
-use Rattle.gfx_planner.specs.Want.{Wanted, drawing, with_bitmap, with_copy, opaque_in, pixels_in, with_painting, with_pixels, with_stamps, bitmap_in, sides_kept, wanted_as, with_video}
-use Rattle.gfx_planner.specs.Wire.{Server}
-use Rattle.gfx_planner.specs.Within.{ChangesWithin, StepsWriteWithin}
 use Rattle.gfx_planner.proofs.Alike.{AlikeAt, AreBeside, alike_both, alike_same, never, outside_drawn, within_drawn, within_insert, within_remove, within_same}
 use Rattle.gfx_planner.proofs.TilesWithin.{within_improved, within_tiles}
 use Rattle.gfx_planner.proofs.Slots.{fits_cache-shows, sides_fit-shows}

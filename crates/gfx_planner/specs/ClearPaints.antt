@@ -1,4 +1,5 @@
--- Paints that go by ClearCodec: what a step asks for, and when it can be sent. This project's own rule.
+-- A paint by ClearCodec, as the planner's own functions take it: they write its stream and draw it at once. No public
+-- contract names it. This project's own rule.
 use Rattle.std.specs.Prelude.{Bool, ◌≡◌, ℕ, true, List, Option, Some, None}
 use Rattle.std.specs.FinMap.{get}
 use Rattle.std.specs.List.{slice_get}
@@ -26,10 +27,10 @@ use Rattle.gfx_script.specs.declared.way.Way.TheVariants as ways
 use Rattle.gfx_state.specs.Sending.{IsCarried}
 use Rattle.gfx_state.specs.State.{State}
 use Rattle.gfx_surface.specs.Picture.{Picture}
-use Rattle.gfx_planner.specs.Want.{colours_in}
-use Rattle.gfx_planner.specs.Wire.{paint_message}
+use Rattle.gfx_planner.specs.Pixels.{colours_in}
+use Rattle.gfx_planner.specs.PaintMessages.{paint_message}
 
--- a paint by ClearCodec, where a picture goes by a layer
+-- a picture that goes by a layer of ClearCodec is such a paint; in each other way it is none
 abbrev pub clear_paint_by : Option Way → ℕ → ℕ → Point → Option ℕ → Option ClearPaint
 clear_paint_by None id picture at glyph = None
 clear_paint_by (Some ways.Uncompressed) id picture at glyph = None
@@ -37,18 +38,19 @@ clear_paint_by (Some (ways.ByLayer layer)) id picture at glyph = Some record { i
 clear_paint_by (Some ways.InPasses) id picture at glyph = None
 clear_paint_by (Some ways.Video) id picture at glyph = None
 
--- the same of a step that goes as a kind
-abbrev pub clear_paint_of : Bool → Step → Option Kind → Option ClearPaint
-clear_paint_of thin (Paint id picture at named glyph) kind = clear_paint_by (goes_by thin kind) id picture at glyph
-clear_paint_of thin step kind = None
+-- the same of a step that goes as a kind. The first argument: the client is thin
+abbrev pub clear_paint_of : Bool → Option Kind → Step → Option ClearPaint
+clear_paint_of thin kind (Paint id picture at named glyph) = clear_paint_by (goes_by thin kind) id picture at glyph
+clear_paint_of thin kind step = None
 
--- the message that paints colours in a rectangle of a surface by a layer
+-- the message that paints colours in a rectangle of a surface by a layer, in a stream that goes on from those before it
+-- ([MS-RDPEGFX] 2.2.2.1 and 2.2.4.1)
 abbrev pub clear_message : State → ℕ → Format → Rect → List Rgb → Layer → Option ℕ → Pdu
 clear_message state id format rect pixels layer glyph =
     WireToSurface1 id CLEAR_CODEC (byte_of format) rect (stream_sent state.clear layer glyph (width_of rect) (height_of rect) pixels).bytes
 
--- it can be sent: the surface and the picture are there, the picture lies on the surface, and its message fits a
--- channel message
+-- such a paint can be sent: its surface and its picture are there, the picture lies on the surface and has sides and a
+-- glyph that ClearCodec allows, and its message fits a channel message
 pub record MayPaintClear (script : Script) (state : State) (paint : ClearPaint) : Type 0 where
   pub surface : Picture
   pub there : get state.shown.surfaces paint.id ≡ Some surface

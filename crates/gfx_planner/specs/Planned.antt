@@ -1,33 +1,28 @@
--- What a planner is seen as, and what its calls do.
-use Rattle.std.specs.Prelude.{◌≡◌, refl, ℕ, Bool, true, false, List, ◌++◌, Result, Ok, Err, IsOk, Option, Some, None}
+-- What a planner is seen as, the server's end and whether memory ran out, and what its calls answer: this project's own
+-- rule.
+use Rattle.std.specs.Prelude.{◌≡◌, ℕ, Bool, true, false, List, ◌++◌, Result, Ok, Err, IsOk, Option, Some, None}
 use Rattle.std.specs.List.{AllByRecursion}
-use Rattle.std.specs.Coded.{Coded, code_by, coded×, coded_ℕ, coded_bool}
 use Rattle.gfx_base.specs.declared.answer.NoMemory.{NoMemory}
-use Rattle.gfx_prog_live.specs.Codes.{passes_code}
-use Rattle.gfx_prog_live.specs.Live.{Passes}
 use Rattle.gfx_pdu.specs.declared.pdu.Pdu.{Pdu}
 use Rattle.gfx_script.specs.Checks.{Held, held_after}
 use Rattle.gfx_script.specs.Kinds.{KindedStep}
 use Rattle.gfx_script.specs.Scripted.{Script}
-use Rattle.gfx_slot_plan.specs.Codes.{plan_code}
 use Rattle.gfx_slot_plan.specs.Plan.{Plan}
-use Rattle.gfx_state.specs.Codes.{state_code}
 use Rattle.gfx_state.specs.State.{State}
 use Rattle.gfx_state.specs.Sending.{all_steps, sent, IsCarried}
-use Rattle.gfx_planner.specs.Agree.{Agree, Holds}
-use Rattle.gfx_planner.specs.Want.{Wanted, wanted_after}
-use Rattle.gfx_planner.specs.Wire.{Server, Made, made, made_by, messages, after_put}
+use Rattle.gfx_planner.specs.Wanted.{Wanted}
+use Rattle.gfx_planner.specs.Want.{wanted_after}
+use Rattle.gfx_planner.specs.Server.{Server}
+use Rattle.gfx_planner.specs.Made.{Made, made}
+use Rattle.gfx_planner.specs.Wire.{made_by, messages}
+use Rattle.gfx_planner.specs.After.{after_put}
+use Rattle.gfx_planner.specs.Agree.{Agree}
+use Rattle.gfx_planner.specs.Holds.{Holds}
 
 -- the server's end, and whether memory ran out: such a planner is spent
 pub record Planned : Type 0 where
   pub server : Server
   pub spent : Bool
-
-abbrev pub planned_code : Coded Planned
-planned_code =
-    code_by (State × (Plan × (Passes × (ℕ × Bool)))) (coded× state_code (coded× plan_code (coded× passes_code (coded× coded_ℕ coded_bool))))
-    (λ p. (p.server.state, (p.server.plan, (p.server.passes, (p.server.frames, p.spent)))))
-    (λ t. record { server = record { state = t.0; plan = t.1.0; passes = t.1.1.0; frames = t.1.1.1.0 }; spent = t.1.1.1.1 }) (λ _. refl)
 
 -- a planner that goes on from here
 abbrev pub ready : Server → Planned

@@ -1,4 +1,4 @@
--- What the stream of a script comes to: this project's own promise.
+-- What the stream of a script comes to, at a client that takes it: this project's own promise.
 use Rattle.std.specs.Prelude.{◌≡◌, ℕ, List, ◌++◌}
 use Rattle.gfx_script.specs.Kinds.{KindedStep, Fits}
 use Rattle.gfx_script.specs.Script.{IsAccepted}
@@ -12,9 +12,9 @@ use Rattle.gfx_planner.specs.Stream.{stream, end_after, stream_of}
 use Rattle.gfx_planner.specs.Tiles.{HoldsLive}
 use Rattle.gfx_planner.specs.Want.{want}
 
--- the stream of these steps is refused nowhere by a client, whom the large limits bind; its run stands
--- between two channel messages, at a state that is the same as that of the server's end and shows what the
--- steps want. The server's end shows and holds what they want, and both have the records of the tiles that may be raised
+-- a client, whom the large limits on bitmaps bind, takes the whole stream of these steps, and stands behind it between
+-- two channel messages. Its state is the same as that of the server's end, and shows what the steps want; the server's
+-- end shows and holds what they want; and both have the record of each live tile
 pub record Shows (script : Script) (steps : List KindedStep) : Type 0 where
   pub applied : ℕ
   pub client : State
@@ -25,8 +25,8 @@ pub record Shows (script : Script) (steps : List KindedStep) : Type 0 where
   pub tiles : HoldsLive (want script steps).passes.live (end_after script steps).state.records
   pub client_tiles : HoldsLive (want script steps).passes.live client.records
 
--- so for each front of an accepted script, whatever kinds its steps go as that they may go as, up to a frame
--- as up to any other step; and the stream of the whole goes on from that of the front
+-- so it is with each front of an accepted script, whatever kinds its steps go as that they may go as, up to a frame as up
+-- to any other step; and the stream of the whole goes on from that of the front
 abbrev pub ScriptsAreShown : Type 0
 ScriptsAreShown =
     (script : Script) (front rest : List KindedStep) → IsAccepted script → Fits (front ++ rest) script.steps

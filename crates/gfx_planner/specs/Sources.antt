@@ -15,7 +15,8 @@ use Rattle.gfx_script.specs.Patterns.{pixel_of}
 use Rattle.gfx_script.specs.Scripted.{Script}
 use Rattle.gfx_script.specs.Ways.{is_stream, way_of}
 use Rattle.gfx_script.specs.Writes.{place_of}
-use Rattle.gfx_planner.specs.Want.{Wanted, wanted_after}
+use Rattle.gfx_planner.specs.Wanted.{Wanted}
+use Rattle.gfx_planner.specs.Want.{wanted_after}
 
 -- a surface shows a picture at a place: each of its pixels in its blue, green and red, and opaque
 pub record ShowsSource (surfaces : Surfaces) (id : ℕ) (source : Source) (at : Point) : Type 0 where

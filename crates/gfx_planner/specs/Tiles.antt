@@ -1,4 +1,5 @@
--- When the live tiles of a server's end agree with its records: this project's own rule.
+-- When the live tiles of a server's end agree with the records of its state, so that an improvement of them is accepted:
+-- this project's own rule.
 use Rattle.std.specs.Prelude.{◌≡◌, ℕ, true, Option, Some, None}
 use Rattle.std.specs.FinMap.{contains_key, get}
 use Rattle.gfx_prog_live.specs.Live.{Live}

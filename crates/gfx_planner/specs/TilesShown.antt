@@ -10,7 +10,8 @@ use Rattle.gfx_script.specs.Script.{IsAccepted}
 use Rattle.gfx_script.specs.Scripted.{Script}
 use Rattle.gfx_surface.specs.Picture.{Picture, pixel_at}
 use Rattle.gfx_tile_make.specs.Levels.{direct_pixel, shown_at}
-use Rattle.gfx_planner.specs.Want.{Wanted, want}
+use Rattle.gfx_planner.specs.Wanted.{Wanted}
+use Rattle.gfx_planner.specs.Want.{want}
 
 -- a live tile, and a pixel of its surface that it paints
 pub record IsPixelOf (wanted : Wanted) (key : Key) (send : TileSend) (picture : Picture) (x y : ℕ) : Type 0 where

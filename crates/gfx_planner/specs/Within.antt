@@ -9,9 +9,11 @@ use Rattle.gfx_script.specs.Checks.{Held}
 use Rattle.gfx_script.specs.Kinds.{KindedStep}
 use Rattle.gfx_script.specs.Scripted.{Script}
 use Rattle.gfx_script.specs.Writes.{Area, writes, writes_plainly}
-use Rattle.gfx_planner.specs.Agree.{Agree, Holds}
-use Rattle.gfx_planner.specs.Want.{Wanted, wanted_after}
-use Rattle.gfx_planner.specs.Wire.{Server}
+use Rattle.gfx_planner.specs.Wanted.{Wanted}
+use Rattle.gfx_planner.specs.Want.{wanted_after}
+use Rattle.gfx_planner.specs.Server.{Server}
+use Rattle.gfx_planner.specs.Agree.{Agree}
+use Rattle.gfx_planner.specs.Holds.{Holds}
 
 -- a pixel of a surface lies outside an area, which may be none
 abbrev pub IsOutside : Option Area → ℕ → ℕ → ℕ → Type 0

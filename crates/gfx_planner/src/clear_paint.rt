@@ -19,7 +19,7 @@ pub struct ClearPaint {
 
 /// The paint by ClearCodec that a step is which goes as a kind, if it is one. A client may be thin.
 pub(crate) fn clear_paint(step: &Step, kind: Option<Kind>, thin: bool) -> Option<ClearPaint>
-    ensures { result ≡ clear_paint_of thin step.now kind }
+    ensures { result ≡ clear_paint_of thin kind step.now }
 {
     let (
         Step::Paint {

@@ -1,8 +1,8 @@
-ghost use Rattle.gfx_planner.specs.Joined.{JoinedFramesAreShown};
+ghost use Rattle.gfx_planner.specs.JoinedShown.{JoinedFramesAreShown};
 ghost use Rattle.gfx_planner.specs.Shows.{ScriptsAreShown};
+ghost use Rattle.gfx_planner.specs.Within.{StepsWriteWithin};
 ghost use Rattle.gfx_planner.specs.Sources.{ClearPaintsShowTheirSource};
 ghost use Rattle.gfx_planner.specs.TilesShown.{LiveTilesAreShown};
-ghost use Rattle.gfx_planner.specs.Within.{StepsWriteWithin};
 
 /// The stream of an accepted script is accepted whole, and after each of its steps, its frames among
 /// them, the state is the planner's own and shows what the script wants.

@@ -4,14 +4,18 @@ ghost use Rattle.std.specs.FinMap.{get};
 ghost use Rattle.std.specs.List.{slice_get};
 ghost use Rattle.gfx_base.specs.Format.{byte_of};
 ghost use Rattle.gfx_base.specs.Geometry.{width_of, height_of};
-ghost use Rattle.gfx_prog_live.specs.Live.{at_start};
+ghost use Rattle.gfx_prog_live.specs.Live.{at_start as no_passes};
 ghost use Rattle.gfx_slot_plan.specs.Plan.{keeps, slot_of, touched, forgotten};
 ghost use Rattle.gfx_script.specs.Script.{IsStep};
 ghost use Rattle.gfx_state.specs.Sending.{IsCarried};
 ghost use Rattle.gfx_pdu.specs.declared.pdu.Pdu.TheVariants.{CreateSurface, SolidFill, SurfaceToSurface, ResetGraphics, MapSurfaceToOutput, EvictCacheEntry};
+ghost use Rattle.gfx_planner.specs.TileSteps.{is_video_paint, sends_tiles};
+ghost use Rattle.gfx_planner.specs.Made.{made};
+ghost use Rattle.gfx_planner.specs.BitmapMessages.{keeping, showing_slot, emptying};
+ghost use Rattle.gfx_planner.specs.PaintMessages.{painting};
+ghost use Rattle.gfx_planner.specs.StepMessages.{made_as, one_monitor};
+ghost use Rattle.gfx_planner.specs.CanSend.{CanBeSent};
 ghost use Rattle.gfx_planner.specs.ClearPaints.{clear_paint_of};
-ghost use Rattle.gfx_planner.specs.Passes.{is_video_paint, sends_tiles};
-ghost use Rattle.gfx_planner.specs.Wire.{CanBeSent, made, made_as, one_monitor, painting, keeping, showing_slot, emptying};
 
 use crate::paint::raw_payload;
 use gfx_base::{Fault, Format, NoMemory, Pixel, Point, Points, Rect, Rects};
@@ -27,7 +31,7 @@ pub const PRIMARY: u32 = 1;
 
 /// The messages of a step that goes as a kind other than those of ClearCodec, and neither in passes nor as video, in the
 /// state before it. The choice of slots goes on by the step.
-#[tactic(auto, unfolding(crate::specs::Wire::made_as))]
+#[tactic(auto, unfolding(crate::specs::StepMessages::made_as))]
 pub(crate) fn step_messages(
     alloc: Global,
     script: &Script,
@@ -37,11 +41,11 @@ pub(crate) fn step_messages(
     kind: Option<Kind>,
 ) -> Result<Vec<Pdu>, NoMemory>
     requires numbers { IsStep step.now }
-    requires possible { CanBeSent (made_as script.now state.now at_start plan.old kind step.now) }
-    requires messages { clear_paint_of script.now.thin step.now kind ≡ None }
+    requires possible { CanBeSent (made_as script.now state.now no_passes plan.old kind step.now) }
+    requires messages { clear_paint_of script.now.thin kind step.now ≡ None }
     requires apart { sends_tiles script.now.thin kind step.now ≡ false }
     requires still { is_video_paint script.now.thin kind step.now ≡ false }
-    ensures { IfOk result (λ pdus. made_as script.now state.now at_start plan.old kind step.now ≡ made pdus.items plan.new) }
+    ensures { IfOk result (λ pdus. made_as script.now state.now no_passes plan.old kind step.now ≡ made pdus.items plan.new) }
 {
     match step {
         Step::Surface {
@@ -168,7 +172,7 @@ fn copy_rect(
 }
 
 /// Keeps a rectangle of a surface as the bitmap of a key. Slots that go for it are emptied first.
-#[tactic(auto, unfolding(crate::specs::Wire::keeping))]
+#[tactic(auto, unfolding(crate::specs::BitmapMessages::keeping))]
 fn keep_rect(
     alloc: Global,
     plan: &mut SlotPlan,
@@ -205,7 +209,7 @@ fn empty_slots(alloc: Global, slots: &[u16]) -> Result<Vec<Pdu>, NoMemory>
 }
 
 /// Puts the bitmap of a key at points of a surface.
-#[tactic(auto, unfolding(crate::specs::Wire::showing_slot))]
+#[tactic(auto, unfolding(crate::specs::BitmapMessages::showing_slot))]
 fn show_key(
     alloc: Global,
     plan: &mut SlotPlan,
@@ -230,7 +234,7 @@ fn show_key(
 }
 
 /// Holds the bitmap of a key no more.
-#[tactic(auto, unfolding(crate::specs::Wire::emptying))]
+#[tactic(auto, unfolding(crate::specs::BitmapMessages::emptying))]
 fn forget_key(plan: &mut SlotPlan, key: u64) -> Pdu
     requires { IsSome (slot_of key plan.old.places) }
     ensures pdu { emptying (slot_of key plan.old.places) ≡ Some result }

@@ -1,8 +1,8 @@
 //! The data of paints.
 ghost use Rattle.std.specs.Prelude.{◌≡◌, ℕ, ◌<◌, ◌+◌, ◌*◌, ◌∷◌, [], ◌++◌, IfSome, IfOk, Some, OnOk, option_map};
 ghost use Rattle.std.specs.List.{slice_get};
-ghost use Rattle.gfx_planner.specs.Want.{pixels_in, colours_in};
-ghost use Rattle.gfx_planner.specs.Wire.{raw_bytes};
+ghost use Rattle.gfx_planner.specs.Pixels.{pixels_in, colours_in};
+ghost use Rattle.gfx_planner.specs.PaintMessages.{raw_bytes};
 
 use gfx_base::{Bytes, NoMemory, Pixel, Rgb};
 use gfx_script::Script;

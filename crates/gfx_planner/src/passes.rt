@@ -10,10 +10,14 @@ ghost use Rattle.gfx_script.specs.declared.step.Kind.{Kind};
 ghost use Rattle.gfx_script.specs.Ways.{goes_by};
 ghost use Rattle.gfx_script.specs.Writes.{area, at_each, place_of};
 ghost use Rattle.gfx_slot_plan.specs.Plan.{Plan};
-ghost use Rattle.gfx_planner.specs.Passes.{FitsAt, MayGoAsTiles, ended_by, goes_in_passes, improved_passes, is_video_paint, painted_passes, passes_as, sends_tiles};
+ghost use Rattle.gfx_planner.specs.Bitmaps.{sides_kept};
 ghost use Rattle.gfx_planner.specs.Slots.{PlanFitsCache};
-ghost use Rattle.gfx_planner.specs.Want.{sides_kept};
-ghost use Rattle.gfx_planner.specs.Wire.{CanBeSent, improving, made, made_as, painting_in_passes, passes_message};
+ghost use Rattle.gfx_planner.specs.TileSteps.{goes_in_passes, is_video_paint, sends_tiles};
+ghost use Rattle.gfx_planner.specs.Passes.{ended_by, improved_passes, painted_passes, passes_as};
+ghost use Rattle.gfx_planner.specs.Made.{made};
+ghost use Rattle.gfx_planner.specs.TileMessages.{improving, painting_in_passes, passes_message};
+ghost use Rattle.gfx_planner.specs.StepMessages.{made_as};
+ghost use Rattle.gfx_planner.specs.CanSend.{FitsAt, MayGoAsTiles, CanBeSent};
 
 use gfx_base::{Bytes, Format, NoMemory, Point, Rect, moved_to};
 use gfx_pdu::{PROGRESSIVE, Pdu};

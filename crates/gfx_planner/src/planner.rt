@@ -1,9 +1,11 @@
 ghost use Rattle.std.specs.Prelude.{◌≡◌, ◌<◌, ◌+◌, [], ◌∷◌, IfOk, OnOk, OnErr, None, true, false};
 ghost use Rattle.std.specs.Option.{is_some};
 ghost use Rattle.gfx_import.specs.Imported.{imported};
-ghost use Rattle.gfx_planner.specs.Agree.{IsAllowedStep, IsInFrame, kinded_at};
+ghost use Rattle.gfx_planner.specs.Server.{at_start, server_with};
+ghost use Rattle.gfx_planner.specs.Wire.{frame_start, frame_end};
+ghost use Rattle.gfx_planner.specs.After.{after_open, after_close};
+ghost use Rattle.gfx_planner.specs.Allowed.{IsAllowedStep, IsInFrame, kinded_at};
 ghost use Rattle.gfx_planner.specs.Planned.{ready, Sends, PutsStep};
-ghost use Rattle.gfx_planner.specs.Wire.{at_start, server_with, frame_start, frame_end, after_open, after_close};
 
 use crate::importing::keep_imported;
 use crate::sender::Sender;
@@ -36,7 +38,8 @@ pub struct Planner {
 }
 
 impl Model for Planner {
-    ghost use Rattle.gfx_planner.specs.Planned.{Planned, planned_code};
+    ghost use Rattle.gfx_planner.specs.Planned.{Planned};
+    ghost use Rattle.gfx_planner.specs.Codes.{planned_code};
 
     ghost Value = { Planned };
 

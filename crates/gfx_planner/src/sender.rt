@@ -14,8 +14,8 @@ ghost use Rattle.gfx_planner.specs.ClearPaints.{clear_message};
 use gfx_base::{Bytes, Fault, NoMemory, Rect, Rgb};
 use gfx_bitmap_cache::Cache;
 use gfx_clear::Layer;
-use gfx_pdu::{Codec, Pdu, write_pdu};
-use gfx_segment::wrap;
+use gfx_pdu::{Codec, Pdu, write_front};
+use gfx_segment::wrap_joined;
 use gfx_state::State;
 use std::alloc::Global;
 use std::marker::Model;
@@ -25,7 +25,8 @@ use std::marker::Model;
 pub struct Sender {
     alloc: Global,
     state: State,
-    payload: Bytes,
+    /// The message that is put out, all but its data.
+    front: Bytes,
 }
 
 impl Model for Sender {
@@ -48,7 +49,7 @@ impl Sender {
         Ok(Sender {
             alloc,
             state,
-            payload: Bytes::new(alloc),
+            front: Bytes::new(alloc),
         })
     }
 
@@ -123,15 +124,16 @@ impl Sender {
         self.put_out(&pdu, out)
     }
 
-    /// Puts out a message in a channel message of its own. The state stays as it is.
+    /// Puts out a message in a channel message of its own; its data are copied once, from where they lie. The
+    /// state stays as it is.
     fn put_out(&mut self, pdu: &Pdu, out: &mut Bytes) -> Result<(), NoMemory>
         requires { IsCarried pdu.now }
         ensures state { self.new ≡ self.old }
         ensures ok { OnOk result (out.new ≡ out.old ++ wrapped (spelling pdu.now)) }
         ensures err { OnErr result (out.new ≡ out.old) }
     {
-        self.payload.truncate(0);
-        write_pdu(pdu, &mut self.payload)?;
-        wrap(self.payload.as_slice(), out)
+        self.front.truncate(0);
+        let lent = write_front(pdu, &mut self.front)?;
+        wrap_joined(self.front.as_slice(), lent, out)
     }
 }

@@ -3,14 +3,17 @@
 ghost use Rattle.std.specs.Prelude.{◌≡◌, ◌∷◌, [], IfSome, OnOk, false, true};
 ghost use Rattle.std.specs.FinMap.{get};
 ghost use Rattle.std.specs.List.{slice_get};
-ghost use Rattle.gfx_prog_live.specs.Live.{at_start};
+ghost use Rattle.gfx_prog_live.specs.Live.{at_start as no_passes};
 ghost use Rattle.gfx_script.specs.Script.{IsStep};
-ghost use Rattle.gfx_planner.specs.ClearPaints.{MayPaintClear, clear_paint_of};
-ghost use Rattle.gfx_planner.specs.Passes.{FitsAt, MayGoAsTiles, is_video_paint, sends_tiles, passes_as};
-ghost use Rattle.gfx_planner.specs.Planned.{MaySend, SendsMade, SendsMessages};
+ghost use Rattle.gfx_planner.specs.Bitmaps.{sides_kept};
 ghost use Rattle.gfx_planner.specs.Slots.{PlanFitsCache};
-ghost use Rattle.gfx_planner.specs.Want.{sides_kept};
-ghost use Rattle.gfx_planner.specs.Wire.{CanBeSent, made_as, paint_message};
+ghost use Rattle.gfx_planner.specs.TileSteps.{is_video_paint, sends_tiles};
+ghost use Rattle.gfx_planner.specs.Passes.{passes_as};
+ghost use Rattle.gfx_planner.specs.PaintMessages.{paint_message};
+ghost use Rattle.gfx_planner.specs.StepMessages.{made_as};
+ghost use Rattle.gfx_planner.specs.CanSend.{FitsAt, MayGoAsTiles, CanBeSent};
+ghost use Rattle.gfx_planner.specs.ClearPaints.{MayPaintClear, clear_paint_of};
+ghost use Rattle.gfx_planner.specs.Planned.{MaySend, SendsMade, SendsMessages};
 
 use crate::clear_paint::{ClearPaint, clear_paint};
 use crate::messages::step_messages;
@@ -39,7 +42,7 @@ pub(crate) fn send_step(
     requires numbers { IsStep step.now }
     requires possible { CanBeSent (made_as script.now sender.old passes.old plan.old kind step.now) }
     requires accepted { IfSome (made_as script.now sender.old passes.old plan.old kind step.now) (λ into. MaySend sender.old into.pdus) }
-    requires paint { IfSome (clear_paint_of script.now.thin step.now kind) (MayPaintClear script.now sender.old) }
+    requires paint { IfSome (clear_paint_of script.now.thin kind step.now) (MayPaintClear script.now sender.old) }
     requires tiles { MayGoAsTiles script.now passes.old step.now }
     requires plan { PlanFitsCache plan.old sender.old.cache }
     requires fits { sends_tiles script.now.thin kind step.now ≡ false → FitsAt script.now (sides_kept plan.old sender.old.cache.slots) step.now }
@@ -113,10 +116,10 @@ fn send_apart(
     requires numbers { IsStep step.now }
     requires apart { sends_tiles script.now.thin kind step.now ≡ false }
     requires still { is_video_paint script.now.thin kind step.now ≡ false }
-    requires possible { CanBeSent (made_as script.now sender.old at_start plan.old kind step.now) }
-    requires accepted { IfSome (made_as script.now sender.old at_start plan.old kind step.now) (λ into. MaySend sender.old into.pdus) }
-    requires paint { IfSome (clear_paint_of script.now.thin step.now kind) (MayPaintClear script.now sender.old) }
-    ensures { SendsMade result sender.old sender.new plan.new out.old out.new (made_as script.now sender.old at_start plan.old kind step.now) }
+    requires possible { CanBeSent (made_as script.now sender.old no_passes plan.old kind step.now) }
+    requires accepted { IfSome (made_as script.now sender.old no_passes plan.old kind step.now) (λ into. MaySend sender.old into.pdus) }
+    requires paint { IfSome (clear_paint_of script.now.thin kind step.now) (MayPaintClear script.now sender.old) }
+    ensures { SendsMade result sender.old sender.new plan.new out.old out.new (made_as script.now sender.old no_passes plan.old kind step.now) }
 {
     match clear_paint(step, kind, script.thin()) {
         Some(paint) => send_paint(alloc, sender, script, &paint, out),

@@ -1,6 +1,6 @@
 //! Steps one after another, each frame of the script as one frame on the wire.
 ghost use Rattle.std.specs.Prelude.{◌≡◌, ◌<◌, false};
-ghost use Rattle.gfx_planner.specs.Agree.{IsAllowedStep, IsInFrame, KeepsFrame, kinded_at};
+ghost use Rattle.gfx_planner.specs.Allowed.{IsAllowedStep, IsInFrame, KeepsFrame, kinded_at};
 ghost use Rattle.gfx_planner.specs.Planned.{SendsOn};
 ghost use Rattle.gfx_planner.specs.Stream.{PutsInFrame, opening, opened, closing, closed};
 

@@ -9,9 +9,13 @@ ghost use Rattle.gfx_script.specs.Writes.{area, place_of};
 ghost use Rattle.gfx_slot_plan.specs.Plan.{Plan};
 ghost use Rattle.gfx_video_paint.specs.Inside.{HasSome};
 ghost use Rattle.gfx_video_paint.specs.Video.{video_payloads};
-ghost use Rattle.gfx_planner.specs.Passes.{MayGoAsTiles, counted_in, ended_by, is_video_paint, passes_as};
-ghost use Rattle.gfx_planner.specs.Want.{sides_kept};
-ghost use Rattle.gfx_planner.specs.Wire.{CanBeSent, made, made_as, mode_of, painting_as_video, video_message};
+ghost use Rattle.gfx_planner.specs.Bitmaps.{sides_kept};
+ghost use Rattle.gfx_planner.specs.TileSteps.{is_video_paint};
+ghost use Rattle.gfx_planner.specs.Passes.{counted_in, ended_by, passes_as};
+ghost use Rattle.gfx_planner.specs.Made.{made};
+ghost use Rattle.gfx_planner.specs.VideoMessages.{mode_of, painting_as_video, video_message};
+ghost use Rattle.gfx_planner.specs.StepMessages.{made_as};
+ghost use Rattle.gfx_planner.specs.CanSend.{MayGoAsTiles, CanBeSent};
 
 use crate::passes::end_painted;
 use gfx_base::{Bytes, Format, NoMemory, Point, Rect, moved_to};

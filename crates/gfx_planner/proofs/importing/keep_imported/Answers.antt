@@ -1,4 +1,4 @@
-use Rattle.std.proofs.Common.{◌≡◌, ◌∙◌, sym, refl, subst, arith}
+use Rattle.std.proofs.Common.{sym, refl, subst, arith}
 use Rattle.std.specs.Prelude.{IsOk}
 use Rattle.gfx_bitmap_cache.specs.Slots.{entry, image_of}
 use Rattle.gfx_import.specs.Imported.{imported}

@@ -1,7 +1,7 @@
 use Rattle.gfx_base.specs.Geometry.{width_of, height_of}
 use Rattle.gfx_prog_live.specs.Live.{at_start}
 use Rattle.gfx_slot_plan.specs.Plan.{keeps, slot_of}
-use Rattle.gfx_planner.specs.Wire.{made_as}
+use Rattle.gfx_planner.specs.StepMessages.{made_as}
 use Rattle.gfx_planner.proofs.StepMessages.{is_chosen, is_shown_from, is_emptied, raw_made, raw_made_is}
 use Rattle.gfx_planner.proofs.messages.step_messages.Goals as goal
 

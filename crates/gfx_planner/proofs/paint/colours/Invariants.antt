@@ -2,7 +2,7 @@ use Rattle.std.proofs.Common.{◌≡◌, ◌+◌, ◌*◌, ◌<◌, map, take}
 use Rattle.std.specs.Prelude.{IfSome}
 use Rattle.std.specs.List.{slice_get}
 use Rattle.gfx_base.specs.Colour.{colour_of}
-use Rattle.gfx_planner.specs.Want.{pixels_in}
+use Rattle.gfx_planner.specs.Pixels.{pixels_in}
 use Rattle.gfx_planner.proofs.paint.colours.Given as goal
 
 abbrev pub invariant-pixels : goal.invariant-pixels

@@ -1,8 +1,8 @@
 use Rattle.std.proofs.Common.{◌≡◌, ◌+◌, ◌*◌, ◌<◌, take}
 use Rattle.std.specs.Prelude.{IfSome}
 use Rattle.std.specs.List.{slice_get}
-use Rattle.gfx_planner.specs.Want.{pixels_in}
-use Rattle.gfx_planner.specs.Wire.{raw_bytes}
+use Rattle.gfx_planner.specs.Pixels.{pixels_in}
+use Rattle.gfx_planner.specs.PaintMessages.{raw_bytes}
 use Rattle.gfx_planner.proofs.paint.raw_payload.Given as goal
 
 abbrev pub invariant-pixels : goal.invariant-pixels

@@ -1,4 +1,4 @@
-use Rattle.gfx_planner.specs.Want.{sides_kept}
+use Rattle.gfx_planner.specs.Bitmaps.{sides_kept}
 use Rattle.gfx_planner.proofs.EndedTiles.{copy_fits, copy_touched, delete_touched, fill_touched, other_touched, paint_fits, paint_touched, show_fits, show_touched, surface_touched}
 use Rattle.gfx_planner.proofs.passes.end_touched.Goals as goal
 

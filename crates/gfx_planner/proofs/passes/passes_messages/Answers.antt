@@ -2,9 +2,11 @@ use Rattle.std.proofs.Common.{◌≡◌, ◌∙◌, subst, true, ap}
 use Rattle.std.specs.FinMap.{get}
 use Rattle.std.specs.List.{slice_get}
 use Rattle.gfx_script.specs.Ways.{goes_by}
-use Rattle.gfx_planner.specs.Passes.{IsPlaced, goes_in_passes, passes_as}
-use Rattle.gfx_planner.specs.Want.{sides_kept}
-use Rattle.gfx_planner.specs.Wire.{CanBeSent, made_as}
+use Rattle.gfx_planner.specs.Bitmaps.{sides_kept}
+use Rattle.gfx_planner.specs.TileSteps.{goes_in_passes}
+use Rattle.gfx_planner.specs.Passes.{passes_as}
+use Rattle.gfx_planner.specs.StepMessages.{made_as}
+use Rattle.gfx_planner.specs.CanSend.{IsPlaced, CanBeSent}
 use Rattle.gfx_planner.proofs.PassesMessages.{all_live, all_made, improving_there, step_lives, step_in_passes, painting_there}
 use Rattle.gfx_planner.proofs.passes.passes_messages.Goals as goal
 

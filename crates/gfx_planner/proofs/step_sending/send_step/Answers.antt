@@ -1,9 +1,9 @@
 use Rattle.std.proofs.Common.{◌≡◌, false, subst, sym, rules}
 use Rattle.std.specs.Prelude.{IfSome}
 use Rattle.gfx_prog_live.specs.Live.{at_start}
-use Rattle.gfx_planner.specs.Passes.{is_video_paint, sends_tiles}
+use Rattle.gfx_planner.specs.TileSteps.{is_video_paint, sends_tiles}
+use Rattle.gfx_planner.specs.CanSend.{CanBeSent}
 use Rattle.gfx_planner.specs.Planned.{MaySend, SendsMade}
-use Rattle.gfx_planner.specs.Wire.{CanBeSent}
 use Rattle.gfx_planner.proofs.PassesSending.{made_apart}
 use Rattle.gfx_planner.proofs.step_sending.send_step.Goals as goal
 

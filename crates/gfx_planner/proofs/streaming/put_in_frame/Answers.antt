@@ -2,7 +2,7 @@ use Rattle.std.proofs.Common.{◌≡◌, ◌+◌, ◌<◌, ◌^◌, Some, Ok, su
 use Rattle.std.proofs.lemmas.Result.{err_from_is_err_and}
 use Rattle.gfx_script.specs.Kinds.{as_kind}
 use Rattle.gfx_script.specs.Script.{step_at}
-use Rattle.gfx_planner.specs.Agree.{kinded_at}
+use Rattle.gfx_planner.specs.Allowed.{kinded_at}
 use Rattle.gfx_planner.specs.Planned.{PutsStep}
 use Rattle.gfx_planner.proofs.Calls.{is_kinded}
 use Rattle.gfx_planner.proofs.Frames.{front_fails, put_fails, put_and_closed, allowed_in_frame, in_frame, still_in_frame}

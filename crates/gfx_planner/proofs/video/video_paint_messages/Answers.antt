@@ -2,9 +2,11 @@ use Rattle.std.proofs.Common.{◌≡◌, ◌∙◌, subst, true, ap}
 use Rattle.std.specs.FinMap.{get}
 use Rattle.std.specs.List.{slice_get}
 use Rattle.gfx_script.specs.Ways.{goes_by}
-use Rattle.gfx_planner.specs.Passes.{IsPlaced, goes_as_video, passes_as}
-use Rattle.gfx_planner.specs.Want.{sides_kept}
-use Rattle.gfx_planner.specs.Wire.{CanBeSent, made_as}
+use Rattle.gfx_planner.specs.Bitmaps.{sides_kept}
+use Rattle.gfx_planner.specs.TileSteps.{goes_as_video}
+use Rattle.gfx_planner.specs.Passes.{passes_as}
+use Rattle.gfx_planner.specs.StepMessages.{made_as}
+use Rattle.gfx_planner.specs.CanSend.{IsPlaced, CanBeSent}
 use Rattle.gfx_planner.proofs.PassesMessages.{all_live, all_made}
 use Rattle.gfx_planner.proofs.VideoMessages.{step_as_video, step_counted, video_there}
 use Rattle.gfx_planner.proofs.video.video_paint_messages.Goals as goal

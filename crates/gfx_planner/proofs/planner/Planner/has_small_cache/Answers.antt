@@ -1,4 +1,4 @@
-use Rattle.std.proofs.Common.{◌≡◌, ◌∙◌, ap, not}
+use Rattle.std.proofs.Common.{◌∙◌, ap, not}
 use Rattle.gfx_bitmap_cache.specs.declared.limits.TheConstants.{MOST_SLOTS}
 use Rattle.gfx_bitmap_cache.specs.Slots.{Cached, takes_slot}
 use Rattle.gfx_planner.proofs.BitmapStarts.{small-by}

@@ -59,14 +59,16 @@ with_left_stands session w left same s = record {
     fresh = s.server.fresh;
     left = same;
     last = s.server.last;
-    window = s.server.window;
     planned = s.server.planned;
-    ends = s.server.ends;
-    even = s.server.even;
-    confirmed = s.server.confirmed;
-    closed = s.server.closed;
-    heard = s.server.heard;
-    short = s.server.short;
+    listens = record {
+      window = s.server.listens.window;
+      ends = s.server.listens.ends;
+      even = s.server.listens.even;
+      confirmed = s.server.listens.confirmed;
+      closed = s.server.listens.closed;
+      heard = s.server.listens.heard;
+      short = s.server.listens.short;
+    };
   };
   offers = s.offers;
   client = s.client;

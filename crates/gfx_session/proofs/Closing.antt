@@ -9,26 +9,27 @@ use Rattle.gfx_script.specs.Script.{IsAcceptedFrom}
 use Rattle.gfx_script.specs.Scripted.{Script}
 use Rattle.gfx_window.specs.declared.window.Sent.{Sent}
 use Rattle.gfx_session.specs.Kept.{digest_in, InStep, IsServerEnd, ListensAs, PlansAsBefore}
-use Rattle.gfx_session.specs.Listening.{Amid, Beside, Hears}
-use Rattle.gfx_session.specs.Serving.{Takes, Listens, taken_of}
+use Rattle.gfx_session.specs.Listening.{Amid, LeavesPlan, Hears}
+use Rattle.gfx_session.specs.Noting.{Listens, taken_of}
+use Rattle.gfx_session.specs.Taking.{Takes}
 use Rattle.gfx_session.specs.declared.server_end.ServerEnd.{ServerEnd}
 use Rattle.gfx_session.specs.declared.server_end.ServerFault.{ServerFault}
 use Rattle.gfx_session.specs.declared.server_end.ServerFault.TheVariants.{Refused, Ack, Memory, Closed}
 use Rattle.gfx_session.specs.declared.server_end.listening.Taken.{Taken}
 
 -- what every server's end has stays
-in_step : (script : Script) (old new : ServerEnd) (had has : List Taken) → Beside old new had has → InStep old → InStep new
+in_step : (script : Script) (old new : ServerEnd) (had has : List Taken) → LeavesPlan old new had has → InStep old → InStep new
 in_step script old new had has b i = record {
   origin = i.origin;
   kinded = i.kinded;
-  begins = subst (λ z. MayBegin i.origin z i.kinded) (sym b.script) i.begins;
+  begins = subst (λ z. MayBegin i.origin z i.kinded) (sym b.plans.script) i.begins;
   at = record i.at { window = new.window };
   gone = i.gone;
   waiting = i.waiting;
-  plan = subst (λ z. InPlanFrom i.origin z i.kinded (record i.at { window = new.window }) i.gone i.waiting) (sym b.script) (record {
+  plan = subst (λ z. InPlanFrom i.origin z i.kinded (record i.at { window = new.window }) i.gone i.waiting) (sym b.plans.script) (record {
     cut = i.plan.cut;
     last = i.plan.last;
-    pending = b.pending ∙ ap (λ z. z.pending) i.window ∙ i.plan.pending;
+    pending = b.plans.pending ∙ ap (λ z. z.pending) i.window ∙ i.plan.pending;
     held = i.plan.held;
     checked = i.plan.checked;
     holds = i.plan.holds;
@@ -36,16 +37,16 @@ in_step script old new had has b i = record {
     frame = i.plan.frame;
     frames = i.plan.frames;
   });
-  last = b.last ∙ i.last;
+  last = b.plans.last ∙ i.last;
   window = refl;
-  planned = b.planner ∙ i.planned;
+  planned = b.plans.planner ∙ i.planned;
 }
 
-pub keeps : (old new : ServerEnd) (had has : List Taken) → Beside old new had has → IsServerEnd old → IsServerEnd new
+pub keeps : (old new : ServerEnd) (had has : List Taken) → LeavesPlan old new had has → IsServerEnd old → IsServerEnd new
 keeps old new had has b i = record {
   held = i.held;
-  good = subst (IsAcceptedFrom i.held) (sym b.script) i.good;
-  in_step = λ fresh. in_step old.script old new had has b (i.in_step (sym b.spent ∙ fresh));
+  good = subst (IsAcceptedFrom i.held) (sym b.plans.script) i.good;
+  in_step = λ fresh. in_step old.script old new had has b (i.in_step (sym b.plans.spent ∙ fresh));
 }
 
 -- and so it is of one that is spent
@@ -73,20 +74,20 @@ stops before now had has new heard why a is = record {
 }
 
 -- what its client's bytes leave as it is
-pub plans : {old new : ServerEnd} {had has : List Taken} {closed : Bool} → Beside old new had has → PlansAsBefore old (record new { closed = closed })
-plans b = record { script = b.script; last = b.last; planner = b.planner; spent = b.spent; pending = b.pending }
+pub plans : {old new : ServerEnd} {had has : List Taken} {closed : Bool} → LeavesPlan old new had has → PlansAsBefore old (record new { closed = closed })
+plans b = record { script = b.plans.script; last = b.plans.last; planner = b.plans.planner; spent = b.plans.spent; pending = b.plans.pending }
 
 -- what a fault leaves that closes it
-pub closed_by : (closed : Bool) (fault : ServerFault) (old new : ServerEnd) (before now : List ℕ) (had has : List Taken) (piece : List ℕ) → closed ≡ false → Beside old new had has
+pub closed_by : (closed : Bool) (fault : ServerFault) (old new : ServerEnd) (before now : List ℕ) (had has : List Taken) (piece : List ℕ) → closed ≡ false → LeavesPlan old new had has
     → Hears (Err fault) old new before now had has piece → Listens closed (Err fault) old (record new { closed = true }) before now had has piece
 closed_by true fault old new before now had has piece unclosed b h = absurd cc
 closed_by false (Refused r) old new before now had has piece unclosed b h = (
   plans b,
-  λ at stands. let x = h at stands in (stops before now had has new (hears old.script (listening at) piece) (refuses r) x.0 x.1, x.1, x.0.out),
+  λ at stands. let x = h at stands in ((stops before now had has new (hears old.script (listening at) piece) (refuses r) x.0 x.1, x.0.out), x.1),
 )
 closed_by false (Ack u) old new before now had has piece unclosed b h = (
   plans b,
-  λ at stands. let x = h at stands in (stops before now had has new (hears old.script (listening at) piece) (unknown u) x.0 x.1, x.1, x.0.out),
+  λ at stands. let x = h at stands in ((stops before now had has new (hears old.script (listening at) piece) (unknown u) x.0 x.1, x.0.out), x.1),
 )
 closed_by false Memory old new before now had has piece unclosed b h = (plans b, (refl, h))
 closed_by false Closed old new before now had has piece unclosed b h = absurd h
@@ -106,5 +107,5 @@ counts false old new before now has piece count is l = (
   (λ at s.
       let h = l.1 at s in
       let all : Heard = hears old.script (listening at) piece in
-      (h.0, h.1, h.2, is ∙ ap length h.3 ∙ length-taken_of all.taken (map digest_in all.states) (length-map all.states digest_in ∙ h.4))),
+      (h.0, h.1, is ∙ ap length h.2.0 ∙ length-taken_of all.taken (map digest_in all.states) (length-map all.states digest_in ∙ h.2.1))),
 )

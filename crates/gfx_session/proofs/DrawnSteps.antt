@@ -21,11 +21,10 @@ use Rattle.gfx_state.specs.Run.{Run, refuse}
 use Rattle.gfx_state.specs.State.{State}
 use Rattle.gfx_state.proofs.Moves.{settled_reaches, settled_refuses}
 use Rattle.gfx_state.proofs.Weights.{weight, weight_reaches}
-use Rattle.gfx_session.specs.Drawing.{drawn_by}
+use Rattle.gfx_session.specs.Drawing.{drawn_by, Drew, Draws}
 use Rattle.gfx_session.specs.declared.drawing.Drawn.{Drawn}
 use Rattle.gfx_session.specs.declared.drawing.Drawn.TheVariants.{Nothing, Message, Frame}
 use Rattle.gfx_session.specs.Kept.{digest_in}
-use Rattle.gfx_session.specs.Turning.{Drew, Draws}
 
 -- a client whose run isn't refused refuses nothing -------------------------------------------------------------
 

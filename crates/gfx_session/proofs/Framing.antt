@@ -5,14 +5,17 @@ use Rattle.std.proofs.lemmas.List.{append-nil}
 use Rattle.std.proofs.lemmas.Option.{slice_get_cases}
 use Rattle.gfx_base.specs.declared.answer.NoMemory.{NoMemory}
 use Rattle.gfx_pdu.specs.declared.pdu.Pdu.{Pdu}
-use Rattle.gfx_planner.specs.Agree.{Holds, IsAllowed, IsAllowedStep, IsInFrame}
-use Rattle.gfx_planner.specs.Joined.{all_messages, after_all, frame_of, after_frame}
+use Rattle.gfx_planner.specs.Server.{Server}
+use Rattle.gfx_planner.specs.Wire.{messages, frame_start, frame_end}
+use Rattle.gfx_planner.specs.After.{after_put, after_open, after_close}
+use Rattle.gfx_planner.specs.Holds.{Holds}
+use Rattle.gfx_planner.specs.Allowed.{IsAllowed, IsAllowedStep, IsInFrame}
 use Rattle.gfx_planner.specs.Planned.{Planned, ready, PutsFront, AllSent, PartSent, PutsStep}
-use Rattle.gfx_planner.specs.Wire.{Server, messages, frame_start, frame_end, after_put, after_open, after_close}
+use Rattle.gfx_planner.specs.Joined.{all_messages, after_all, frame_of, after_frame}
 use Rattle.gfx_planner.proofs.Frames.{still_in_frame}
 use Rattle.gfx_planner.proofs.Joined.{all_messages-nil, all_messages-cons, after_all-nil, after_all-cons}
 use Rattle.gfx_planner.proofs.Streams.{bare, opens_frame, held_through-cons}
-use Rattle.gfx_clear.specs.State.{State as ClearState}
+use Rattle.gfx_clear.specs.State.{ClearState}
 use Rattle.gfx_report.specs.StateBytes.{state_bytes, digest_of}
 use Rattle.sha2.specs.Sha256.{sha256}
 use Rattle.gfx_bitmap_cache.specs.Slots.{Cached}

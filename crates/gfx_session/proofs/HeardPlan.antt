@@ -7,10 +7,10 @@ use Rattle.gfx_caps.specs.declared.choice.Chosen.{Chosen}
 use Rattle.gfx_caps.specs.declared.message.ClientPdu.{ClientPdu}
 use Rattle.gfx_caps.specs.declared.message.ClientPdu.TheVariants.{Advertise, Ack}
 use Rattle.gfx_schedule.proofs.Listening.{hears-nil, hears_more}
+use Rattle.gfx_planner.specs.Server.{Server}
 use Rattle.gfx_planner.specs.Planned.{ready}
-use Rattle.gfx_planner.specs.Wire.{Server}
 use Rattle.gfx_schedule.specs.Hearing.{Heard, listening, confirms, acknowledges, told, judge, hear, hears}
-use Rattle.gfx_schedule.specs.ServerEnd.{ServerEnd as EndOfSchedule}
+use Rattle.gfx_schedule.specs.ServerEnd.{ScheduledEnd}
 use Rattle.gfx_script.specs.Kinds.{KindedStep}
 use Rattle.gfx_script.specs.Scripted.{Script}
 use Rattle.gfx_segment.specs.Framing.{Front, Whole, Short, Bad, front}
@@ -59,12 +59,8 @@ pub hears_plan : (script : Script) (heard : Heard) (bytes : List ℕ) → plan_o
 hears_plan script heard [] = ap plan_of (hears-nil script heard)
 hears_plan script heard (byte ∷ bytes) = ap plan_of (hears_more script heard byte bytes) ∙ hears_plan script (hear script heard byte) bytes ∙ hear_plan script heard byte
 
--- a server's end that isn't spent hears as one of the schedule's does
-pub listens_as : (end : ServerEnd) (at : EndOfSchedule) → Stands end at → ListensAs end at
-listens_as end at s = record { window = s.window; ends = s.ends; even = s.even; confirmed = s.confirmed; closed = s.closed; heard = s.heard; short = s.short }
-
--- and stands for one again behind what it hears
-pub stands_again : (script : Script) (old new : ServerEnd) (at : EndOfSchedule) (piece : List ℕ) → Stands old at → PlansAsBefore old new → ListensAs new (hears script (listening at) piece).end → Stands new (hears script (listening at) piece).end
+-- a server's end that isn't spent stands for one of the schedule's again behind what it hears
+pub stands_again : (script : Script) (old new : ServerEnd) (at : ScheduledEnd) (piece : List ℕ) → Stands old at → PlansAsBefore old new → ListensAs new (hears script (listening at) piece).end → Stands new (hears script (listening at) piece).end
 stands_again script old new at piece s p l =
     let plan = hears_plan script (listening at) piece in
     let last = ap (λ (z : ℕ × (List KindedStep × Server)). z.0) plan in
@@ -72,12 +68,6 @@ stands_again script old new at piece s p l =
       fresh = p.spent ∙ s.fresh;
       left = ap (λ (z : ℕ × (List KindedStep × Server)). map (λ (one : KindedStep). one.step) z.1.0) plan ∙ s.left ∙ (λ i. drop (sym last i) (sym p.script i).steps);
       last = p.last ∙ s.last ∙ sym last;
-      window = l.window;
+      listens = l;
       planned = p.planner ∙ s.planned ∙ ap (λ (z : ℕ × (List KindedStep × Server)). ready z.1.1) (sym plan);
-      ends = l.ends;
-      even = l.even;
-      confirmed = l.confirmed;
-      closed = l.closed;
-      heard = l.heard;
-      short = l.short;
     }

@@ -28,8 +28,9 @@ use Rattle.gfx_window.specs.declared.window.AckUnknown.{AckUnknown}
 use Rattle.gfx_window.specs.declared.window.Sent.{Sent}
 use Rattle.gfx_window.specs.Window.{Window, acknowledged}
 use Rattle.gfx_session.specs.Kept.{digest_in}
-use Rattle.gfx_session.specs.Listening.{Amid, Beside, Obeys, fault_of}
-use Rattle.gfx_session.specs.Serving.{taken_of}
+use Rattle.gfx_session.specs.Listening.{Amid, LeavesPlan, Obeys}
+use Rattle.gfx_session.specs.Noting.{taken_of}
+use Rattle.gfx_session.specs.Taking.{fault_of}
 use Rattle.gfx_session.specs.declared.server_end.ServerEnd.{ServerEnd}
 use Rattle.gfx_session.specs.declared.server_end.ServerFault.{ServerFault}
 use Rattle.gfx_session.specs.declared.server_end.ServerFault.TheVariants.{Refused, Ack}
@@ -234,15 +235,15 @@ takes_none old new now has frame step window e empty = λ before had heard a.
     absurd (omega (arith, oldest.fewer, a.even, ap (λ z. length z.flying) a.window, length-map heard.end.ends digest_in, ap length a.ends, ap length empty))
 
 -- where no frame is noted, and where one is
-pub beside_none : (old new : ServerEnd) (has : List Taken) (frame step : ℕ) → Stays old new → acknowledged old.window old.window.flying frame ≡ Ok (step, new.window) → Beside old new has has
-beside_none old new has frame step s e =
+pub leaves_none : (old new : ServerEnd) (has : List Taken) (frame step : ℕ) → Stays old new → acknowledged old.window old.window.flying frame ≡ Ok (step, new.window) → LeavesPlan old new has has
+leaves_none old new has frame step s e =
     let oldest = is_oldest old.window old.window.flying frame step new.window e in
-    record { script = s.script; last = s.last; planner = s.planner; spent = s.spent; pending = oldest.pending; few = omega (arith, oldest.fewer) }
+    record { plans = record { script = s.script; last = s.last; planner = s.planner; spent = s.spent; pending = oldest.pending }; few = omega (arith, oldest.fewer) }
 
-pub beside_one : (old new : ServerEnd) (has more : List Taken) (frame step : ℕ) (item : Taken) → Stays old new → acknowledged old.window old.window.flying frame ≡ Ok (step, new.window) → more ≡ has ++ item ∷ [] → Beside old new has more
-beside_one old new has more frame step item s e pushed =
+pub leaves_one : (old new : ServerEnd) (has more : List Taken) (frame step : ℕ) (item : Taken) → Stays old new → acknowledged old.window old.window.flying frame ≡ Ok (step, new.window) → more ≡ has ++ item ∷ [] → LeavesPlan old new has more
+leaves_one old new has more frame step item s e pushed =
     let oldest = is_oldest old.window old.window.flying frame step new.window e in
-    record { script = s.script; last = s.last; planner = s.planner; spent = s.spent; pending = oldest.pending; few = omega (arith, oldest.fewer, ap length pushed, length-append has (item ∷ [])) }
+    record { plans = record { script = s.script; last = s.last; planner = s.planner; spent = s.spent; pending = oldest.pending }; few = omega (arith, oldest.fewer, ap length pushed, length-append has (item ∷ [])) }
 
 -- the confirmation ----------------------------------------------------------------------------------------------
 

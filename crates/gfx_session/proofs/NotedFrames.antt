@@ -1,6 +1,6 @@
 -- The frames that are noted, one after another.
 use Rattle.std.proofs.Common.{◌≡◌, ℕ, zero, suc, ◌+◌, ◌<◌, get_or, add-one, drop-cons, List, [], ◌∷◌, ◌++◌, length, drop, refl, sym, ap, ◌∙◌, append_assoc}
-use Rattle.gfx_session.specs.Turning.{paired}
+use Rattle.gfx_session.specs.Noting.{paired}
 use Rattle.gfx_session.specs.declared.acked.Acked.{Acked}
 use Rattle.gfx_session.specs.declared.server_end.listening.Taken.{Taken}
 

@@ -8,15 +8,16 @@ use Rattle.std.proofs.lemmas.List.{map-append, length-map}
 use Rattle.gfx_chooser.specs.Choosing.{Chooser}
 use Rattle.gfx_chooser.specs.Kinded.{kinded as chosen}
 use Rattle.gfx_chooser.proofs.Asking.{bare_kinded, kinds_kinded}
-use Rattle.gfx_planner.specs.Joined.{after_frame, JoinsFrame}
-use Rattle.gfx_planner.specs.Planned.{Planned, ready}
 use Rattle.gfx_planner.specs.Want.{want_from}
+use Rattle.gfx_planner.specs.Planned.{Planned, ready}
+use Rattle.gfx_planner.specs.Joined.{after_frame}
+use Rattle.gfx_planner.specs.JoinedShown.{JoinsFrame}
 use Rattle.gfx_planner.proofs.Lists.{all_both, all_front, all_behind}
 use Rattle.gfx_planner.proofs.Streams.{bare}
 use Rattle.gfx_schedule.specs.Leaving.{step_of}
 use Rattle.gfx_schedule.specs.Plan.{InPlanFrom}
 use Rattle.gfx_schedule.specs.Starts.{MayBegin, MayStart, Start}
-use Rattle.gfx_schedule.specs.ServerEnd.{ServerEnd as EndOfSchedule, server_end_from, numbered, is_none, due, may_send}
+use Rattle.gfx_schedule.specs.ServerEnd.{ScheduledEnd, server_end_from, numbered, is_none, due, may_send}
 use Rattle.gfx_schedule.proofs.Items.{length-numbered, step_at-middle}
 use Rattle.gfx_schedule.proofs.Planning.{Ahead, ahead, joins}
 use Rattle.gfx_script.specs.Checks.{Held, held_through}
@@ -59,7 +60,7 @@ some_wait (x ∷ xs) e = omega arith
 
 -- the plan ----------------------------------------------------------------------------------------------
 
-last_within : (origin : Start) (script : Script) (kinded : List KindedStep) (at : EndOfSchedule) (gone waiting : List KindedStep) → Fits kinded script.steps → InPlanFrom origin script kinded at gone waiting → at.last ≤ length script.steps
+last_within : (origin : Start) (script : Script) (kinded : List KindedStep) (at : ScheduledEnd) (gone waiting : List KindedStep) → Fits kinded script.steps → InPlanFrom origin script kinded at gone waiting → at.last ≤ length script.steps
 last_within origin script kinded at gone waiting fits plan =
     let all : length script.steps ≡ length gone + (length waiting + length at.left) =
     ap length (sym fits.same) ∙ length-map kinded (λ (z : KindedStep). z.step) ∙ ap length plan.cut ∙ length-append gone (waiting ++ at.left) ∙ ap (λ n. length gone + n) (length-append waiting at.left) in
@@ -84,13 +85,13 @@ are_steps script gone (one ∷ more) left same =
     )
 
 -- what waits may go as a frame
-pub record May (origin : Start) (script : Script) (kinded : List KindedStep) (at : EndOfSchedule) (gone waiting : List KindedStep) (plan : InPlanFrom origin script kinded at gone waiting) : Type 0 where
+pub record May (origin : Start) (script : Script) (kinded : List KindedStep) (at : ScheduledEnd) (gone waiting : List KindedStep) (plan : InPlanFrom origin script kinded at gone waiting) : Type 0 where
   pub may : MayFrame script at.server at.window
   pub ahead : Ahead origin script kinded at gone waiting plan.held
   pub joins : JoinsFrame script at.server (due script at) ahead.after (want_from script origin.wanted (gone ++ waiting))
   pub some : 0 < length waiting
 
-may_at : (origin : Start) (script : Script) (kinded : List KindedStep) (at : EndOfSchedule) (gone waiting : List KindedStep) (plan : InPlanFrom origin script kinded at gone waiting) → IsAcceptedFrom origin.held script → Fits kinded script.steps → is_none at.window.pending ≡ false
+may_at : (origin : Start) (script : Script) (kinded : List KindedStep) (at : ScheduledEnd) (gone waiting : List KindedStep) (plan : InPlanFrom origin script kinded at gone waiting) → IsAcceptedFrom origin.held script → Fits kinded script.steps → is_none at.window.pending ≡ false
     → May origin script kinded at gone waiting plan
 may_at origin script kinded at gone waiting plan good fits wait =
     let a = ahead origin script kinded at gone waiting good fits plan in
@@ -144,14 +145,16 @@ opened_stands end script planned known origin kinded o planner_is known_is fits 
   fresh = o.fresh;
   left = fits.same ∙ ap (λ (s : Script). s.steps) (sym o.script);
   last = o.last;
-  window = o.window;
   planned = o.planner ∙ planner_is;
-  ends = o.ends;
-  even = refl;
-  confirmed = o.confirmed ∙ known_is;
-  closed = o.unclosed;
-  heard = λ none. o.splitter;
-  short = λ none. front-nil;
+  listens = record {
+    window = o.window;
+    ends = o.ends;
+    even = refl;
+    confirmed = o.confirmed ∙ known_is;
+    closed = o.unclosed;
+    heard = λ none. o.splitter;
+    short = λ none. front-nil;
+  };
 }
 
 -- and is in step
@@ -181,7 +184,7 @@ opened_is end script planned known origin o planner_is begins =
 -- choosers are brought -----------------------------------------------------------------------------------------
 
 -- the steps that are left
-left_steps : (origin : Start) (script : Script) (kinded : List KindedStep) (at : EndOfSchedule) (gone waiting : List KindedStep) → Fits kinded script.steps → InPlanFrom origin script kinded at gone waiting → bare at.left ≡ drop at.last script.steps
+left_steps : (origin : Start) (script : Script) (kinded : List KindedStep) (at : ScheduledEnd) (gone waiting : List KindedStep) → Fits kinded script.steps → InPlanFrom origin script kinded at gone waiting → bare at.left ≡ drop at.last script.steps
 left_steps origin script kinded at gone waiting fits plan =
     let step = λ (one : KindedStep). one.step in
     let cut : script.steps ≡ bare (gone ++ waiting) ++ bare at.left = sym fits.same ∙ ap bare (plan.cut ∙ sym (append_assoc gone waiting at.left)) ∙ map-append step (gone ++ waiting) at.left in

@@ -13,7 +13,7 @@ use Rattle.gfx_script.specs.Script.{is_frame, step_at}
 use Rattle.gfx_script.specs.Scripted.{Script}
 use Rattle.gfx_script.specs.declared.step.Kind.{Kind}
 use Rattle.gfx_script.specs.declared.step.Step.{Step}
-use Rattle.gfx_session.specs.Frames.{next_steps, QueuesFrame}
+use Rattle.gfx_session.specs.Queueing.{next_steps, QueuesFrame}
 use Rattle.gfx_window.specs.Window.{Window, with_pending}
 
 at_next : (steps : List Step) (last : ℕ) → step_at steps (last + 1) ≡ slice_get steps last

@@ -17,7 +17,7 @@ use Rattle.gfx_schedule.proofs.Unseen.{left_behind, last_within_all}
 use Rattle.gfx_schedule.specs.Hearing.{listening, hears}
 use Rattle.gfx_schedule.specs.Schedule.{KeepsAlikeFrom, RoundsEnd, rounds_for}
 use Rattle.gfx_schedule.specs.Starts.{MayBegin, Start}
-use Rattle.gfx_schedule.specs.ServerEnd.{ServerEnd as EndOfSchedule, server_end_from, is_none, serving, has_served, can_serve, queued}
+use Rattle.gfx_schedule.specs.ServerEnd.{ScheduledEnd, server_end_from, is_none, serving, has_served, can_serve, queued}
 use Rattle.gfx_schedule.specs.World.{World, acknowledgements, greeting, begin_from, happens, server_turns, client_takes, server_heard, world_from, is_ended, answer, round, drained}
 use Rattle.gfx_schedule.specs.declared.turned.Turned.{Turned}
 use Rattle.gfx_schedule.specs.declared.turned.Turned.TheVariants.{Moved, Waiting, Ended}
@@ -37,14 +37,16 @@ use Rattle.gfx_window.specs.declared.window.Sent.{Sent}
 use Rattle.gfx_session.specs.Beginning.{IsBegun}
 use Rattle.gfx_session.specs.Kept.{digest_in, InStep, IsServerEnd, PlansAsBefore}
 use Rattle.gfx_session.specs.Kept as kept
-use Rattle.gfx_session.specs.Serving.{Serves, ListensOpen, taken_of}
+use Rattle.gfx_session.specs.Drawing.{TakesBytes, Draws}
+use Rattle.gfx_session.specs.Noting.{ListensOpen, WillHear, paired, taken_of}
+use Rattle.gfx_session.specs.Serving.{Serves}
 use Rattle.gfx_session.specs.Session.{Stands, StandsBy, IsSession, AsksBetween, Turns, Drains, script_of, acked_of}
-use Rattle.gfx_session.specs.Turning.{Does, DoesBy, GoesRound, has_moved, TakesBytes, Draws, WillHear, paired}
+use Rattle.gfx_session.specs.Turning.{Does, DoesBy, GoesRound, has_moved}
 use Rattle.gfx_session.specs.declared.server_end.ServerEnd.{ServerEnd}
 use Rattle.gfx_session.specs.declared.server_end.listening.Taken.{Taken}
 use Rattle.gfx_session.specs.declared.session.Session.{Session}
 use Rattle.gfx_session.proofs.ChosenKinds.{IsUnderWayBy, by_choosers, one_more, stands_by, by_any}
-use Rattle.gfx_session.proofs.HeardPlan.{listens_as, stands_again}
+use Rattle.gfx_session.proofs.HeardPlan.{stands_again}
 
 -- the server's end has a turn ---------------------------------------------------------------------------------
 
@@ -62,7 +64,7 @@ nothing_goes true room = refl
 nothing_goes false room = refl
 
 -- one that has served all has nothing to do
-served_rests : (at : EndOfSchedule) → has_served at ≡ true → can_serve at ≡ false
+served_rests : (at : ScheduledEnd) → has_served at ≡ true → can_serve at ≡ false
 unfolding queued
 served_rests at all =
     let parts = both_true (is_none at.left) _ all in
@@ -188,7 +190,6 @@ will_hear old most piece is fresh same =
     record {
       at = w.server;
       stands = u.stands.server;
-      listens = listens_as old.server w.server u.stands.server;
       goes_on = (every_schedule_alike u.origin script u.kinded u.turns u.begins).server_goes_on;
       will = subst (λ z. (hears script (listening w.server) z).end.stopped ≡ None) (sym (same ∙ ap (take most) u.stands.up)) (keeps_next u.origin script u.kinded u.turns (Answer most) u.begins).server_goes_on;
     }
@@ -217,19 +218,19 @@ pub server_heard_on : (old mid : Session) (out : List ℕ) (notes : List Taken) 
     → Stands (record old { server = mid.server; down = mid.down; up = mid.up; drawn = mid.drawn; acks = mid.acks; spent = false }) (server_heard w (hears (script_of old) (listening w.server) (take most w.up)) (drop most w.up))
 unfolding server_heard
 server_heard_on old mid out notes most w listens up_is down_is acks_are drawn_are plans s =
-    let does = subst (λ z. ListensOpen (Ok tt) old.server mid.server [] out [] notes (take most z)) s.up listens w.server (listens_as old.server w.server s.server) in
-    let count : length notes ≡ length (hears (script_of old) (listening w.server) (take most w.up)).taken = ap length does.3 ∙ length-taken_of _ _ does.4 in
+    let does = subst (λ z. ListensOpen (Ok tt) old.server mid.server [] out [] notes (take most z)) s.up listens w.server s.server.listens in
+    let count : length notes ≡ length (hears (script_of old) (listening w.server) (take most w.up)).taken = ap length does.2.0 ∙ length-taken_of _ _ does.2.1 in
     record {
       fresh = refl;
-      server = stands_again (script_of old) old.server mid.server w.server (take most w.up) s.server plans does.0;
+      server = stands_again (script_of old) old.server mid.server w.server (take most w.up) s.server plans does.0.0;
       offers = s.offers ∙ ap (λ (z : Script). z.offers) (sym plans.script);
       client = s.client;
       brought = s.brought;
       drained = s.drained;
-      down = down_is ∙ (λ i. s.down i ++ does.2 i);
+      down = down_is ∙ (λ i. s.down i ++ does.0.1 i);
       up = up_is ∙ drop-taken most old.up ∙ ap (drop most) s.up;
       drawn = drawn_are ∙ (λ i. drop (count i) (s.drawn i)) ∙ map-dropped _ w.drawn;
-      acks = acks_are ∙ (λ i. s.acks i ++ paired (does.3 i) (s.drawn i)) ∙ ap (λ z. map acked_of w.acks ++ z) (paired_are _ _ w.drawn) ∙ sym (map-append acked_of w.acks _);
+      acks = acks_are ∙ (λ i. s.acks i ++ paired (does.2.0 i) (s.drawn i)) ∙ ap (λ z. map acked_of w.acks ++ z) (paired_are _ _ w.drawn) ∙ sym (map-append acked_of w.acks _);
     }
 
 pub heard_on : (old mid : Session) (out : List ℕ) (notes : List Taken) (most : ℕ) (moved : Bool) → WillHear old.server (take most old.up) → ListensOpen (Ok tt) old.server mid.server [] out [] notes (take most old.up) → PlansAsBefore old.server mid.server

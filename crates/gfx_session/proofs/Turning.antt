@@ -7,13 +7,13 @@ use Rattle.gfx_base.specs.declared.answer.NoMemory.{NoMemory}
 use Rattle.gfx_chooser.specs.Choosing.{Chooser}
 use Rattle.gfx_chooser.specs.Kinded.{Asks, kinded}
 use Rattle.gfx_chooser.proofs.Asking.{asks_none}
-use Rattle.gfx_planner.specs.Joined.{frame_of, after_frame}
+use Rattle.gfx_planner.specs.Server.{Server}
 use Rattle.gfx_planner.specs.Planned.{PutsFront, ready}
-use Rattle.gfx_planner.specs.Wire.{Server}
+use Rattle.gfx_planner.specs.Joined.{frame_of, after_frame}
 use Rattle.gfx_planner.proofs.Streams.{bare}
 use Rattle.gfx_schedule.specs.Plan.{InPlanFrom}
 use Rattle.gfx_schedule.specs.Starts.{MayBegin}
-use Rattle.gfx_schedule.specs.ServerEnd.{ServerEnd as EndOfSchedule, first_frame, behind_frame, numbered, queued, is_none, can_send, due, with_sent, sends, bytes_sent, serves, serving, can_serve, has_served, may_send}
+use Rattle.gfx_schedule.specs.ServerEnd.{ScheduledEnd, first_frame, behind_frame, numbered, queued, is_none, can_send, due, with_sent, sends, bytes_sent, serves, serving, can_serve, has_served, may_send}
 use Rattle.gfx_schedule.specs.declared.turned.Turned.{Turned}
 use Rattle.gfx_schedule.specs.declared.turned.Turned.TheVariants.{Moved, Waiting, Ended}
 use Rattle.gfx_schedule.proofs.Items.{frame_parts}
@@ -23,9 +23,10 @@ use Rattle.gfx_script.specs.Script.{IsAcceptedFrom}
 use Rattle.gfx_script.specs.Scripted.{Script}
 use Rattle.gfx_script.specs.declared.step.Step.{Step}
 use Rattle.gfx_segment.specs.Framing.{front, holding}
-use Rattle.gfx_session.specs.Frames.{next_steps, HearsAsBefore, QueuesFrame, due_of, Flies, frame_due, SendsFrame}
+use Rattle.gfx_session.specs.Frames.{HearsAsBefore, due_of, Flies, frame_due, SendsFrame}
 use Rattle.gfx_session.specs.Kept.{digest_in, GoesBy, Stands, InStep, IsServerEnd}
-use Rattle.gfx_session.specs.Serving.{ListensOn, Serves, answers}
+use Rattle.gfx_session.specs.Queueing.{next_steps, QueuesFrame}
+use Rattle.gfx_session.specs.Serving.{ListensOn, Serves, turn_answer}
 use Rattle.gfx_session.specs.declared.server_end.ServerEnd.{ServerEnd}
 use Rattle.gfx_session.proofs.Plans.{both_true, none_false, some_is, none_is, within, goes_at, next_id, brings}
 use Rattle.gfx_state.specs.Sending.{sent}
@@ -42,18 +43,18 @@ abbrev pub with_queued : ServerEnd → ℕ → Window → ServerEnd
 with_queued end number window = record end { window = window; last = number; spent = true }
 
 -- nothing else changes then
-record QueuedSame (at now : EndOfSchedule) : Type 0 where
+record QueuedSame (at now : ScheduledEnd) : Type 0 where
   server : now.server ≡ at.server
   ends : now.ends ≡ at.ends
   confirmed : now.confirmed ≡ at.confirmed
   stopped : now.stopped ≡ at.stopped
   heard : now.heard ≡ at.heard
 
-queued_same : (at : EndOfSchedule) → QueuedSame at (queued at)
+queued_same : (at : ScheduledEnd) → QueuedSame at (queued at)
 unfolding queued
 queued_same at = record { server = refl; ends = refl; confirmed = refl; stopped = refl; heard = refl }
 
-queued_is : (script : Script) (last number : ℕ) (choosers left : List Chooser) (old new : Window) (at : EndOfSchedule) → GoesBy script choosers at → last ≡ at.last → old ≡ at.window → QueuesFrame (Ok number) script last choosers left old new
+queued_is : (script : Script) (last number : ℕ) (choosers left : List Chooser) (old new : Window) (at : ScheduledEnd) → GoesBy script choosers at → last ≡ at.last → old ≡ at.window → QueuesFrame (Ok number) script last choosers left old new
     → (number ≡ (queued at).last) × (new ≡ (queued at).window)
 unfolding queued
 queued_is script last number choosers left old new at goes same window q =
@@ -69,7 +70,7 @@ drop_first few all xs ys is within =
     let count : length (front ++ xs) ≡ few + length xs = length-append front xs ∙ ap (λ n. n + length xs) (length-take-le few all within) in
     sym (drop-append_seam (front ++ xs) ys) ∙ (λ i. drop (count i) (sym cut i))
 
-queued_left : (at : EndOfSchedule) (all : List Step) → bare at.left ≡ drop at.last all → at.last ≤ length all → bare (queued at).left ≡ drop (queued at).last all
+queued_left : (at : ScheduledEnd) (all : List Step) → bare at.left ≡ drop at.last all → at.last ≤ length all → bare (queued at).left ≡ drop (queued at).last all
 unfolding queued
 queued_left at all left within =
     let step = λ (one : KindedStep). one.step in
@@ -78,28 +79,30 @@ queued_left at all left within =
     let parts : drop at.last all ≡ bare first ++ bare behind = sym left ∙ ap bare (sym (frame_parts at.left)) ∙ map-append step first behind in
     drop_first at.last all (bare first) (bare behind) parts within ∙ ap (λ n. drop (at.last + n) all) (length-map first step)
 
-queued_flying : (at : EndOfSchedule) → (queued at).window.flying ≡ at.window.flying
+queued_flying : (at : ScheduledEnd) → (queued at).window.flying ≡ at.window.flying
 unfolding queued
 queued_flying at = refl
 
-pub queued_stands : (end : ServerEnd) (at : EndOfSchedule) (number : ℕ) (choosers left : List Chooser) (window : Window) → end.last ≤ length end.script.steps → Stands end at → GoesBy end.script choosers at
+pub queued_stands : (end : ServerEnd) (at : ScheduledEnd) (number : ℕ) (choosers left : List Chooser) (window : Window) → end.last ≤ length end.script.steps → Stands end at → GoesBy end.script choosers at
     → QueuesFrame (Ok number) end.script end.last choosers left end.window window → Stands (awake (with_queued end number window)) (queued at)
 queued_stands end at number choosers left window few st goes q =
-    let is = queued_is end.script end.last number choosers left end.window window at goes st.last st.window q in
+    let is = queued_is end.script end.last number choosers left end.window window at goes st.last st.listens.window q in
     let same = queued_same at in
     let all : at.last ≤ length end.script.steps = omega (arith, few, st.last) in
     record {
       fresh = refl;
       left = queued_left at end.script.steps st.left all;
       last = is.0;
-      window = is.1;
       planned = st.planned ∙ ap ready (sym same.server);
-      ends = st.ends ∙ ap (map digest_in) (sym same.ends);
-      confirmed = st.confirmed ∙ sym same.confirmed;
-      closed = st.closed ∙ ap is_some (sym same.stopped);
-      even = ap length same.ends ∙ st.even ∙ ap length (sym (queued_flying at));
-      heard = λ none. st.heard (sym same.stopped ∙ none) ∙ ap holding (sym same.heard);
-      short = λ none. ap front same.heard ∙ st.short (sym same.stopped ∙ none);
+      listens = record {
+        window = is.1;
+        ends = st.listens.ends ∙ ap (map digest_in) (sym same.ends);
+        confirmed = st.listens.confirmed ∙ sym same.confirmed;
+        closed = st.listens.closed ∙ ap is_some (sym same.stopped);
+        even = ap length same.ends ∙ st.listens.even ∙ ap length (sym (queued_flying at));
+        heard = λ none. st.listens.heard (sym same.stopped ∙ none) ∙ ap holding (sym same.heard);
+        short = λ none. ap front same.heard ∙ st.listens.short (sym same.stopped ∙ none);
+      };
     }
 
 -- what is left goes as the choosers choose that are brought
@@ -123,45 +126,47 @@ queued_in_step end number choosers left window was q =
 
 -- a frame goes --------------------------------------------------------------------------------------------------
 
-can_is : (end : ServerEnd) (at : EndOfSchedule) → Stands (awake end) at → may_send end.confirmed end.window ≡ can_send at
-can_is end at st = λ i. st.confirmed i && (not (is_none (st.window i).pending) && has_room (st.window i))
+can_is : (end : ServerEnd) (at : ScheduledEnd) → Stands (awake end) at → may_send end.confirmed end.window ≡ can_send at
+can_is end at st = λ i. st.listens.confirmed i && (not (is_none (st.listens.window i).pending) && has_room (st.listens.window i))
 
-sends_is : (script : Script) (at : EndOfSchedule) → can_send at ≡ true → (sends script at ≡ with_sent at (after_frame script at.server (due script at))) × (bytes_sent script at ≡ sent (frame_of script at.server (due script at)))
+sends_is : (script : Script) (at : ScheduledEnd) → can_send at ≡ true → (sends script at ≡ with_sent at (after_frame script at.server (due script at))) × (bytes_sent script at ≡ sent (frame_of script at.server (due script at)))
 unfolding sends bytes_sent
 sends_is script at can =
     (ap (λ b. cond b (with_sent at (after_frame script at.server (due script at))) at) can, ap (λ b. cond b (sent (frame_of script at.server (due script at))) []) can)
 
-rests_is : (script : Script) (at : EndOfSchedule) → can_send at ≡ false → (sends script at ≡ at) × (bytes_sent script at ≡ [])
+rests_is : (script : Script) (at : ScheduledEnd) → can_send at ≡ false → (sends script at ≡ at) × (bytes_sent script at ≡ [])
 unfolding sends bytes_sent
 rests_is script at can =
     (ap (λ b. cond b (with_sent at (after_frame script at.server (due script at))) at) can, ap (λ b. cond b (sent (frame_of script at.server (due script at))) []) can)
 
-flown : (mid new : ServerEnd) (at : EndOfSchedule) (server : Server) → Stands (awake mid) at → Flies mid new server → server.frames ≡ mid.planner.server.frames + 1 → Stands (awake new) (with_sent at server)
+flown : (mid new : ServerEnd) (at : ScheduledEnd) (server : Server) → Stands (awake mid) at → Flies mid new server → server.frames ≡ mid.planner.server.frames + 1 → Stands (awake new) (with_sent at server)
 unfolding with_sent
 flown mid new at server st flies id = record {
   fresh = refl;
   left = st.left ∙ ap (λ (s : Script). drop at.last s.steps) (sym flies.script);
   last = flies.last ∙ st.last;
-  window = flies.window ∙ (λ i. with_frame (st.window i) (sym id i) (st.last i));
   planned = flies.planned;
-  ends = flies.ends ∙ ap (λ z. z ++ digest_in server.state ∷ []) st.ends ∙ sym (map-append digest_in at.ends (server.state ∷ []));
-  confirmed = flies.confirmed ∙ st.confirmed;
-  closed = flies.closed ∙ st.closed;
-  even = omega (arith, st.even, length-append at.ends (server.state ∷ []), length-append at.window.flying (record { frame = server.frames; step = at.last } ∷ []));
-  heard = λ none. flies.splitter ∙ st.heard none;
-  short = st.short;
+  listens = record {
+    window = flies.window ∙ (λ i. with_frame (st.listens.window i) (sym id i) (st.last i));
+    ends = flies.ends ∙ ap (λ z. z ++ digest_in server.state ∷ []) st.listens.ends ∙ sym (map-append digest_in at.ends (server.state ∷ []));
+    confirmed = flies.confirmed ∙ st.listens.confirmed;
+    closed = flies.closed ∙ st.listens.closed;
+    even = omega (arith, st.listens.even, length-append at.ends (server.state ∷ []), length-append at.window.flying (record { frame = server.frames; step = at.last } ∷ []));
+    heard = λ none. flies.splitter ∙ st.listens.heard none;
+    short = st.listens.short;
+  };
 }
 
 -- what the schedule says of it
-abbrev pub Follows : ServerEnd → ServerEnd → Bool → List ℕ → List ℕ → EndOfSchedule → Type 0
+abbrev pub Follows : ServerEnd → ServerEnd → Bool → List ℕ → List ℕ → ScheduledEnd → Type 0
 Follows mid new went before now at = Stands (awake new) (sends mid.script at) × (now ≡ before ++ bytes_sent mid.script at) × (went ≡ can_send at)
 
-follows : (mid new : ServerEnd) (went : Bool) (before now : List ℕ) (at : EndOfSchedule) → InStep mid → Stands (awake mid) at → SendsFrame (Ok went) mid new before now → Follows mid new went before now at
+follows : (mid new : ServerEnd) (went : Bool) (before now : List ℕ) (at : ScheduledEnd) → InStep mid → Stands (awake mid) at → SendsFrame (Ok went) mid new before now → Follows mid new went before now at
 follows mid new true before now at is st s =
     let can = sym (can_is mid at st) ∙ s.0 in
     let due_is = sends_is mid.script at can in
-    let same : after_frame mid.script mid.planner.server (due_of mid.script mid.window) ≡ after_frame mid.script at.server (due mid.script at) = λ i. after_frame mid.script ((st.planned i).server) (due_of mid.script (st.window i)) in
-    let put : frame_due mid ≡ bytes_sent mid.script at = (λ i. sent (frame_of mid.script ((st.planned i).server) (due_of mid.script (st.window i)))) ∙ sym due_is.1 in (
+    let same : after_frame mid.script mid.planner.server (due_of mid.script mid.window) ≡ after_frame mid.script at.server (due mid.script at) = λ i. after_frame mid.script ((st.planned i).server) (due_of mid.script (st.listens.window i)) in
+    let put : frame_due mid ≡ bytes_sent mid.script at = (λ i. sent (frame_of mid.script ((st.planned i).server) (due_of mid.script (st.listens.window i)))) ∙ sym due_is.1 in (
       subst (Stands (awake new)) (ap (with_sent at) same ∙ sym due_is.0) (flown mid new at _ st s.1 (next_id mid is s.0)),
       s.2 ∙ ap (λ z. before ++ z) put,
       sym can,
@@ -204,20 +209,20 @@ stays mid new false before now is s =
 abbrev pub served_now : ServerEnd → Bool
 served_now end = is_none (drop end.last end.script.steps) && (is_none end.window.pending && is_none end.window.flying)
 
-left_none : (end : ServerEnd) (at : EndOfSchedule) → Stands end at → is_none (drop end.last end.script.steps) ≡ is_none at.left
+left_none : (end : ServerEnd) (at : ScheduledEnd) → Stands end at → is_none (drop end.last end.script.steps) ≡ is_none at.left
 left_none end at st = ap (λ n. is_none (drop n end.script.steps)) st.last ∙ ap is_none (sym st.left) ∙ ap (λ n. n == 0) (length-map at.left (λ (one : KindedStep). one.step))
 
-served_is : (end : ServerEnd) (at : EndOfSchedule) → Stands end at → served_now end ≡ has_served at
-served_is end at st = λ i. left_none end at st i && (is_none (st.window i).pending && is_none (st.window i).flying)
+served_is : (end : ServerEnd) (at : ScheduledEnd) → Stands end at → served_now end ≡ has_served at
+served_is end at st = λ i. left_none end at st i && (is_none (st.listens.window i).pending && is_none (st.listens.window i).flying)
 
-queued_none : (at : EndOfSchedule) → at.left ≡ [] → queued at ≡ at
+queued_none : (at : ScheduledEnd) → at.left ≡ [] → queued at ≡ at
 unfolding queued
 queued_none at none =
     let zero_more : at.last + 0 ≡ at.last = omega arith in
     ap (λ left. record at { left = behind_frame left; last = at.last + length (first_frame left); window = with_pending at.window (at.window.pending ++ numbered (at.last + 1) (first_frame left)) }) none
     ∙ (λ i. record at { left = sym none i; last = zero_more i; window = with_pending at.window (append-nil at.window.pending i) })
 
-idles : (script : Script) (at : EndOfSchedule) → has_served at ≡ true → (serves script at ≡ at) × (serving script at ≡ [])
+idles : (script : Script) (at : ScheduledEnd) → has_served at ≡ true → (serves script at ≡ at) × (serving script at ≡ [])
 idles script at done =
     let tests = both_true (is_none at.left) (is_none at.window.pending && is_none at.window.flying) done in
     let still = queued_none at (none_is at.left tests.0) in
@@ -229,7 +234,7 @@ idles script at done =
 pub ended_turn : (end : ServerEnd) (choosers : List Chooser) (before : List ℕ) → end.spent ≡ false → served_now end ≡ true → Serves (Ok Ended) end end choosers choosers before before
 ended_turn end choosers before fresh done = (fresh, refl, asks_none end.script end.last choosers, λ at st goes. by at st)
   where
-    by : (at : EndOfSchedule) → Stands end at → Stands end (serves end.script at) × (before ≡ before ++ serving end.script at) × (Ended ≡ answers at)
+    by : (at : ScheduledEnd) → Stands end at → Stands end (serves end.script at) × (before ≡ before ++ serving end.script at) × (Ended ≡ turn_answer at)
     by at st =
         let served = sym (served_is end at st) ∙ done in
         let idle = idles end.script at served in (
@@ -272,7 +277,7 @@ turn end new number choosers left window went before now is fresh more q s kept_
     asked : Asks end.script end.last new.last choosers left
     asked = subst (λ n. Asks end.script end.last n choosers left) (sym (same_last mid new went before now s)) q.2
 
-    by : (at : EndOfSchedule) → Stands end at → GoesBy end.script choosers at → Stands (awake new) (serves end.script at) × (now ≡ before ++ serving end.script at) × (told (nat_lt end.last number) went ≡ answers at)
+    by : (at : ScheduledEnd) → Stands end at → GoesBy end.script choosers at → Stands (awake new) (serves end.script at) × (now ≡ before ++ serving end.script at) × (told (nat_lt end.last number) went ≡ turn_answer at)
     by at st goes =
         let steps = is.in_step fresh in
         let stands = queued_stands end at number choosers left window (within end steps) st goes q in
@@ -335,9 +340,9 @@ unsent end new number choosers left window before now e f is fresh q s =
     mid : ServerEnd
     mid = with_queued end number window
 
-    by : (at : EndOfSchedule) → Stands end at → GoesBy end.script choosers at → PutsFront before now (serving end.script at)
+    by : (at : ScheduledEnd) → Stands end at → GoesBy end.script choosers at → PutsFront before now (serving end.script at)
     by at st goes =
         let stands = queued_stands end at number choosers left window (within end (is.in_step fresh)) st goes q in
         let can = sym (can_is mid (queued at) stands) ∙ s.0 in
-        let put : frame_due mid ≡ serving end.script at = (λ i. sent (frame_of end.script ((stands.planned i).server) (due_of end.script (stands.window i)))) ∙ sym (sends_is end.script (queued at) can).1 in
+        let put : frame_due mid ≡ serving end.script at = (λ i. sent (frame_of end.script ((stands.planned i).server) (due_of end.script (stands.listens.window i)))) ∙ sym (sends_is end.script (queued at) can).1 in
         subst (PutsFront before now) put s.3

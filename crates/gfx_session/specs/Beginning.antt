@@ -1,4 +1,4 @@
--- The two ends of a session in which nothing has happened yet: this project's own words.
+-- The two ends of a session in which nothing has happened yet. No public clause names these words.
 use Rattle.std.specs.Prelude.{◌≡◌, ℕ, Bool, false, List, []}
 use Rattle.gfx_client.specs.declared.client.Client.{Client}
 use Rattle.gfx_planner.specs.Planned.{Planned}

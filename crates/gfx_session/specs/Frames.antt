@@ -1,16 +1,15 @@
--- What the parts of a turn of a server's end do.
-use Rattle.std.specs.Prelude.{◌≡◌, ◌<◌, ◌+◌, ℕ, Bool, true, false, List, [], ◌∷◌, ◌++◌, drop, length, map, None, IsSome, Result, Ok, Err}
+-- How a server's end sends all that waits as one frame: when it may, what goes, and what is in flight then. No public
+-- clause names these words.
+use Rattle.std.specs.Prelude.{◌≡◌, ◌<◌, ◌+◌, ℕ, Bool, true, false, List, [], ◌∷◌, ◌++◌, map, None, IsSome, Result, Ok, Err}
 use Rattle.std.specs.List.{AllByRecursion}
 use Rattle.gfx_base.specs.declared.answer.NoMemory.{NoMemory}
-use Rattle.gfx_chooser.specs.Choosing.{Chooser}
-use Rattle.gfx_chooser.specs.Kinded.{Asks, kinded}
-use Rattle.gfx_planner.specs.Agree.{Holds}
-use Rattle.gfx_planner.specs.Joined.{frame_of, after_frame}
+use Rattle.gfx_planner.specs.Server.{Server}
+use Rattle.gfx_planner.specs.Holds.{Holds}
 use Rattle.gfx_planner.specs.Planned.{Planned, PutsFront, AllSent, ready}
-use Rattle.gfx_planner.specs.Wire.{Server}
+use Rattle.gfx_planner.specs.Joined.{frame_of, after_frame}
 use Rattle.gfx_planner.specs.declared.planner.TheConstants.{MOST_FRAMES}
 use Rattle.gfx_schedule.specs.Leaving.{kept, step_of, steps_of}
-use Rattle.gfx_schedule.specs.ServerEnd.{first_frame, numbered, may_send}
+use Rattle.gfx_schedule.specs.ServerEnd.{may_send}
 use Rattle.gfx_script.specs.Checks.{Held, held_through}
 use Rattle.gfx_script.specs.Kinds.{KindedStep, HasKind}
 use Rattle.gfx_script.specs.Script.{IsStep}
@@ -18,26 +17,16 @@ use Rattle.gfx_script.specs.Scripted.{Script}
 use Rattle.gfx_session.specs.Kept.{digest_in}
 use Rattle.gfx_session.specs.declared.server_end.ServerEnd.{ServerEnd}
 use Rattle.gfx_state.specs.Sending.{sent}
-use Rattle.gfx_window.specs.Window.{Window, with_pending}
+use Rattle.gfx_window.specs.Window.{Window}
 use Rattle.gfx_window.specs.Window.{sent as with_frame}
 
--- the steps of a script behind this number, up to and including the next of the word `frame`, as these choosers
--- choose
-abbrev pub next_steps : Script → List Chooser → ℕ → List KindedStep
-next_steps script choosers last = first_frame (kinded script (last + 1) choosers (drop last script.steps))
-
--- they are queued, and the number of the last of them is answered; the choosers were asked of them alone. Without memory
--- only what waits has changed
-abbrev pub QueuesFrame : Result ℕ NoMemory → Script → ℕ → List Chooser → List Chooser → Window → Window → Type 0
-QueuesFrame (Ok number) script last before after old new =
-    (number ≡ last + length (next_steps script before last))
-    × (new ≡ with_pending old (old.pending ++ numbered (last + 1) (next_steps script before last)))
-    × Asks script last number before after
-QueuesFrame (Err e) script last before after old new = new ≡ with_pending old new.pending
-
--- the steps of a frame of all that waits
+-- the steps of a frame of all that waits: those that no later one covers
 abbrev pub due_of : Script → Window → List KindedStep
 due_of script window = steps_of script (kept script window.pending)
+
+-- the bytes of that frame, as a server's end would send it now
+abbrev pub frame_due : ServerEnd → List ℕ
+frame_due end = sent (frame_of end.script end.planner.server (due_of end.script end.window))
 
 -- steps may be put one after another: their numbers are within their ranges, their kinds are such as they
 -- may go as, and the checks of each hold on what those before it leave of what the server's end has
@@ -56,13 +45,13 @@ pub record MayFrame (script : Script) (server : Server) (window : Window) : Type
   pub there : AllByRecursion (λ item. IsSome (step_of script item)) window.pending
   pub may : MayPut script server (due_of script window)
 
--- a frame of steps is put out, and its id is answered; or a front of it is
+-- a frame of these steps is put out, and its id is answered. Without memory a front of it is
 abbrev pub PutsFrame : Result ℕ NoMemory → Script → List KindedStep → Server → Planned → List ℕ → List ℕ → Type 0
 PutsFrame (Ok frame) script steps server new before now =
     (frame ≡ server.frames + 1) × AllSent new before now (frame_of script server steps) (after_frame script server steps)
 PutsFrame (Err e) script steps server new before now = PutsFront before now (sent (frame_of script server steps))
 
--- a frame of all that waited is in flight, and the planner is then this one
+-- a frame of all that waited is in flight, and the planner has what the server then has
 pub record Flies (old new : ServerEnd) (server : Server) : Type 0 where
   pub script : new.script ≡ old.script
   pub last : new.last ≡ old.last
@@ -74,11 +63,7 @@ pub record Flies (old new : ServerEnd) (server : Server) : Type 0 where
   pub splitter : new.splitter ≡ old.splitter
   pub spent : new.spent ≡ old.spent
 
--- the frame that goes
-abbrev pub frame_due : ServerEnd → List ℕ
-frame_due end = sent (frame_of end.script end.planner.server (due_of end.script end.window))
-
--- what a server's end hears its client by is as it was
+-- nothing has changed of what a server's end hears its client by
 pub record HearsAsBefore (old new : ServerEnd) : Type 0 where
   pub window : new.window ≡ old.window
   pub ends : new.ends.items ≡ old.ends.items
@@ -86,7 +71,8 @@ pub record HearsAsBefore (old new : ServerEnd) : Type 0 where
   pub closed : new.closed ≡ old.closed
   pub splitter : new.splitter ≡ old.splitter
 
--- it goes where it can, and whether it did is told; or a front of it is put out, and no frame is in flight for it
+-- the frame goes where one can, and whether it did is told. Without memory a front of it is put out, and no frame is in
+-- flight for it
 abbrev pub SendsFrame : Result Bool NoMemory → ServerEnd → ServerEnd → List ℕ → List ℕ → Type 0
 SendsFrame (Ok true) old new before now =
     (may_send old.confirmed old.window ≡ true) × Flies old new (after_frame old.script old.planner.server (due_of old.script old.window)) × (now ≡ before ++ frame_due old)

@@ -1,12 +1,12 @@
--- What the server's end of a session keeps, against what the schedule says of it: past states by their
--- digests, and of the client's bytes those that aren't a whole message yet.
+-- For which of the schedule's ends the server's end of a session stands. It keeps past states by their digests, and of
+-- its client's bytes those that aren't a whole message yet.
 use Rattle.std.specs.Prelude.{◌≡◌, ℕ, ◌+◌, false, List, drop, length, map, None, is_some}
 use Rattle.gfx_chooser.specs.Choosing.{Chooser}
 use Rattle.gfx_chooser.specs.Kinded as chosen
 use Rattle.gfx_planner.specs.Planned.{ready}
 use Rattle.gfx_report.specs.StateBytes.{digest_of}
 use Rattle.gfx_schedule.specs.Plan.{InPlanFrom}
-use Rattle.gfx_schedule.specs.ServerEnd.{ServerEnd as EndOfSchedule}
+use Rattle.gfx_schedule.specs.ServerEnd.{ScheduledEnd}
 use Rattle.gfx_schedule.specs.Starts.{MayBegin, Start}
 use Rattle.gfx_script.specs.Checks.{Held}
 use Rattle.gfx_script.specs.Kinds.{KindedStep}
@@ -20,13 +20,9 @@ use Rattle.gfx_state.specs.State.{State}
 abbrev pub digest_in : State → List ℕ
 digest_in state = digest_of state.shown.surfaces state.cache.slots state.clear.rings state.clear.glyphs
 
--- the steps that are left go as these choosers choose
-abbrev pub GoesBy : Script → List Chooser → EndOfSchedule → Type 0
-GoesBy script choosers at = at.left ≡ chosen.kinded script (at.last + 1) choosers (drop at.last script.steps)
-
 -- a server's end, spent or not, hears its client as one of the schedule's does: by the frames in flight, each with the
 -- digest of the state right after it, whether a version is confirmed, and the bytes that aren't a whole message yet
-pub record ListensAs (end : ServerEnd) (at : EndOfSchedule) : Type 0 where
+pub record ListensAs (end : ServerEnd) (at : ScheduledEnd) : Type 0 where
   pub window : end.window ≡ at.window
   pub ends : end.ends.items ≡ map digest_in at.ends
   pub even : length at.ends ≡ length at.window.flying
@@ -35,7 +31,21 @@ pub record ListensAs (end : ServerEnd) (at : EndOfSchedule) : Type 0 where
   pub heard : at.stopped ≡ None → end.splitter ≡ holding at.heard
   pub short : at.stopped ≡ None → front at.heard ≡ Short
 
--- what its client's bytes leave as it is: the script, the steps that wait and those that are left, and what was planned
+-- a server's end that isn't spent stands for one of the schedule's: it hears its client as that one does, has planned
+-- what that one has, and the same steps are left, whatever kinds they go as
+pub record Stands (end : ServerEnd) (at : ScheduledEnd) : Type 0 where
+  pub fresh : end.spent ≡ false
+  pub listens : ListensAs end at
+  pub planned : end.planner ≡ ready at.server
+  pub last : end.last ≡ at.last
+  pub left : map (λ one. one.step) at.left ≡ drop at.last end.script.steps
+
+-- the steps that are left go as these choosers choose
+abbrev pub GoesBy : Script → List Chooser → ScheduledEnd → Type 0
+GoesBy script choosers at = at.left ≡ chosen.kinded script (at.last + 1) choosers (drop at.last script.steps)
+
+-- a server's end plans as before, whatever it has heard: the script is as it was, and so are the steps that wait, those
+-- that are left, and what was planned
 pub record PlansAsBefore (old new : ServerEnd) : Type 0 where
   pub script : new.script ≡ old.script
   pub last : new.last ≡ old.last
@@ -43,26 +53,12 @@ pub record PlansAsBefore (old new : ServerEnd) : Type 0 where
   pub spent : new.spent ≡ old.spent
   pub pending : new.window.pending ≡ old.window.pending
 
--- a server's end that isn't spent stands for one of the schedule's, whatever kinds the steps that are left go as
-pub record Stands (end : ServerEnd) (at : EndOfSchedule) : Type 0 where
-  pub fresh : end.spent ≡ false
-  pub left : map (λ one. one.step) at.left ≡ drop at.last end.script.steps
-  pub last : end.last ≡ at.last
-  pub window : end.window ≡ at.window
-  pub planned : end.planner ≡ ready at.server
-  pub ends : end.ends.items ≡ map digest_in at.ends
-  pub even : length at.ends ≡ length at.window.flying
-  pub confirmed : end.confirmed ≡ at.confirmed
-  pub closed : end.closed ≡ is_some at.stopped
-  pub heard : at.stopped ≡ None → end.splitter ≡ holding at.heard
-  pub short : at.stopped ≡ None → front at.heard ≡ Short
-
 -- what the planner of a server's end has is in step with the script, which began so and whose steps go as these kinds
 pub record InStep (end : ServerEnd) : Type 0 where
   pub origin : Start
   pub kinded : List KindedStep
   pub begins : MayBegin origin end.script kinded
-  pub at : EndOfSchedule
+  pub at : ScheduledEnd
   pub gone : List KindedStep
   pub waiting : List KindedStep
   pub plan : InPlanFrom origin end.script kinded at gone waiting

@@ -1,6 +1,9 @@
 pub mod Kept
 pub mod Serving
+pub mod Taking
+pub mod Queueing
 pub mod Frames
+pub mod Noting
 pub mod Listening
 pub mod Session
 pub mod Beginning

@@ -1,4 +1,4 @@
--- A session against what the schedule says of it.
+-- For which world of the schedule a session stands, and what its turns do: what happens in that world.
 use Rattle.std.specs.Prelude.{◌≡◌, true, false, List, [], ◌∷◌, ◌++◌, length, map, Result, Ok, Err}
 use Rattle.gfx_base.specs.declared.answer.NoMemory.{NoMemory}
 use Rattle.gfx_chooser.specs.Choosing.{Chooser}
@@ -64,22 +64,27 @@ pub record StandsBy (session : Session) (choosers : List Chooser) (script : Scri
   pub stands : Stands session w
   pub goes_by : GoesBy script choosers w.server
 
--- what a turn does: that of the schedule, whatever the session stood for. Without memory it is spent
+-- this holds of each start, kinds and turns behind which a session stands for the world of its script, where the steps
+-- that are left go as these choosers choose
+abbrev pub AfterTurns : Session → List Chooser → (Start → List KindedStep → List Turn → Type 0) → Type 0
+AfterTurns session choosers holds =
+    (origin : Start) (kinded : List KindedStep) (turns : List Turn) → MayBegin origin (script_of session) kinded
+    → StandsBy session choosers (script_of session) (world_from origin (script_of session) kinded turns) → holds origin kinded turns
+
+-- what a turn does: the session stands for the world behind it. Without memory it is spent
 abbrev pub Turns : Result Turned NoMemory → Session → Session → List Chooser → List Chooser → Turn → Type 0
 Turns (Ok turned) old new choosers left turn =
     (old.spent ≡ false) × (script_of new ≡ script_of old) × AsksBetween old new choosers left
-    × ((origin : Start) (kinded : List KindedStep) (turns : List Turn) → MayBegin origin (script_of old) kinded
-    → StandsBy old choosers (script_of old) (world_from origin (script_of old) kinded turns)
-    → StandsBy new left (script_of old) (world_from origin (script_of old) kinded (turns ++ turn ∷ [])) × (turned ≡ answer (world_from origin (script_of old) kinded turns) turn))
+    × AfterTurns old choosers (λ origin kinded turns.
+    StandsBy new left (script_of old) (world_from origin (script_of old) kinded (turns ++ turn ∷ [])) × (turned ≡ answer (world_from origin (script_of old) kinded turns) turn))
 Turns (Err e) old new choosers left turn = (new.spent ≡ true) × (script_of new ≡ script_of old)
 
--- what draining does: rounds until the session is ended
+-- what draining does: the session stands for the world that is drained, and all is ended. Without memory it is spent
 abbrev pub Drains : Result (Unit {0}) NoMemory → Session → Session → List Chooser → List Chooser → Type 0
 Drains (Ok done) old new choosers left =
     (old.spent ≡ false) × (script_of new ≡ script_of old) × AsksBetween old new choosers left
     × (new.server.last ≡ length (script_of old).steps)
-    × ((origin : Start) (kinded : List KindedStep) (turns : List Turn) → MayBegin origin (script_of old) kinded
-    → StandsBy old choosers (script_of old) (world_from origin (script_of old) kinded turns)
-    → Stands new (drained (script_of old) (rounds_for (script_of old)) (world_from origin (script_of old) kinded turns))
+    × AfterTurns old choosers (λ origin kinded turns.
+    Stands new (drained (script_of old) (rounds_for (script_of old)) (world_from origin (script_of old) kinded turns))
     × (is_ended (drained (script_of old) (rounds_for (script_of old)) (world_from origin (script_of old) kinded turns)) ≡ true))
 Drains (Err e) old new choosers left = (new.spent ≡ true) × (script_of new ≡ script_of old)

@@ -6,9 +6,8 @@ ghost use Rattle.gfx_client.specs.Standing.{HasBroughtFrom, BringsOpen, IsDraine
 ghost use Rattle.gfx_state.specs.Cursor.{settled};
 ghost use Rattle.gfx_state.specs.History.{Effect};
 ghost use Rattle.gfx_state.specs.State.{State};
-ghost use Rattle.gfx_session.specs.Drawing.{drawn_by};
+ghost use Rattle.gfx_session.specs.Drawing.{drawn_by, TakesBytes, Draws};
 ghost use Rattle.gfx_session.specs.Kept.{digest_in};
-ghost use Rattle.gfx_session.specs.Turning.{TakesBytes, Draws};
 
 use crate::queue::Queue;
 use gfx_base::{Bytes, NoMemory};

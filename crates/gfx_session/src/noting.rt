@@ -1,9 +1,8 @@
 //! The acknowledgements that a session notes.
 ghost use Rattle.std.specs.Prelude.{◌≡◌, ◌++◌, ◌∷◌, [], false, None, length, drop, Ok, OnOk};
 ghost use Rattle.gfx_session.specs.Kept.{IsServerEnd, PlansAsBefore};
-ghost use Rattle.gfx_session.specs.Serving.{ListensOpen};
 ghost use Rattle.gfx_session.specs.declared.server_end.ServerFault.TheVariants.{Memory};
-ghost use Rattle.gfx_session.specs.Turning.{WillHear, paired};
+ghost use Rattle.gfx_session.specs.Noting.{ListensOpen, WillHear, paired};
 
 use crate::acked::{Acked, Acks};
 use crate::server_end::{ServerEnd, ServerFault, Taken};

@@ -15,8 +15,8 @@ use Rattle.gfx_state.specs.History.{history, history_of}
 use Rattle.gfx_state.specs.Run.{begun, run_of}
 use Rattle.gfx_state.specs.State.{State}
 use Rattle.gfx_state.proofs.Effects.{history-append, history_refused}
-use Rattle.gfxpipe.specs.Audit.{lines, number_after, told, held_lines}
-use Rattle.gfxpipe.specs.Auditing.{TellsHeld}
+use Rattle.gfxpipe.specs.Audit.{lines, told, held_lines}
+use Rattle.gfxpipe.specs.Auditing.{TellsHeld, number_after}
 use Rattle.gfxpipe.specs.Did.{IsNotRefused, trouble_of}
 use Rattle.gfxpipe.specs.Due.{played, audit_text}
 use Rattle.gfxpipe.specs.Rules.{Audits}

@@ -30,8 +30,9 @@ use Rattle.gfx_state.specs.History.{Effect, history, history_of}
 use Rattle.gfx_state.specs.Run.{begun, run_of}
 use Rattle.gfx_state.proofs.Coming.{coming_needs, coming_refuses}
 use Rattle.gfx_state.proofs.Effects.{history-nil, history-append}
-use Rattle.gfxpipe.specs.Audit.{lines, number_after, told, HasHeard}
-use Rattle.gfxpipe.specs.Auditing.{message_in, due_of, due_lines, StandsAlike, WritesLine, Tells, TellsNext, TellsNone, GoesOnByOne, TellsAll, GoesOnByAll}
+use Rattle.gfxpipe.specs.Audit.{lines, told}
+use Rattle.gfxpipe.specs.Auditing.{number_after, HasHeard, due_of, due_lines, StandsAsBefore, TellsAll, GoesOnByAll}
+use Rattle.gfxpipe.specs.AuditSteps.{message_in, WritesLine, TellsMessage, TellsNext, TellsNone, GoesOnByOne}
 use Rattle.gfxpipe.specs.Recording.{HasPlayed, HasRefused}
 use Rattle.gfxpipe.specs.declared.audit.Auditor.{Auditor}
 
@@ -65,23 +66,23 @@ message_said (EndFrame frame) size decoded = refl
 message_said other size decoded = refl
 
 -- a line was written, or could not be
-told_line : (old new : Auditor) (answer : Result (Option Taken) TakeFault) (o : Change) (next : Effect) → due_of old ≡ next ∷ due_of new → new.number ≡ next_count old.number → StandsAlike old.client new.client
+told_line : (old new : Auditor) (answer : Result (Option Taken) TakeFault) (o : Change) (next : Effect) → due_of old ≡ next ∷ due_of new → new.number ≡ next_count old.number → StandsAsBefore old.client new.client
     → closed_by new.client ≡ None → WritesLine answer o (audit_line (next_count old.number) (id_of next.pdu) next.size) → GoesOnByOne answer old new o
 told_line old new (Ok None) o next first number alike not_closed wrote = record {
   takes = record { next = next; first = first; number = number; alike = alike; not_closed = not_closed };
-  gains = subst (λ n. Gains o (audit_line n (id_of next.pdu) next.size)) (sym number) wrote;
+  writes = subst (λ n. Gains o (audit_line n (id_of next.pdu) next.size)) (sym number) wrote;
 }
 told_line old new (Ok (Some taken.More)) o next first number alike not_closed wrote = absurd wrote
 told_line old new (Ok (Some taken.Stopped)) o next first number alike not_closed wrote = absurd wrote
 told_line old new (Err broke.Write) o next first number alike not_closed wrote = record {
   takes = record { next = next; first = first; number = number; alike = alike; not_closed = not_closed };
-  fails = subst (λ n. FailsAfter o (audit_line n (id_of next.pdu) next.size)) (sym number) wrote;
+  writes = subst (λ n. FailsAfter o (audit_line n (id_of next.pdu) next.size)) (sym number) wrote;
 }
 told_line old new (Err broke.Memory) o next first number alike not_closed wrote = absurd wrote
 
 -- no message was there
-told_none : (old new : Auditor) (answer : Result (Option Taken) TakeFault) (o : Change) → closed_by old.client ≡ None → Waits old.client new.client → StandsAlike old.client new.client
-    → Tells None answer old new o → GoesOnByOne answer old new o
+told_none : (old new : Auditor) (answer : Result (Option Taken) TakeFault) (o : Change) → closed_by old.client ≡ None → Waits old.client new.client → StandsAsBefore old.client new.client
+    → TellsMessage None answer old new o → GoesOnByOne answer old new o
 told_none old new answer o none waits alike (is, number, gains) =
     subst (λ z. GoesOnByOne z old new o) (sym is) (
       record {
@@ -89,19 +90,18 @@ told_none old new answer o none waits alike (is, number, gains) =
         number = number;
         gains = gains;
       },
-      alike,
-      record { needs = waits.needs; not_closed = waits.moves.closed ∙ none },
+      (alike, record { needs = waits.needs; not_closed = waits.moves.closed ∙ none }),
     )
 
 -- a message was applied and told of
-told_message : (old new : Auditor) (said : Stepped) (answer : Result (Option Taken) TakeFault) (o : Change) → closed_by old.client ≡ None → MovesBy old.client new.client said → StandsAlike old.client new.client
-    → Tells (message_in said) answer old new o → GoesOnByOne answer old new o
+told_message : (old new : Auditor) (said : Stepped) (answer : Result (Option Taken) TakeFault) (o : Change) → closed_by old.client ≡ None → MovesBy old.client new.client said → StandsAsBefore old.client new.client
+    → TellsMessage (message_in said) answer old new o → GoesOnByOne answer old new o
 told_message old new said answer o none m alike tells =
-    let told = subst (λ z. Tells z answer old new o) (ap message_in m.says ∙ message_said m.pdu m.size (cursor_of new.client).state.decoded) tells in
+    let told = subst (λ z. TellsMessage z answer old new o) (ap message_in m.says ∙ message_said m.pdu m.size (cursor_of new.client).state.decoded) tells in
     told_line old new answer o (record { pdu = m.pdu; size = m.size; state = (cursor_of new.client).state }) m.first told.0 alike (m.moves.closed ∙ none) told.1
 
-told_open : (old new : Auditor) (said : Stepped) (answer : Result (Option Taken) TakeFault) (o : Change) → closed_by old.client ≡ None → StepsOpen (Ok said) old.client new.client → StandsAlike old.client new.client
-    → Tells (message_in said) answer old new o → GoesOnByOne answer old new o
+told_open : (old new : Auditor) (said : Stepped) (answer : Result (Option Taken) TakeFault) (o : Change) → closed_by old.client ≡ None → StepsOpen (Ok said) old.client new.client → StandsAsBefore old.client new.client
+    → TellsMessage (message_in said) answer old new o → GoesOnByOne answer old new o
 told_open old new stepped.Need answer o none s alike tells = told_none old new answer o none s alike tells
 told_open old new (stepped.Applied id size) answer o none s alike tells = told_message old new (stepped.Applied id size) answer o none s alike tells
 told_open old new (stepped.Ended frame size reply) answer o none s alike tells = told_message old new (stepped.Ended frame size reply) answer o none s alike tells
@@ -112,13 +112,13 @@ open_step closed result old new none s = subst (λ (z : Option ClientFault). Ste
 
 -- whatever a step said was told
 pub told_step : (old mid new : Auditor) (said : Stepped) (answer : Result (Option Taken) TakeFault) (o : Change) → closed_by old.client ≡ None → Steps (closed_by old.client) (Ok said) old.client mid.client
-    → StandsAlike old.client mid.client → mid.number ≡ old.number → new.client ≡ mid.client → Tells (message_in said) answer mid new o → GoesOnByOne answer old new o
+    → StandsAsBefore old.client mid.client → mid.number ≡ old.number → new.client ≡ mid.client → TellsMessage (message_in said) answer mid new o → GoesOnByOne answer old new o
 told_step old mid new said answer o none s alike same client tells =
     told_open old new said answer o none
     (subst (λ z. StepsOpen (Ok said) old.client z) (sym client) (open_step (closed_by old.client) (Ok said) old.client mid.client none s))
-    (subst (λ z. StandsAlike old.client z) (sym client) alike) (counted (message_in said) tells)
+    (subst (λ z. StandsAsBefore old.client z) (sym client) alike) (counted (message_in said) tells)
   where
-    counted : (message : Option (Id × ℕ)) → Tells message answer mid new o → Tells message answer old new o
+    counted : (message : Option (Id × ℕ)) → TellsMessage message answer mid new o → TellsMessage message answer old new o
     counted None (is, number, gains) = (is, number ∙ same, gains)
     counted (Some message) (number, wrote) =
         (number ∙ ap next_count same, subst (λ n. WritesLine answer o (audit_line (next_count n) message.0 message.1)) same wrote)
@@ -144,7 +144,7 @@ pub record Telling (start now : Auditor) (o : Change) : Type 0 where
   pub first : due_of start ≡ done ++ due_of now
   pub number : now.number ≡ number_after start.number done
   pub gains : Gains o (lines start.number done)
-  pub alike : StandsAlike start.client now.client
+  pub alike : StandsAsBefore start.client now.client
   pub not_closed : closed_by now.client ≡ None
 
 pub telling_none : (start : Auditor) (m : ℕ) (held : Option (List ℕ)) → closed_by start.client ≡ None → Telling start start (change m m held held)
@@ -170,23 +170,23 @@ lines_next start now done next number at is =
 first_next : (start now new : Auditor) (done : List Effect) (next : Effect) → due_of start ≡ done ++ due_of now → due_of now ≡ next ∷ due_of new → due_of start ≡ (done ++ next ∷ []) ++ due_of new
 first_next start now new done next first then = first ∙ ap (λ z. done ++ z) then ∙ sym (append_assoc done (next ∷ []) (due_of new))
 
-pub telling_more : (a b d : ℕ) (x y z : Option (List ℕ)) (start now new : Auditor) → Telling start now (change a b x y) → TellsNext now new (change b d y z) → Telling start new (change a d x z)
+pub telling_more : (a b d : ℕ) (x y z : Option (List ℕ)) (start now new : Auditor) → Telling start now (change a b x y) → TellsNext (Ok None) now new (change b d y z) → Telling start new (change a d x z)
 telling_more a b d x y z start now new t n = record {
   done = t.done ++ n.takes.next ∷ [];
   first = first_next start now new t.done n.takes.next t.first n.takes.first;
   number = n.takes.number ∙ ap next_count t.number ∙ sym (number-append start.number t.done (n.takes.next ∷ []));
-  gains = subst (Gains (change a d x z)) (sym (lines_next start now t.done n.takes.next new.number t.number n.takes.number)) (Gains-append a b d x y z (lines start.number t.done) (audit_line new.number (id_of n.takes.next.pdu) n.takes.next.size) t.gains n.gains);
+  gains = subst (Gains (change a d x z)) (sym (lines_next start now t.done n.takes.next new.number t.number n.takes.number)) (Gains-append a b d x y z (lines start.number t.done) (audit_line new.number (id_of n.takes.next.pdu) n.takes.next.size) t.gains n.writes);
   alike = λ bytes stands. n.takes.alike bytes (t.alike bytes stands);
   not_closed = n.takes.not_closed;
 }
 
 -- where the next answer doesn't end it, a message was told of
-pub goes_on : (now new : Auditor) (answer : Option Taken) (o : Change) → ((t : Taken) → answer ≡ Some t → ⊥) → GoesOnByOne (Ok answer) now new o → TellsNext now new o
+pub goes_on : (now new : Auditor) (answer : Option Taken) (o : Change) → ((t : Taken) → answer ≡ Some t → ⊥) → GoesOnByOne (Ok answer) now new o → TellsNext (Ok None) now new o
 goes_on now new None o more n = n
 goes_on now new (Some t) o more n = absurd (more t refl)
 
 -- fewer messages are left
-pub fewer_left : (now new : Auditor) (o : Change) → TellsNext now new o → length (due_of new) < length (due_of now)
+pub fewer_left : (now new : Auditor) (o : Change) → TellsNext (Ok None) now new o → length (due_of new) < length (due_of now)
 fewer_left now new o n = rw n.takes.first (omega arith)
 
 -- no message is left
@@ -204,8 +204,8 @@ front_due start now o t = ap (lines start.number) t.first ∙ lines-append start
 
 pub told_end : (a b d : ℕ) (x y z : Option (List ℕ)) (start now new : Auditor) (answer : Taken) → Telling start now (change a b x y) → GoesOnByOne (Ok (Some answer)) now new (change b d y z)
     → GoesOnByAll (Ok answer) start new (change a d x z)
-told_end a b d x y z start now new taken.More t (n, alike, rest) =
-    (told_all a b d x y z start now new t n, (λ bytes stands. alike bytes (t.alike bytes stands)), rest)
+told_end a b d x y z start now new taken.More t (n, (alike, rest)) =
+    (told_all a b d x y z start now new t n, ((λ bytes stands. alike bytes (t.alike bytes stands)), rest))
 told_end a b d x y z start now new taken.Stopped t (n, refuses) =
     (told_all a b d x y z start now new t n, λ bytes stands. refuses bytes (t.alike bytes stands))
 
@@ -219,7 +219,7 @@ told_fault a b d x y z start now new broke.Write t n =
     ∙ lines-append start.number (t.done ++ n.takes.next ∷ []) (due_of new)
     ∙ ap (λ w. w ++ lines (number_after start.number (t.done ++ n.takes.next ∷ [])) (due_of new)) (lines_next start now t.done n.takes.next new.number t.number n.takes.number) in
     subst (FailsAfter (change a d x z)) (sym due)
-    (FailsAfter_more (change a d x z) (front ++ line) (lines (number_after start.number (t.done ++ n.takes.next ∷ [])) (due_of new)) (FailsAfter-append a b d x y z front line t.gains n.fails))
+    (FailsAfter_more (change a d x z) (front ++ line) (lines (number_after start.number (t.done ++ n.takes.next ∷ [])) (due_of new)) (FailsAfter-append a b d x y z front line t.gains n.writes))
 told_fault a b d x y z start now new broke.Memory t n = (
   n.count ∙ t.gains.count,
   record {
@@ -261,7 +261,7 @@ heard a b d x y z old mid new bytes all answer h wrote stands brought same goes 
     gains t = subst (Gains (change a d x z)) (sym due) (Gains-append a b d x y z (told bytes) (due_lines mid) wrote t.gains)
 
     by : (given : Result Taken TakeFault) → GoesOnByAll given mid new (change b d y z) → TakesPiece Heard Stopped (told all) given new all (change a d x z)
-    by (Ok taken.More) (t, alike, rest) = (((alike all stands, rest), number t), gains t)
+    by (Ok taken.More) (t, (alike, rest)) = (((alike all stands, rest), number t), gains t)
     by (Ok taken.Stopped) (t, refuses) = (refuses all stands, gains t)
     by (Err broke.Write) fails = subst (FailsAfter (change a d x z)) (sym due) (FailsAfter-append a b d x y z (told bytes) (due_lines mid) wrote fails)
     by (Err broke.Memory) (count, part) = (

@@ -11,10 +11,10 @@ use Rattle.gfx_base.proofs.Streams.{Gained_none, Gained-append, Gains_none, Gain
 use Rattle.gfx_chooser.specs.Choosing.{Chooser, AreAlike}
 use Rattle.gfx_chooser.specs.Kinded.{GoesSo, Goes, Asks, kinded_steps, left_after, left_of}
 use Rattle.gfx_chooser.proofs.Asking.{length-kinded, kinded_fit, asks_none, asks_on, asks_step, kinded_next, kinded_asked}
-use Rattle.gfx_planner.specs.Agree.{IsAllowedStep, kinded_at}
+use Rattle.gfx_planner.specs.Server.{at_start}
+use Rattle.gfx_planner.specs.Allowed.{IsAllowedStep, kinded_at}
 use Rattle.gfx_planner.specs.Planned.{Planned, ready}
 use Rattle.gfx_planner.specs.Stream.{stream, sends, served, end_after, stream_of, PutsInFrame}
-use Rattle.gfx_planner.specs.Wire.{at_start}
 use Rattle.gfx_planner.proofs.Fronts.{MayPut, may_put, end_after-one, stream_of-one}
 use Rattle.gfx_planner.proofs.Streams.{stream-append}
 use Rattle.gfx_schedule.specs.ServerEnd.{first_frame}

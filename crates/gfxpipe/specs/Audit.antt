@@ -1,18 +1,12 @@
 -- The text of an audit: a line for each message that is applied, and at the end what a client then holds. This
 -- project's own rule.
-use Rattle.std.specs.Prelude.{◌≡◌, ℕ, List, [], ◌∷◌, ◌++◌, fold}
+use Rattle.std.specs.Prelude.{ℕ, List, [], ◌∷◌, ◌++◌}
 use Rattle.std.specs.FinMap.{len}
 use Rattle.gfx_base.specs.Memory.{next_count}
-use Rattle.gfx_client.specs.declared.client.Client.{Client}
 use Rattle.gfx_pdu.specs.Spelling.{id_of}
 use Rattle.gfx_report.specs.Audit.{audit_line, audit_end_text}
 use Rattle.gfx_state.specs.History.{Effect, history_of}
 use Rattle.gfx_state.specs.State.{State}
-use Rattle.gfxpipe.specs.Recording.{HasPlayed}
-
--- the number of the last of these messages, where so many were applied before them
-abbrev pub number_after : ℕ → List Effect → ℕ
-number_after applied all = fold (λ number message. next_count number) applied all
 
 -- the lines of these messages, where so many were applied before them
 unfoldable pub lines : ℕ → List Effect → List ℕ
@@ -23,10 +17,6 @@ lines applied (message ∷ more) =
 -- the lines of all messages in these bytes
 abbrev pub told : List ℕ → List ℕ
 told bytes = lines 0 (history_of bytes)
-
--- a client has played these bytes, and this is the number of its last message
-abbrev pub HasHeard : Client → ℕ → List ℕ → Type 0
-HasHeard client number bytes = HasPlayed client bytes × (number ≡ number_after 0 (history_of bytes))
 
 -- the lines of what a client in this state holds
 abbrev pub held_lines : State → List ℕ

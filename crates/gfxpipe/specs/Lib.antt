@@ -10,6 +10,7 @@ pub mod Rule
 pub mod Rules
 pub mod Recording
 pub mod Auditing
+pub mod AuditSteps
 pub mod Fronts
 pub mod Scripts
 pub mod Stream

@@ -3,7 +3,8 @@
 ghost use Rattle.std.specs.Prelude.{◌≡◌, ◌<◌, ◌^◌, [], None};
 ghost use Rattle.gfx_base.specs.Stream.{change};
 ghost use Rattle.gfx_client.specs.Client.{closed_by};
-ghost use Rattle.gfxpipe.specs.Auditing.{GoesOnByAll, GoesOnByOne, Tells, TellsHeld, message_in};
+ghost use Rattle.gfxpipe.specs.Auditing.{GoesOnByAll, TellsHeld};
+ghost use Rattle.gfxpipe.specs.AuditSteps.{GoesOnByOne, TellsMessage, message_in};
 ghost use Rattle.gfxpipe.specs.Recording.{HasPlayed};
 ghost use Rattle.gfxpipe.specs.Rules.{Audits};
 
@@ -27,7 +28,8 @@ struct Auditor {
 
 impl Taker for Auditor {
     ghost use Rattle.gfx_state.specs.Run.{run_of};
-    ghost use Rattle.gfxpipe.specs.Audit.{HasHeard, told};
+    ghost use Rattle.gfxpipe.specs.Audit.{told};
+    ghost use Rattle.gfxpipe.specs.Auditing.{HasHeard};
     ghost use Rattle.gfxpipe.specs.Recording.{HasRefused};
     ghost use Rattle.gfxpipe.specs.Fronts.{fronts_not_refused};
     ghost use Rattle.gfx_input.specs.Taking.{fixed, stays, settled};
@@ -144,7 +146,7 @@ fn tell<O: Sink>(
     out: &mut O,
 ) -> Result<Option<Taken>, TakeFault>
     ensures client { auditor.new.client ≡ auditor.old.client }
-    ensures tells { Tells message result auditor.old auditor.new
+    ensures tells { TellsMessage message result auditor.old auditor.new
         (change (O.faults out.old) (O.faults out.new) (O.held out.old) (O.held out.new)) }
 {
     let Some((id, size)) = message else {

@@ -3,8 +3,8 @@ ghost use Rattle.std.specs.Prelude.{◌≡◌, ◌≤◌, List, length};
 ghost use Rattle.gfx_base.specs.Stream.{change};
 ghost use Rattle.gfx_chooser.specs.Choosing.{Chooser as Choosing};
 ghost use Rattle.gfx_chooser.specs.Seen.{seen};
+ghost use Rattle.gfx_planner.specs.Server.{at_start};
 ghost use Rattle.gfx_planner.specs.Planned.{ready};
-ghost use Rattle.gfx_planner.specs.Wire.{at_start};
 ghost use Rattle.gfx_script.specs.Script.{IsAccepted};
 ghost use Rattle.gfxpipe.specs.Stream.{WritesStream, HasPut, MayGoOn, PlansFrame};
 

@@ -8,8 +8,9 @@ ghost use Rattle.gfx_state.specs.Sending.{sent};
 ghost use Rattle.gfx_window.specs.Window.{acknowledged};
 ghost use Rattle.gfx_session.specs.declared.server_end.listening.Taken.{Taken};
 ghost use Rattle.gfx_session.specs.Kept.{IsServerEnd};
-ghost use Rattle.gfx_session.specs.Listening.{Beside, Obeys, Hears};
-ghost use Rattle.gfx_session.specs.Serving.{Takes, Listens};
+ghost use Rattle.gfx_session.specs.Listening.{LeavesPlan, Obeys, Hears};
+ghost use Rattle.gfx_session.specs.Noting.{Listens};
+ghost use Rattle.gfx_session.specs.Taking.{Takes};
 
 use super::{ServerEnd, ServerFault};
 use gfx_base::{Bytes, Fault, NoMemory, Refusal};
@@ -59,7 +60,7 @@ impl From<Refusal> for ServerFault {
 }
 
 impl From<Fault> for ServerFault {
-    ghost use Rattle.gfx_session.specs.Listening.{fault_of};
+    ghost use Rattle.gfx_session.specs.Taking.{fault_of};
 
     ghost from_gives = { λ f e. e ≡ fault_of f };
 
@@ -128,7 +129,7 @@ impl ServerEnd {
     ) -> Result<(), ServerFault>
         requires { self.old.closed ≡ false }
         ensures hears { Hears result self.old self.new out.old out.new taken.old.items taken.new.items piece.now }
-        ensures beside { Beside self.old self.new taken.old.items taken.new.items }
+        ensures plan { LeavesPlan self.old self.new taken.old.items taken.new.items }
         ensures open { self.new.closed ≡ self.old.closed }
     {
         self.splitter.feed(piece)?;
@@ -148,7 +149,7 @@ impl ServerEnd {
         taken: &mut Vec<Taken>,
     ) -> Result<(), ServerFault>
         ensures obeys { Obeys result self.old self.new out.old out.new taken.old.items taken.new.items (λ heard. told self.old.script heard (client_of message.now)) }
-        ensures beside { Beside self.old self.new taken.old.items taken.new.items }
+        ensures plan { LeavesPlan self.old self.new taken.old.items taken.new.items }
         ensures open { self.new.closed ≡ self.old.closed }
         ensures held { self.new.splitter ≡ self.old.splitter }
     {
@@ -161,7 +162,7 @@ impl ServerEnd {
     /// Chooses a version of these sets, and confirms it.
     fn confirm(&mut self, sets: &CapsSets, out: &mut Bytes) -> Result<(), ServerFault>
         ensures obeys { (has : List Taken) → Obeys result self.old self.new out.old out.new has has (λ heard. confirms self.old.script heard (choice sets.now)) }
-        ensures beside { (has : List Taken) → Beside self.old self.new has has }
+        ensures plan { (has : List Taken) → LeavesPlan self.old self.new has has }
         ensures open { self.new.closed ≡ self.old.closed }
         ensures held { self.new.splitter ≡ self.old.splitter }
     {
@@ -185,7 +186,7 @@ impl ServerEnd {
     fn acknowledge(&mut self, frame: u32, taken: &mut Vec<Taken>) -> Result<(), ServerFault>
         ensures obeys { (now : List ℕ) → Obeys result self.old self.new now now taken.old.items taken.new.items
             (λ heard. acknowledges heard frame (acknowledged heard.end.window heard.end.window.flying frame)) }
-        ensures beside { Beside self.old self.new taken.old.items taken.new.items }
+        ensures plan { LeavesPlan self.old self.new taken.old.items taken.new.items }
         ensures open { self.new.closed ≡ self.old.closed }
         ensures held { self.new.splitter ≡ self.old.splitter }
     {

@@ -4,8 +4,9 @@ ghost use Rattle.gfx_chooser.specs.Seen.{seen};
 ghost use Rattle.gfx_schedule.specs.ServerEnd.{is_none, may_send};
 ghost use Rattle.gfx_schedule.specs.declared.turned.Turned.TheVariants.{Moved, Waiting};
 ghost use Rattle.gfx_script.specs.declared.TheConstants.{MOST_STEPS};
-ghost use Rattle.gfx_session.specs.Frames.{QueuesFrame, MayFrame, PutsFrame, SendsFrame, due_of};
+ghost use Rattle.gfx_session.specs.Frames.{MayFrame, PutsFrame, SendsFrame, due_of};
 ghost use Rattle.gfx_session.specs.Kept.{IsServerEnd};
+ghost use Rattle.gfx_session.specs.Queueing.{QueuesFrame};
 ghost use Rattle.gfx_session.specs.Serving.{Serves};
 
 use super::ServerEnd;

@@ -2,7 +2,7 @@ use Rattle.std.proofs.Common.{◌≡◌, None}
 use Rattle.gfx_client.specs.Client.{cursor_of, closed_by, offers_of}
 use Rattle.gfx_state.specs.Cursor.{settled}
 use Rattle.gfx_state.proofs.Weights.{weight}
-use Rattle.gfx_session.specs.Turning.{Draws}
+use Rattle.gfx_session.specs.Drawing.{Draws}
 use Rattle.gfx_session.proofs.drawing.draw_all.Given as goal
 
 abbrev pub invariant-steps : goal.invariant-steps

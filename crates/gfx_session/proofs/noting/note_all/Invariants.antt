@@ -1,5 +1,5 @@
 use Rattle.std.proofs.Common.{◌≡◌, ◌++◌, length, drop}
-use Rattle.gfx_session.specs.Turning.{paired}
+use Rattle.gfx_session.specs.Noting.{paired}
 use Rattle.gfx_session.proofs.noting.note_all.Given as goal
 
 abbrev pub invariant-frames : goal.invariant-frames

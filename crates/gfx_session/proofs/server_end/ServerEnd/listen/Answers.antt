@@ -2,12 +2,12 @@ use Rattle.gfx_session.proofs.Closing.{keeps, closed_by, closed_too}
 use Rattle.gfx_session.proofs.server_end.ServerEnd.listen.Goals as goal
 
 pub returns-in-Ok-clause-is : goal.returns-in-Ok-clause-is
-returns-in-Ok-clause-is c = keeps c.args.self.now c.hear.new.self c.args.taken.now.items c.hear.new.taken.items c.hear.ensures.beside
+returns-in-Ok-clause-is c = keeps c.args.self.now c.hear.new.self c.args.taken.now.items c.hear.new.taken.items c.hear.ensures.plan
 
 pub returns-in-Err-clause-is : goal.returns-in-Err-clause-is
-returns-in-Err-clause-is c = λ i. closed_too c.hear.new.self _ (keeps c.args.self.now c.hear.new.self c.args.taken.now.items c.hear.new.taken.items c.hear.ensures.beside i)
+returns-in-Err-clause-is c = λ i. closed_too c.hear.new.self _ (keeps c.args.self.now c.hear.new.self c.args.taken.now.items c.hear.new.taken.items c.hear.ensures.plan i)
 
 pub returns-in-Err-clause-listens : goal.returns-in-Err-clause-listens
 returns-in-Err-clause-listens c =
     closed_by c.args.self.now.closed c.in-Err.fault c.args.self.now c.hear.new.self c.args.out.now c.hear.new.out c.args.taken.now.items c.hear.new.taken.items c.args.piece.now c.if-self.false
-    c.hear.ensures.beside c.in-Err.ensures.hears
+    c.hear.ensures.plan c.in-Err.ensures.hears

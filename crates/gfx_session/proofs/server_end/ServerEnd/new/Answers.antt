@@ -1,6 +1,6 @@
 use Rattle.std.proofs.Common.{false, ap, ◌∙◌, refl}
+use Rattle.gfx_planner.specs.Server.{at_start}
 use Rattle.gfx_planner.specs.Planned.{ready}
-use Rattle.gfx_planner.specs.Wire.{at_start}
 use Rattle.gfx_schedule.specs.Starts.{from_nothing}
 use Rattle.gfx_schedule.proofs.Turns.{may_begin}
 use Rattle.gfx_session.proofs.Plans.{opened_is, opened_stands}

@@ -1,5 +1,5 @@
 use Rattle.std.proofs.Common.{length, ap, subst, arith, Ok}
-use Rattle.gfx_session.specs.Serving.{Listens}
+use Rattle.gfx_session.specs.Noting.{Listens}
 use Rattle.gfx_session.proofs.Closing.{counts}
 use Rattle.gfx_session.proofs.server_end.ServerEnd.take.Goals as goal
 

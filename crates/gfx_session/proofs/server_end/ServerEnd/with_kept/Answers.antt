@@ -1,7 +1,7 @@
 use Rattle.std.proofs.Common.{true, sym, ap, ◌∙◌, refl}
 use Rattle.gfx_import.specs.Imported.{imported}
+use Rattle.gfx_planner.specs.Server.{at_start, server_with}
 use Rattle.gfx_planner.specs.Planned.{Planned, ready}
-use Rattle.gfx_planner.specs.Wire.{at_start, server_with}
 use Rattle.gfx_schedule.specs.Starts.{from_kept}
 use Rattle.gfx_schedule.proofs.Importing.{import_may_begin}
 use Rattle.gfx_session.proofs.Plans.{opened_is, opened_stands}

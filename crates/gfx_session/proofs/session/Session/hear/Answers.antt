@@ -1,6 +1,6 @@
 use Rattle.std.proofs.Common.{◌∙◌, ◌++◌, false, not, drop, length, ap}
 use Rattle.gfx_script.specs.declared.turn.Turn.TheVariants.{Answer}
-use Rattle.gfx_session.specs.Turning.{paired}
+use Rattle.gfx_session.specs.Noting.{paired}
 use Rattle.gfx_session.proofs.ChosenKinds.{is_on}
 use Rattle.gfx_session.proofs.TurnLemmas.{heard, will_hear}
 use Rattle.gfx_session.proofs.session.Session.hear.Goals as goal

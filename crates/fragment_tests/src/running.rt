@@ -40,7 +40,7 @@ pub struct Ran<'a> {
 }
 
 /// Runs a command on these bytes, of which so many count. The reads and the writes of these numbers fail.
-pub fn run_within<'a>(
+pub(crate) fn run_within<'a>(
     alloc: Global,
     way: Way,
     limit: usize,
@@ -60,6 +60,6 @@ pub fn run_within<'a>(
 }
 
 /// Runs a command on these bytes, all of which count.
-pub fn run_on(alloc: Global, way: Way, bytes: &[u8]) -> Result<Ran<'static>, NoMemory> {
+pub(crate) fn run_on(alloc: Global, way: Way, bytes: &[u8]) -> Result<Ran<'static>, NoMemory> {
     run_within(alloc, way, 1_073_741_824, bytes, &[], &[])
 }

@@ -24,7 +24,7 @@ use Rattle.gfx_clear.specs.Heads.{head, glyph_use, is_set}
 use Rattle.gfx_clear.specs.Clear.{layered, drawn_in_layers, drawn_by_index, drawn_as, glyphs_after, with_glyphs, behind_head, Cleared, clear}
 use Rattle.gfx_clear.specs.Painting.{Scene, scene, decoded}
 use Rattle.gfx_clear.specs.Parts.{Parts, residual, banded}
-use Rattle.gfx_clear.specs.State.{State as ClearState, state}
+use Rattle.gfx_clear.specs.State.{ClearState, state}
 use Rattle.gfx_clear.specs.Subcodecs.{rows_drawn, subcodec, subcodecs_within}
 use Rattle.gfx_surface.specs.Picture.{Picture}
 use Rattle.gfx_state.specs.Alike.{glyph_outline}

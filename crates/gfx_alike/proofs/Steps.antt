@@ -20,7 +20,7 @@ use Rattle.gfx_bitmap_cache.specs.Slots.{Cached, Entry, cached, entry}
 use Rattle.gfx_surface.specs.Picture.{Picture}
 use Rattle.gfx_surface_map.specs.Shown.{Shown, with_picture, pixels_put}
 use Rattle.gfx_surface_map.specs.Surfaces.{painted}
-use Rattle.gfx_clear.specs.State.{State as ClearState}
+use Rattle.gfx_clear.specs.State.{ClearState}
 use Rattle.gfx_prog_decode.specs.Records.{Records, without_context, without_surface}
 use Rattle.gfx_pdu.specs.declared.codec.Codec.{Codec}
 use Rattle.gfx_pdu.specs.declared.codec.Codec.TheVariants.{Uncompressed, Video, ClearCodec}

@@ -14,7 +14,7 @@ use gfx_base::{Bytes, NoMemory};
 use gfx_layout::{Part, put_sized};
 
 /// Puts RDPGFX_FRAME_ACKNOWLEDGE_PDU at the end.
-pub fn put_frame_acknowledge(
+pub(crate) fn put_frame_acknowledge(
     out: &mut Bytes,
     depth: u32,
     frame: u32,
@@ -29,7 +29,7 @@ pub fn put_frame_acknowledge(
 }
 
 /// Puts RDPGFX_CAPS_ADVERTISE_PDU at the end.
-pub fn put_caps_advertise(out: &mut Bytes, sets: &CapsSets) -> Result<(), NoMemory>
+pub(crate) fn put_caps_advertise(out: &mut Bytes, sets: &CapsSets) -> Result<(), NoMemory>
     requires { IsSpellable (pdus.Advertise sets.now) }
     ensures { Puts result out.old out.new (spelling (pdus.Advertise sets.now)) }
 {

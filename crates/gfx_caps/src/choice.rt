@@ -78,7 +78,7 @@ fn qualifies(set: &CapsSet, version: u32) -> bool
 }
 
 /// Whether a client that is thin, or one that isn't, may have this version: version 10 is for no thin client.
-pub fn allows(version: u32, thin: bool) -> bool
+pub(crate) fn allows(version: u32, thin: bool) -> bool
     ensures { result ≡ allows version thin }
 {
     !(version == VERSION_10 && thin)

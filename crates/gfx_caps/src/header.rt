@@ -11,7 +11,7 @@ use gfx_layout::read_number;
 
 /// Which message a header announces.
 #[tactic(auto, unfolding(gfx_layout::specs::Header::kind_by))]
-pub fn read_kind(bytes: &[u8]) -> Result<ClientId, Refusal>
+pub(crate) fn read_kind(bytes: &[u8]) -> Result<ClientId, Refusal>
     requires { 8 ≤ length bytes.now }
     ensures { result ≡ kind_of bytes.now }
 {
@@ -19,7 +19,7 @@ pub fn read_kind(bytes: &[u8]) -> Result<ClientId, Refusal>
 }
 
 /// Puts the header of a message at the end whose body has so many bytes.
-pub fn put_header(out: &mut Bytes, id: ClientId, body: usize) -> Result<(), NoMemory>
+pub(crate) fn put_header(out: &mut Bytes, id: ClientId, body: usize) -> Result<(), NoMemory>
     requires { 8 + body < 2 ^ 32 }
     ensures { Puts result out.old out.new (header (number_of id) no_flags (8 + body)) }
 {

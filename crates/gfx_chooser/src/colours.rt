@@ -17,7 +17,7 @@ const ROOM: usize = MOST_COLOURS as usize;
 type Colours = ArrayVec<Rgb, ROOM>;
 
 /// How many colours the picture of this number has, which has these sides; `MOST_COLOURS` where it has more.
-pub fn count_colours(script: &Script, picture: u32, width: u16, height: u16) -> u16
+pub(crate) fn count_colours(script: &Script, picture: u32, width: u16, height: u16) -> u16
     requires { option_map {U = ℕ × ℕ} (λ one. (one.width, one.height)) (slice_get script.now.pictures picture) ≡ Some (width, height) }
     ensures { option_map colours_counted (slice_get script.now.pictures picture) ≡ Some result }
 {

@@ -13,7 +13,7 @@ use Rattle.gfx_clear_store.specs.Rings.{Rings}
 use Rattle.gfx_clear_bands.specs.Bands.{Drawing}
 use Rattle.gfx_glyph.specs.Glyphs.{Slot}
 use Rattle.gfx_clear.specs.declared.head.Head.{Head}
-use Rattle.gfx_clear.specs.State.{State, state, next_sequence}
+use Rattle.gfx_clear.specs.State.{ClearState, state, next_sequence}
 use Rattle.gfx_clear.specs.Heads.{head}
 use Rattle.gfx_clear.specs.Clear.{behind_head, undrawn, rings_before, clear, cleared}
 use Rattle.gfx_clear.specs.Painting.{Scene, scene, decoded}
@@ -22,7 +22,7 @@ use Rattle.gfx_clear.specs.Inner.{Draws, with_drawn}
 use Rattle.gfx_clear.proofs.Layers.{Refuses, refuses_first}
 
 -- a head that is refused
-pub decoded_refused : (old : State) (picture : Picture) (rect : Rect) (area : ℕ) (bytes : List ℕ) (refusal : Refusal) → area ≡ width_of rect * height_of rect → head old.expected area bytes ≡ Err refusal
+pub decoded_refused : (old : ClearState) (picture : Picture) (rect : Rect) (area : ℕ) (bytes : List ℕ) (refusal : Refusal) → area ≡ width_of rect * height_of rect → head old.expected area bytes ≡ Err refusal
     → decoded (scene old picture) rect bytes ≡ Err refusal
 unfolding decoded clear
 decoded_refused old picture rect area bytes refusal same e =
@@ -30,17 +30,17 @@ decoded_refused old picture rect area bytes refusal same e =
     (and_then_refused (head old.expected (width_of rect * height_of rect) bytes) refusal _ (ap (λ n. head old.expected n bytes) (sym same) ∙ e))
 
 -- what stands behind a head, for a rectangle of a surface
-abbrev pub behind : State → Picture → Rect → Head → List ℕ → Result (Drawing × List Slot) Refusal
+abbrev pub behind : ClearState → Picture → Rect → Head → List ℕ → Result (Drawing × List Slot) Refusal
 behind old picture rect start rest = behind_head start.glyph (width_of rect) (height_of rect) old.glyphs (undrawn (map colour_of (rect_of picture rect)) (rings_before start.reset old.rings)) rest
 
-clear_behind : (old : State) (picture : Picture) (rect : Rect) (area : ℕ) (bytes rest : List ℕ) (start : Head) → area ≡ width_of rect * height_of rect → head old.expected area bytes ≡ Ok (start, rest)
+clear_behind : (old : ClearState) (picture : Picture) (rect : Rect) (area : ℕ) (bytes rest : List ℕ) (start : Head) → area ≡ width_of rect * height_of rect → head old.expected area bytes ≡ Ok (start, rest)
     → clear old (width_of rect) (height_of rect) (map colour_of (rect_of picture rect)) bytes ≡ and_then (behind old picture rect start rest) (λ next. Ok (cleared next.0 next.1 start.sequence))
 unfolding clear
 clear_behind old picture rect area bytes rest start same e =
     and_then_at (head old.expected (width_of rect * height_of rect) bytes) (start, rest) _ (ap (λ n. head old.expected n bytes) (sym same) ∙ e)
 
 -- a fault behind it
-pub decoded_fault : (fault : Cause Refusal) (old : State) (picture : Picture) (rect : Rect) (area : ℕ) (bytes rest : List ℕ) (start : Head) → area ≡ width_of rect * height_of rect
+pub decoded_fault : (fault : Cause Refusal) (old : ClearState) (picture : Picture) (rect : Rect) (area : ℕ) (bytes rest : List ℕ) (start : Head) → area ≡ width_of rect * height_of rect
     → head old.expected area bytes ≡ Ok (start, rest) → Refuses fault (behind old picture rect start rest) → Refuses fault (decoded (scene old picture) rect bytes)
 unfolding decoded
 decoded_fault fault old picture rect area bytes rest start same e g =
@@ -48,7 +48,7 @@ decoded_fault fault old picture rect area bytes rest start same e g =
     (subst (Refuses fault) (sym (clear_behind old picture rect area bytes rest start same e)) (refuses_first fault (behind old picture rect start rest) _ g))
 
 -- and all that is drawn
-pub decoded_done : (old : State) (picture : Picture) (rect : Rect) (area : ℕ) (bytes rest : List ℕ) (start : Head) (new : Drawing) (glyphs : List Slot) → area ≡ width_of rect * height_of rect
+pub decoded_done : (old : ClearState) (picture : Picture) (rect : Rect) (area : ℕ) (bytes rest : List ℕ) (start : Head) (new : Drawing) (glyphs : List Slot) → area ≡ width_of rect * height_of rect
     → head old.expected area bytes ≡ Ok (start, rest) → behind old picture rect start rest ≡ Ok (new, glyphs)
     → decoded (scene old picture) rect bytes ≡ Ok (scene (state new.rings glyphs (Some (next_sequence start.sequence))) (with_drawn picture rect new))
 unfolding decoded
@@ -57,7 +57,7 @@ decoded_done old picture rect area bytes rest start new glyphs same e f =
     (clear_behind old picture rect area bytes rest start same e ∙ and_then_at (behind old picture rect start rest) (new, glyphs) _ f)
 
 -- what drawing over rings that are begun with did
-pub decoded_drawn : (old : State) (picture new : Picture) (rect : Rect) (area : ℕ) (bytes rest : List ℕ) (start : Head) (held rings : Rings) (glyphs : List Slot) → area ≡ width_of rect * height_of rect
+pub decoded_drawn : (old : ClearState) (picture new : Picture) (rect : Rect) (area : ℕ) (bytes rest : List ℕ) (start : Head) (held rings : Rings) (glyphs : List Slot) → area ≡ width_of rect * height_of rect
     → head old.expected area bytes ≡ Ok (start, rest) → held ≡ rings_before start.reset old.rings
     → Draws (Ok tt) rect rings old.glyphs glyphs picture new (behind_head start.glyph (width_of rect) (height_of rect) old.glyphs (undrawn (map colour_of (rect_of picture rect)) held) rest)
     → decoded (scene old picture) rect bytes ≡ Ok (scene (state rings glyphs (Some (next_sequence start.sequence))) new)
@@ -76,7 +76,7 @@ applies_fault Memory old new due g same = same
 applies_fault (Refused refusal) old new due g same = (g, same)
 
 -- and what it did that was refused
-pub decoded_undone : (fault : Cause Refusal) (old : State) (picture new : Picture) (rect : Rect) (area : ℕ) (bytes rest : List ℕ) (start : Head) (held rings back : Rings) (glyphs : List Slot)
+pub decoded_undone : (fault : Cause Refusal) (old : ClearState) (picture new : Picture) (rect : Rect) (area : ℕ) (bytes rest : List ℕ) (start : Head) (held rings back : Rings) (glyphs : List Slot)
     → area ≡ width_of rect * height_of rect → head old.expected area bytes ≡ Ok (start, rest) → held ≡ rings_before start.reset old.rings → back ≡ old.rings
     → Draws (Err fault) rect rings old.glyphs glyphs picture new (behind_head start.glyph (width_of rect) (height_of rect) old.glyphs (undrawn (map colour_of (rect_of picture rect)) held) rest)
     → Applies (Err fault) (scene old picture) (scene (state back glyphs old.expected) new) (decoded (scene old picture) rect bytes)

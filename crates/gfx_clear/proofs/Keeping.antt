@@ -11,7 +11,7 @@ use Rattle.gfx_clear.specs.declared.head.GlyphUse.{GlyphUse}
 use Rattle.gfx_clear.specs.declared.head.GlyphUse.TheVariants.{Unused, Stores, Shows}
 use Rattle.gfx_clear.specs.declared.layer.Layer.{Layer}
 use Rattle.gfx_clear.specs.declared.layer.Layer.TheVariants.{Residual, Bands, Palette, Plain}
-use Rattle.gfx_clear.specs.State.{State, fresh}
+use Rattle.gfx_clear.specs.State.{ClearState, fresh}
 use Rattle.gfx_clear.specs.Sending.{MaySend, sent, sent_as, use_of, sequence_of, head_bytes, part_as, part_bytes, rings_after}
 use Rattle.gfx_clear.proofs.Few.{part_few, placed_few}
 
@@ -41,7 +41,7 @@ layer_keeps Palette old width height pixels are = are
 layer_keeps Plain old width height pixels are = are
 
 -- after a picture is sent they are rings still
-pub rings_sent : (old : State) (layer : Layer) (index : Option ℕ) (width height : ℕ) (pixels : List Rgb) → AreRings old.rings → AreRings (sent old layer index width height pixels).state.rings
+pub rings_sent : (old : ClearState) (layer : Layer) (index : Option ℕ) (width height : ℕ) (pixels : List Rgb) → AreRings old.rings → AreRings (sent old layer index width height pixels).state.rings
 unfolding sent
 rings_sent old layer index width height pixels are = by (use_of index width height pixels old.glyphs)
   where
@@ -65,7 +65,7 @@ with_head_few form sequence layer old width height pixels high whole =
     omega (arith, length-append (head_bytes form sequence) (part_bytes width height p))
 
 -- how many bytes are sent at most
-pub sent_few : (old : State) (layer : Layer) (index : Option ℕ) (width height : ℕ) (pixels : List Rgb) → MaySend width height pixels index → height < 2 ^ 16
+pub sent_few : (old : ClearState) (layer : Layer) (index : Option ℕ) (width height : ℕ) (pixels : List Rgb) → MaySend width height pixels index → height < 2 ^ 16
     → length (sent old layer index width height pixels).bytes ≤ 5 * length pixels + 20000
 unfolding sent
 sent_few old layer index width height pixels may high = by (use_of index width height pixels old.glyphs)

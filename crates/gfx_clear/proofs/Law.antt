@@ -29,7 +29,7 @@ use Rattle.gfx_clear.specs.declared.head.GlyphUse.{GlyphUse}
 use Rattle.gfx_clear.specs.declared.head.GlyphUse.TheVariants.{Unused, Stores, Shows}
 use Rattle.gfx_clear.specs.declared.layer.Layer.{Layer}
 use Rattle.gfx_clear.specs.declared.layer.Layer.TheVariants.{Residual, Bands, Palette, Plain}
-use Rattle.gfx_clear.specs.State.{State}
+use Rattle.gfx_clear.specs.State.{ClearState}
 use Rattle.gfx_clear.specs.Heads.{head, is_due, has_place, is_small}
 use Rattle.gfx_clear.specs.Parts.{Parts, parts, covered_by}
 use Rattle.gfx_clear.specs.Subcodecs.{coded, raw_colours}
@@ -163,7 +163,7 @@ layer_drawn Palette width height pixels old f = palette_drawn width height pixel
 layer_drawn Plain width height pixels old f = raw_drawn width height pixels old f
 
 -- a stream whose head and what stands behind it are read
-clear_read : (old : State) (width height : ℕ) (under : List Rgb) (form : GlyphUse) (more : List ℕ) (new : Drawing) (glyphs : List Slot) → has_place form ≡ true → is_small (width * height) form ≡ true
+clear_read : (old : ClearState) (width height : ℕ) (under : List Rgb) (form : GlyphUse) (more : List ℕ) (new : Drawing) (glyphs : List Slot) → has_place form ≡ true → is_small (width * height) form ≡ true
     → behind_head form width height old.glyphs (undrawn under old.rings) more ≡ Ok (new, glyphs)
     → clear old width height under (head_bytes form (sequence_of old) ++ more) ≡ Ok (cleared new glyphs (sequence_of old))
 unfolding clear
@@ -177,7 +177,7 @@ clear_read old width height under form more new glyphs place small e =
     due (Some n) = eq-eqb n n refl
 
 -- layers behind a head, and the glyphs after them
-layers_read : (old : State) (width height : ℕ) (pixels under : List Rgb) (layer : Layer) (form : GlyphUse) (glyphs : List Slot) → Fits width height pixels (undrawn under old.rings)
+layers_read : (old : ClearState) (width height : ℕ) (pixels under : List Rgb) (layer : Layer) (form : GlyphUse) (glyphs : List Slot) → Fits width height pixels (undrawn under old.rings)
     → ((index : ℕ) × (form ≡ Stores index)) ⊎ (form ≡ Unused) → glyphs_after form width height pixels old.glyphs ≡ Ok glyphs
     → behind_head form width height old.glyphs (undrawn under old.rings) (part_bytes width height (part_as layer old.rings width height pixels))
     ≡ Ok (all_drawn pixels (rings_after layer old.rings width height pixels), glyphs)
@@ -205,10 +205,10 @@ unfolding shown
 shown_held index width height pixels glyphs place small e = rw (lt-ltb index PLACES place, le-ltb MOST_AREA (width * height) small) (drawn_held width height pixels (slot_at glyphs index) e)
 
 -- a message is decoded to a picture and its state
-abbrev Decodes : State → ℕ → ℕ → List Rgb → List Rgb → Message → Type 0
+abbrev Decodes : ClearState → ℕ → ℕ → List Rgb → List Rgb → Message → Type 0
 Decodes old width height under pixels m = clear old width height under m.bytes ≡ Ok (shows pixels m.state)
 
-fits_undrawn : (old : State) (width height : ℕ) (pixels under : List Rgb) (index : Option ℕ) → AreRings old.rings → MaySend width height pixels index → width < 2 ^ 16 → height < 2 ^ 16
+fits_undrawn : (old : ClearState) (width height : ℕ) (pixels under : List Rgb) (index : Option ℕ) → AreRings old.rings → MaySend width height pixels index → width < 2 ^ 16 → height < 2 ^ 16
     → length under ≡ width * height → Fits width height pixels (undrawn under old.rings)
 fits_undrawn old width height pixels under index are may wide high long =
     let across = may.across in
@@ -230,7 +230,7 @@ fits_undrawn old width height pixels under index are may wide high long =
     pixels_some : (w h n : ℕ) → n ≡ w * h → 1 ≤ w → 1 ≤ h → 0 < n
     pixels_some w h n e a b = let one : 1 * 1 ≤ w * h = mul-le-mul a b in omega arith
 
-sent_form : (old : State) (layer : Layer) (index : Option ℕ) (width height : ℕ) (pixels : List Rgb) (form : GlyphUse) → use_of index width height pixels old.glyphs ≡ form
+sent_form : (old : ClearState) (layer : Layer) (index : Option ℕ) (width height : ℕ) (pixels : List Rgb) (form : GlyphUse) → use_of index width height pixels old.glyphs ≡ form
     → sent_as form layer old.rings old.glyphs (sequence_of old) width height pixels ≡ sent old layer index width height pixels
 unfolding sent
 sent_form old layer index width height pixels form e = ap (λ z. sent_as z layer old.rings old.glyphs (sequence_of old) width height pixels) (sym e)

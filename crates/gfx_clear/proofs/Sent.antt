@@ -9,7 +9,7 @@ use Rattle.gfx_clear_store.specs.Rings.{Rings}
 use Rattle.gfx_clear.specs.declared.head.GlyphUse.{GlyphUse}
 use Rattle.gfx_clear.specs.declared.head.GlyphUse.TheVariants.{Stores}
 use Rattle.gfx_clear.specs.declared.layer.Layer.{Layer}
-use Rattle.gfx_clear.specs.State.{State}
+use Rattle.gfx_clear.specs.State.{ClearState}
 use Rattle.gfx_clear.specs.Sending.{message, sent, sent_as, use_of, sequence_of, head_bytes, part_as, part_bytes, rings_after}
 use Rattle.gfx_clear.specs.Inner.{MayUse}
 
@@ -23,7 +23,7 @@ pub stored_never : (index width height : ℕ) (pixels : List Rgb) (slots : List 
 stored_never index width height pixels slots refusal may e = let is = stored_fits index width height pixels slots may.0 may.1 in cc
 
 -- what is sent, once its use of an index is known
-pub sent_is : (old : State) (layer : Layer) (index : Option ℕ) (width height : ℕ) (pixels : List Rgb) (form : GlyphUse) (rings : Rings) (sequence : ℕ) → form ≡ use_of index width height pixels old.glyphs
+pub sent_is : (old : ClearState) (layer : Layer) (index : Option ℕ) (width height : ℕ) (pixels : List Rgb) (form : GlyphUse) (rings : Rings) (sequence : ℕ) → form ≡ use_of index width height pixels old.glyphs
     → rings ≡ old.rings → sequence ≡ sequence_of old → sent_as form layer rings old.glyphs sequence width height pixels ≡ sent old layer index width height pixels
 unfolding sent
 sent_is old layer index width height pixels form rings sequence e f g = λ i. sent_as (e i) layer (f i) old.glyphs (g i) width height pixels

@@ -9,7 +9,7 @@ use Rattle.gfx_base.proofs.ResultLemmas.{and_then_at}
 use Rattle.gfx_surface.specs.Picture.{Picture, overlaid, rect_of}
 use Rattle.gfx_clear_store.specs.Rings.{AreRings}
 use Rattle.gfx_clear.specs.declared.layer.Layer.{Layer}
-use Rattle.gfx_clear.specs.State.{State}
+use Rattle.gfx_clear.specs.State.{ClearState}
 use Rattle.gfx_clear.specs.Clear.{clear}
 use Rattle.gfx_clear.specs.Painting.{scene, decoded}
 use Rattle.gfx_base.specs.Colour.{colour_of, opaque}
@@ -20,7 +20,7 @@ use Rattle.gfx_clear.proofs.Behind.{length-rect_of}
 use Rattle.gfx_clear.proofs.DrawnOver.{all_drawn_over}
 use Rattle.gfx_clear.proofs.Law.{law}
 
-pub painting_is_step : (old new : State) (picture : Picture) (rect : Rect) (layer : Layer) (index : Option ℕ) (pixels : List Rgb) (bytes : List ℕ) (painted : List Pixel) → AreRings old.rings
+pub painting_is_step : (old new : ClearState) (picture : Picture) (rect : Rect) (layer : Layer) (index : Option ℕ) (pixels : List Rgb) (bytes : List ℕ) (painted : List Pixel) → AreRings old.rings
     → MaySend (width_of rect) (height_of rect) pixels index → width_of rect < 2 ^ 16 → height_of rect < 2 ^ 16 → sends bytes new ≡ sent old layer index (width_of rect) (height_of rect) pixels
     → painted ≡ map opaque pixels → decoded (scene old picture) rect bytes ≡ Ok (scene new (overlaid picture rect painted))
 unfolding decoded

@@ -10,7 +10,7 @@ use Rattle.gfx_clear.specs.declared.head.Head.{Head}
 use Rattle.gfx_clear.specs.Begun.{is_begun_as, is_begun_behind, is_begun}
 use Rattle.gfx_clear.specs.Heads.{head}
 use Rattle.gfx_clear.specs.Parts.{parts}
-use Rattle.gfx_clear.specs.State.{State}
+use Rattle.gfx_clear.specs.State.{ClearState}
 
 -- anything is answered where it may be
 pub wants_where : {X R : Type 0} (result : Result X (Cause R)) (may : Bool) → may ≡ true → WantsOnlyIf result may
@@ -34,7 +34,7 @@ parts_begun glyph width height glyphs bytes (inl stores) = ap (λ z. is_begun_as
 parts_begun glyph width height glyphs bytes (inr unused) = ap (λ z. is_begun_as z width height glyphs bytes) (sym unused)
 
 -- behind the head that was read
-pub head_begun : (old : State) (area width height : ℕ) (bytes rest : List ℕ) (start : Head) → area ≡ width * height → head old.expected area bytes ≡ Ok (start, rest)
+pub head_begun : (old : ClearState) (area width height : ℕ) (bytes rest : List ℕ) (start : Head) → area ≡ width * height → head old.expected area bytes ≡ Ok (start, rest)
     → is_begun_as start.glyph width height old.glyphs rest ≡ is_begun old width height bytes
 head_begun old area width height bytes rest start same e =
     ap (λ z. is_begun_behind z width height old.glyphs) (sym (ap (λ z. head old.expected z bytes) (sym same) ∙ e))

@@ -7,7 +7,7 @@ use Rattle.gfx_clear.specs.declared.head.GlyphUse.TheVariants.{Unused, Stores, S
 use Rattle.gfx_clear.specs.declared.head.Head.{Head}
 use Rattle.gfx_clear.specs.Heads.{head}
 use Rattle.gfx_clear.specs.Parts.{parts}
-use Rattle.gfx_clear.specs.State.{State}
+use Rattle.gfx_clear.specs.State.{ClearState}
 
 -- behind a head: a glyph that can be shown, with no bytes behind its index, or the sizes of three parts
 abbrev pub is_begun_as : GlyphUse → ℕ → ℕ → List Slot → List ℕ → Bool
@@ -20,5 +20,5 @@ is_begun_behind (Ok start) width height glyphs = is_begun_as start.0.glyph width
 is_begun_behind (Err refusal) width height glyphs = false
 
 -- the head of a stream is accepted, and what stands right behind it
-abbrev pub is_begun : State → ℕ → ℕ → List ℕ → Bool
+abbrev pub is_begun : ClearState → ℕ → ℕ → List ℕ → Bool
 is_begun old width height bytes = is_begun_behind (head old.expected (width * height) bytes) width height old.glyphs

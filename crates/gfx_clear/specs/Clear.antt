@@ -10,7 +10,7 @@ use Rattle.gfx_clear_bands.specs.Bands.{Drawing, drawing, bands}
 use Rattle.gfx_glyph.specs.Glyphs.{Slot, shown, stored}
 use Rattle.gfx_clear.specs.declared.head.GlyphUse.{GlyphUse}
 use Rattle.gfx_clear.specs.declared.head.GlyphUse.TheVariants.{Unused, Stores, Shows}
-use Rattle.gfx_clear.specs.State.{State, state, next_sequence}
+use Rattle.gfx_clear.specs.State.{ClearState, state, next_sequence}
 use Rattle.gfx_clear.specs.Heads.{head}
 use Rattle.gfx_clear.specs.Parts.{Parts, parts, covered_by, residual, banded}
 use Rattle.gfx_clear.specs.Subcodecs.{subcodecs}
@@ -69,7 +69,7 @@ undrawn pixels rings = drawing pixels (replicate (length pixels) false) rings
 
 -- what a stream leaves: the state, and its rectangle's pixels with those of them that it drew
 pub record Cleared : Type 0 where
-  pub state : State
+  pub state : ClearState
   pub colours : List Rgb
   pub drawn : List Bool
 
@@ -77,7 +77,7 @@ abbrev pub cleared : Drawing → List Slot → ℕ → Cleared
 cleared new glyphs sequence = record { state = state new.rings glyphs (Some (next_sequence sequence)); colours = new.colours; drawn = new.drawn }
 
 -- a stream for a rectangle of these sides and pixels
-unfoldable pub clear : State → ℕ → ℕ → List Rgb → List ℕ → Result Cleared Refusal
+unfoldable pub clear : ClearState → ℕ → ℕ → List Rgb → List ℕ → Result Cleared Refusal
 clear old width height pixels bytes = do
   start ← head old.expected (width * height) bytes
   next ← behind_head start.0.glyph width height old.glyphs (undrawn pixels (rings_before start.0.reset old.rings)) start.1

@@ -9,7 +9,7 @@ use Rattle.gfx_base.specs.declared.refusal.Refusal.{Refusal}
 use Rattle.gfx_base.specs.Geometry.{width_of, height_of}
 use Rattle.gfx_base.specs.Results.{◌>>=◌}
 use Rattle.gfx_surface.specs.Picture.{Picture, overlaid, rect_of}
-use Rattle.gfx_clear.specs.State.{State}
+use Rattle.gfx_clear.specs.State.{ClearState}
 use Rattle.gfx_clear.specs.Clear.{Cleared, clear}
 
 -- pixels with the colours that are drawn over them
@@ -20,10 +20,10 @@ drawn_over ps colours drawn = []
 
 -- a decoder's state, and the surface that it draws on
 pub record Scene : Type 0 where
-  pub state : State
+  pub state : ClearState
   pub picture : Picture
 
-abbrev pub scene : State → Picture → Scene
+abbrev pub scene : ClearState → Picture → Scene
 scene state picture = record { state = state; picture = picture }
 
 -- a picture once a stream has drawn in a rectangle

@@ -19,7 +19,7 @@ use Rattle.gfx_clear.specs.declared.encoding.TheConstants.{MOST_PIXELS}
 use Rattle.gfx_clear.specs.declared.part.Part.{Part}
 use Rattle.gfx_clear.specs.declared.part.Place.{Place}
 use Rattle.gfx_clear.specs.declared.part.Place.TheVariants.{ByRuns, ByBands, Subcodec}
-use Rattle.gfx_clear.specs.State.{State, state, next_sequence}
+use Rattle.gfx_clear.specs.State.{ClearState, state, next_sequence}
 
 abbrev pub part : Place → List ℕ → Part
 part place bytes = record { place = place; bytes = bytes }
@@ -74,16 +74,16 @@ head_bytes (Stores index) sequence = GLYPH_INDEX ∷ (sequence ∷ to_le_bytes w
 head_bytes (Shows index) sequence = (GLYPH_INDEX + GLYPH_HIT) ∷ (sequence ∷ to_le_bytes w16 index)
 
 -- the sequence number of the next stream
-abbrev pub sequence_of : State → ℕ
+abbrev pub sequence_of : ClearState → ℕ
 sequence_of old = unwrap_or old.expected 0
 
 -- what is sent, and the state after it
 pub record Message : Type 0 where
   pub bytes : List ℕ
-  pub state : State
+  pub state : ClearState
 
 -- bytes that were written, and the state after them
-abbrev pub sends : List ℕ → State → Message
+abbrev pub sends : List ℕ → ClearState → Message
 sends bytes new = record { bytes = bytes; state = new }
 
 abbrev pub message : List ℕ → Rings → List Slot → ℕ → Message
@@ -99,7 +99,7 @@ sent_as Unused layer rings glyphs sequence width height pixels =
     message (head_bytes Unused sequence ++ part_bytes width height (part_as layer rings width height pixels)) (rings_after layer rings width height pixels) glyphs sequence
 
 -- a picture by a layer, and by an index if there is one
-unfoldable pub sent : State → Layer → Option ℕ → ℕ → ℕ → List Rgb → Message
+unfoldable pub sent : ClearState → Layer → Option ℕ → ℕ → ℕ → List Rgb → Message
 sent old layer index width height pixels =
     sent_as (use_of index width height pixels old.glyphs) layer old.rings old.glyphs (sequence_of old) width height pixels
 

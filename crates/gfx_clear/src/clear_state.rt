@@ -39,9 +39,9 @@ pub struct ClearState {
 impl Model for ClearState {
     ghost use Rattle.gfx_clear_store.specs.Rings.{AreRings, with_mark};
     ghost use Rattle.gfx_clear.specs.Clear.{rings_before};
-    ghost use Rattle.gfx_clear.specs.State.{State};
+    ghost use Rattle.gfx_clear.specs.State.{ClearState};
 
-    ghost Value = { State };
+    ghost Value = { ClearState };
 
     ghost use Rattle.gfx_clear.specs.Inside.{state_of};
 

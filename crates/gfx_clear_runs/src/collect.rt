@@ -7,7 +7,7 @@ use crate::palette::Colours;
 use gfx_base::Rgb;
 
 /// The colours of pixels, by first appearance; None exactly where they are more than a palette may have.
-pub fn colours_of(pixels: &[Rgb]) -> Option<Colours>
+pub(crate) fn colours_of(pixels: &[Rgb]) -> Option<Colours>
     ensures { MatchOption result (PALETTE_MOST < length (colours_of pixels.now)) (λ colours. colours.items ≡ colours_of pixels.now) }
 {
     let mut colours = Colours::new();

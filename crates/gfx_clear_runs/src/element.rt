@@ -18,7 +18,7 @@ pub struct Stretch<'a> {
 /// The run at the front of bytes.
 #[inline(always)]
 #[tactic(auto, unfolding(crate::specs::Elements::run_at, crate::specs::Elements::run_with))]
-pub fn run_at(bytes: &[u8]) -> Result<Stretch<'static>, Refusal>
+pub(crate) fn run_at(bytes: &[u8]) -> Result<Stretch<'static>, Refusal>
     ensures value { Says (λ s. element s.colour s.count s.more.now s.size) result (run_at bytes.now) }
     ensures within { IfOk result (λ s. (0 < s.size) × (s.size ≤ length bytes.now)) }
     ensures few { IfOk result (λ s. length s.more.now ≤ 127) }

@@ -7,7 +7,7 @@ use gfx_base::Rgb;
 /// How many pixels at the front have this colour.
 #[inline(always)]
 #[tactic(auto, using(crate::proofs::Colours::colour_more, crate::proofs::Colours::begins_none))]
-pub fn front_run(colour: Rgb, pixels: &[Rgb]) -> usize
+pub(crate) fn front_run(colour: Rgb, pixels: &[Rgb]) -> usize
     ensures within { result ≤ length pixels.now }
     ensures same { take result pixels.now ≡ replicate result colour }
     ensures ended { begins colour (drop result pixels.now) ≡ false }

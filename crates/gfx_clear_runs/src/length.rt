@@ -21,7 +21,7 @@ const LONG_MARK: u16 = 0xFFFF;
 /// The run length at the front of bytes; None exactly where they end before it does.
 #[inline(always)]
 #[tactic(auto, unfolding(crate::specs::Lengths::length_at, crate::specs::Lengths::middle_length, crate::specs::Lengths::long_length))]
-pub fn length_at(bytes: &[u8]) -> Option<Length>
+pub(crate) fn length_at(bytes: &[u8]) -> Option<Length>
     ensures value { result ≡ length_at bytes.now }
     ensures within { IfSome result (λ run. (0 < run.size) × (run.size < 8) × (run.size ≤ length bytes.now)) }
 {

@@ -21,7 +21,7 @@ pub struct Palette {
 
 /// How many bits of a segment's byte say where it stops, with a palette of so many colours.
 #[tactic(auto, unfolding(crate::specs::Elements::stop_bits))]
-pub fn stop_bits(colours: usize) -> u32
+pub(crate) fn stop_bits(colours: usize) -> u32
     ensures value { result ≡ stop_bits colours }
     ensures few { result < 8 }
 {
@@ -38,7 +38,7 @@ pub fn stop_bits(colours: usize) -> u32
 
 /// The palette of so many entries at the front of bytes.
 #[tactic(auto, unfolding(crate::specs::Elements::entries))]
-pub fn read_entries(count: usize, bytes: &[u8]) -> Colours
+pub(crate) fn read_entries(count: usize, bytes: &[u8]) -> Colours
     requires most { count ≤ 127 }
     requires within { 3 * count ≤ length bytes.now }
     ensures { result.items ≡ entries count bytes.now }

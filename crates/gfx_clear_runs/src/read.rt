@@ -77,7 +77,7 @@ fn append_part(coding: &Coding, bytes: &[u8], area: u32, out: &mut Rgbs) -> Resu
 
 /// Why a part is refused whose elements are too many already.
 #[cold]
-pub fn reason_behind(coding: &Coding, bytes: &[u8]) -> Refusal
+pub(crate) fn reason_behind(coding: &Coding, bytes: &[u8]) -> Refusal
     ensures { result ≡ reason_of (part_of (reading coding.now) bytes.now) }
 {
     let mut rest = bytes;

@@ -16,7 +16,7 @@ use Rattle.gfx_segment.specs.Payloads.{Payloads}
 use Rattle.gfx_segment.specs.Payloads.{Opens as OpensPayload}
 use Rattle.gfx_state.specs.State.{State}
 use Rattle.gfx_state.specs.Step.{step, frame_ended, is_open}
-use Rattle.gfx_state.specs.Cursor.{Cursor, Opens, Needs, Refuses, what_next, next_message, next_state, Reaches, Here, settled}
+use Rattle.gfx_state.specs.Cursor.{Cursor, Opens, Needs, what_next, next_message, next_state, Reaches, Here, settled}
 use Rattle.gfx_state.specs.Cursor as cursor
 use Rattle.gfx_state.proofs.NextMoves.{what_next_takes, what_next_refuses, what_next_unread, what_next_opens, what_next_needs, what_next_ends, next_pdu_found, next_pdu_refused}
 use Rattle.gfx_base.specs.Results.{check, and_then}

@@ -19,7 +19,7 @@ const SQUARE: u16 = 64;
 
 /// Draws a step.
 #[tactic(auto, unfolding(crate::specs::Steps::step))]
-pub fn draw_step(generator: &mut Generator) -> Step
+pub(crate) fn draw_step(generator: &mut Generator) -> Step
     ensures value { result ≡ (step generator.old).value }
     ensures state { generator.new ≡ (step generator.old).state }
 {

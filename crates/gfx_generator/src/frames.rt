@@ -14,7 +14,11 @@ use gfx_base::{Bytes, NoMemory};
 const STEPS: u16 = 3;
 
 /// Draws so many frames, and puts their lines at the end.
-pub fn put_frames(count: u16, generator: &mut Generator, text: &mut Bytes) -> Result<(), NoMemory>
+pub(crate) fn put_frames(
+    count: u16,
+    generator: &mut Generator,
+    text: &mut Bytes,
+) -> Result<(), NoMemory>
     ensures text { OnOk result (text.new ≡ text.old ++ flat_map frame_text (several count frame generator.old).value) }
     ensures state { OnOk result (generator.new ≡ (several count frame generator.old).state) }
 {

@@ -24,7 +24,11 @@ pub struct Round {
 }
 
 /// Draws so many rounds, and puts their lines at the end.
-pub fn put_rounds(count: u16, generator: &mut Generator, text: &mut Bytes) -> Result<(), NoMemory>
+pub(crate) fn put_rounds(
+    count: u16,
+    generator: &mut Generator,
+    text: &mut Bytes,
+) -> Result<(), NoMemory>
     ensures text { OnOk result (text.new ≡ text.old ++ flat_map round_text (several count round generator.old).value) }
     ensures state { OnOk result (generator.new ≡ (several count round generator.old).state) }
 {

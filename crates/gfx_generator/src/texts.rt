@@ -13,7 +13,7 @@ const COLOUR_DIGITS: usize = 6;
 
 /// The line of a step.
 #[tactic(auto, unfolding(crate::specs::Texts::step_text))]
-pub fn step_text(step: Step) -> Line
+pub(crate) fn step_text(step: Step) -> Line
     ensures { result ≡ step_text step }
 {
     match step {

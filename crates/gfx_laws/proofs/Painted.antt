@@ -23,9 +23,12 @@ use Rattle.gfx_script.specs.Writes.{place_of}
 use Rattle.gfx_surface.specs.Picture.{Picture, pixel_at}
 use Rattle.gfx_tile_make.specs.Levels.{shown_at}
 use Rattle.gfx_tile_make.specs.Quantised.{quantised_plane}
-use Rattle.gfx_tile_make.specs.Source.{Source as Tile, difference_of, planes_of, source_of}
+use Rattle.gfx_tile_make.specs.Source.{SourceTile, difference_of, planes_of, source_of}
 use Rattle.gfx_tile_state.specs.Passes.{blank}
-use Rattle.gfx_planner.specs.Want.{Wanted, drawn_on, wanted_as, with_tiles}
+use Rattle.gfx_planner.specs.Wanted.{Wanted}
+use Rattle.gfx_planner.specs.SurfaceEffects.{drawn_on}
+use Rattle.gfx_planner.specs.TileEffects.{with_tiles}
+use Rattle.gfx_planner.specs.Want.{wanted_as}
 use Rattle.gfx_planner.proofs.LiveShown.{tile-kept}
 use Rattle.gfx_planner.proofs.Ways.{painted_in_passes}
 use Rattle.gfx_planner.proofs.TilesAccepted.{surface_here}
@@ -46,12 +49,12 @@ plain-kept setting pixels Cb = refl
 plain-kept setting pixels Cr = refl
 
 -- one that goes on another has its own values still
-onto-values : (tile old : Tile) (component : Component) → (planes_of (difference_of tile old) component).own ≡ (planes_of tile component).own
+onto-values : (tile old : SourceTile) (component : Component) → (planes_of (difference_of tile old) component).own ≡ (planes_of tile component).own
 onto-values tile old Y = refl
 onto-values tile old Cb = refl
 onto-values tile old Cr = refl
 
-onto-kept : (tile old : Tile) (component : Component) → (planes_of (difference_of tile old) component).kept ≡ (planes_of old component).own
+onto-kept : (tile old : SourceTile) (component : Component) → (planes_of (difference_of tile old) component).kept ≡ (planes_of old component).own
 onto-kept tile old Y = refl
 onto-kept tile old Cb = refl
 onto-kept tile old Cr = refl
@@ -94,7 +97,7 @@ pixel-is script live id source at surface x y column row hit = record {
     pixels : List Pixel
     pixels = cell_pixels source (place_of source at) (cell (x / 64) (y / 64))
 
-    tile : Tile
+    tile : SourceTile
     tile = gone_on script.differences before (source_of script.setting pixels)
 
 -- ---- a paint

@@ -28,7 +28,10 @@ use Rattle.gfx_script.specs.Kinds.{as_kind}
 use Rattle.gfx_surface.specs.Picture.{Picture, pixel_at}
 use Rattle.gfx_planner.specs.Passes.{improved_passes, passes_as}
 use Rattle.gfx_planner.specs.Tiles.{HoldsTiles}
-use Rattle.gfx_planner.specs.Want.{Wanted, drawn_on, want, wanted_as, with_improved}
+use Rattle.gfx_planner.specs.Wanted.{Wanted}
+use Rattle.gfx_planner.specs.SurfaceEffects.{drawn_on}
+use Rattle.gfx_planner.specs.TileEffects.{with_improved}
+use Rattle.gfx_planner.specs.Want.{want, wanted_as}
 use Rattle.gfx_planner.proofs.LiveShown.{tiles-wanted}
 use Rattle.gfx_planner.proofs.Streams.{along}
 use Rattle.gfx_planner.proofs.TilesAccepted.{surface_elsewhere, surface_here}

@@ -14,14 +14,16 @@ use Rattle.gfx_script.specs.Script.{IsStep}
 use Rattle.gfx_script.specs.Scripted.{Script}
 use Rattle.gfx_surface.specs.Picture.{Picture, pixel_at}
 use Rattle.gfx_surface_map.specs.Surfaces.{Surfaces}
-use Rattle.gfx_planner.specs.Agree.{Agree, Holds}
+use Rattle.gfx_planner.specs.Wanted.{Wanted, nothing_wanted}
+use Rattle.gfx_planner.specs.Want.{want, wanted_after, wanted_as}
+use Rattle.gfx_planner.specs.Server.{Server}
+use Rattle.gfx_planner.specs.Agree.{Agree}
+use Rattle.gfx_planner.specs.Holds.{Holds}
 use Rattle.gfx_planner.specs.Stream.{served}
-use Rattle.gfx_planner.specs.Want.{Wanted, nothing_wanted, want, wanted_after, wanted_as}
-use Rattle.gfx_planner.specs.Wire.{Server}
+use Rattle.gfx_planner.specs.Within.{IsOutside}
 use Rattle.gfx_planner.proofs.Alike.{same_picture}
 use Rattle.gfx_planner.proofs.LiveShown.{tiles-wanted}
 use Rattle.gfx_planner.proofs.Streams.{Stands, along, bare, goes, held_through-cons}
-use Rattle.gfx_planner.specs.Within.{IsOutside}
 use Rattle.gfx_planner.proofs.Within.{areas_same, step_within}
 use Rattle.gfx_laws.specs.Raised.{IsOfNoRaised, Raises}
 use Rattle.gfx_laws.specs.Stays.{IsOn, Leaves, PixelsStayUntilWritten, StaysOn}

@@ -22,8 +22,11 @@ use Rattle.gfx_script.specs.Ways.{goes_by}
 use Rattle.gfx_script.specs.Writes.{writes_by}
 use Rattle.gfx_surface.specs.Picture.{Picture}
 use Rattle.gfx_surface_map.specs.Surfaces.{Surfaces}
-use Rattle.gfx_planner.specs.Passes.{ended_by, goes_in_passes, improved_passes, passes_as}
-use Rattle.gfx_planner.specs.Want.{Wanted, nothing_wanted, sides_kept, wanted_after}
+use Rattle.gfx_planner.specs.Bitmaps.{sides_kept}
+use Rattle.gfx_planner.specs.TileSteps.{goes_in_passes}
+use Rattle.gfx_planner.specs.Passes.{ended_by, improved_passes, passes_as}
+use Rattle.gfx_planner.specs.Wanted.{Wanted, nothing_wanted}
+use Rattle.gfx_planner.specs.Want.{wanted_after}
 use Rattle.gfx_planner.proofs.TilesFollow.{Ends, ends-by}
 use Rattle.gfx_planner.proofs.Ways.{live_left}
 use Rattle.gfx_laws.specs.Thin.{NoneIsLive, ThinClientsHaveNoLiveTiles}

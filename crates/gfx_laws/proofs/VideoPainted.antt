@@ -19,12 +19,15 @@ use Rattle.gfx_script.specs.Writes.{place_of}
 use Rattle.gfx_surface.proofs.PictureLemmas.{length-drawn, pixel_at-drawn}
 use Rattle.gfx_surface.specs.Picture.{Picture, no_pixel, pixel_at, shade}
 use Rattle.gfx_tile_make.specs.Levels.{direct_pixel}
-use Rattle.gfx_tile_make.specs.Source.{Source as Tile, source_of}
+use Rattle.gfx_tile_make.specs.Source.{SourceTile, source_of}
 use Rattle.gfx_video_paint.proofs.Cover.{paints-cover, placed-filled}
 use Rattle.gfx_video_paint.specs.Shown.{shown_as_video, video_pixel}
 use Rattle.gfx_video_paint.specs.Video.{laid, video_setting, video_tile}
-use Rattle.gfx_planner.specs.Agree.{sides_of}
-use Rattle.gfx_planner.specs.Want.{Wanted, drawn_on, wanted_as, with_video}
+use Rattle.gfx_planner.specs.Wanted.{Wanted}
+use Rattle.gfx_planner.specs.SurfaceEffects.{drawn_on}
+use Rattle.gfx_planner.specs.PaintEffects.{with_video}
+use Rattle.gfx_planner.specs.Want.{wanted_as}
+use Rattle.gfx_planner.specs.Holds.{sides_of}
 use Rattle.gfx_planner.proofs.PaintSteps.{painted_as_video}
 use Rattle.gfx_planner.proofs.TilesAccepted.{surface_here}
 use Rattle.gfx_planner.proofs.VideoSteps.{video_sides}
@@ -53,7 +56,7 @@ square-nearest source column row wide high = record {
 -- ---- a pixel
 
 -- a format keeps a tile's pixel, which is opaque
-direct-kept : (format : Format) (tile : Tile) (y x : ℕ) → shade format (direct_pixel tile y x) ≡ direct_pixel tile y x
+direct-kept : (format : Format) (tile : SourceTile) (y x : ℕ) → shade format (direct_pixel tile y x) ≡ direct_pixel tile y x
 direct-kept Xrgb tile y x = refl
 direct-kept Argb tile y x = refl
 

@@ -23,9 +23,10 @@ use Rattle.gfx_surface.specs.Picture.{Picture, no_pixel, pixel_at}
 use Rattle.gfx_surface_map.specs.Surfaces.{Surfaces}
 use Rattle.gfx_tile_make.specs.Levels.{shown_at}
 use Rattle.gfx_tile_make.specs.Quantised.{quantised_plane}
-use Rattle.gfx_tile_make.specs.Source.{Source as Tile, planes_of}
+use Rattle.gfx_tile_make.specs.Source.{SourceTile, planes_of}
 use Rattle.gfx_tile_state.specs.Passes.{blank}
-use Rattle.gfx_planner.specs.Want.{Wanted, wanted_after}
+use Rattle.gfx_planner.specs.Wanted.{Wanted}
+use Rattle.gfx_planner.specs.Want.{wanted_after}
 
 -- the pixel of a picture that is nearest to a place of its surface, where its top left corner lies at a point
 abbrev pub nearest_pixel : Source → Point → ℕ → ℕ → Pixel
@@ -37,24 +38,24 @@ pub record AreNearest (source : Source) (at : Point) (column row : ℕ) (pixels 
   pub each : (x y : ℕ) → x < 64 → y < 64 → slice_index_or pixels (y * 64 + x) no_pixel ≡ nearest_pixel source at (64 * column + x) (64 * row + y)
 
 -- a tile's own values are these pixels, quantised
-pub record IsTileOf (setting : Setting) (pixels : List Pixel) (tile : Tile) : Type 0 where
+pub record IsTileOf (setting : Setting) (pixels : List Pixel) (tile : SourceTile) : Type 0 where
   pub coded : tile.setting ≡ setting
   pub values : (component : Component) → (planes_of tile component).own ≡ quantised_plane setting component pixels
 
 -- a tile goes on another, which was sent at the last level: on that one's own values
-pub record GoesOn (old : TileSend) (tile : Tile) : Type 0 where
+pub record GoesOn (old : TileSend) (tile : SourceTile) : Type 0 where
   pub finished : old.level ≡ length old.tile.setting.levels
   pub kept : (component : Component) → (planes_of tile component).kept ≡ (planes_of old.tile component).own
 
 -- it goes on nothing, or on what is live in its cell
-abbrev pub GoesOnAny : Option TileSend → Tile → Type 0
+abbrev pub GoesOnAny : Option TileSend → SourceTile → Type 0
 GoesOnAny before tile = ((component : Component) → (planes_of tile component).kept ≡ blank) ⊎ ((old : TileSend) × ((before ≡ Some old) × GoesOn old tile))
 
 -- a pixel at column x of row y of a surface is that of its cell's tile at the first level
 pub record IsOfTile (setting : Setting) (before : Option TileSend) (source : Source) (at : Point) (x y : ℕ) (pixel : Pixel) : Type 0 where
   pub pixels : List Pixel
   pub nearest : AreNearest source at (x / 64) (y / 64) pixels
-  pub tile : Tile
+  pub tile : SourceTile
   pub is : IsTileOf setting pixels tile
   pub goes_on : GoesOnAny before tile
   pub shows : pixel ≡ shown_at tile 0 (y % 64) (x % 64)

@@ -9,7 +9,8 @@ use Rattle.gfx_script.specs.Kinds.{Fits, KindedStep, as_kind}
 use Rattle.gfx_script.specs.Script.{IsAccepted}
 use Rattle.gfx_script.specs.Scripted.{Script}
 use Rattle.gfx_surface.specs.Picture.{Picture, pixel_at}
-use Rattle.gfx_planner.specs.Want.{Wanted, want, wanted_after}
+use Rattle.gfx_planner.specs.Wanted.{Wanted}
+use Rattle.gfx_planner.specs.Want.{want, wanted_after}
 
 -- a tile at the next level; one at the last level stays there
 abbrev pub at_next_level : TileSend → TileSend

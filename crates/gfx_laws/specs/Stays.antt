@@ -8,7 +8,9 @@ use Rattle.gfx_script.specs.Script.{IsAccepted}
 use Rattle.gfx_script.specs.Scripted.{Script}
 use Rattle.gfx_script.specs.Writes.{writes_by}
 use Rattle.gfx_surface.specs.Picture.{Picture, pixel_at}
-use Rattle.gfx_planner.specs.Want.{Wanted, sides_kept, want, wanted_after}
+use Rattle.gfx_planner.specs.Bitmaps.{sides_kept}
+use Rattle.gfx_planner.specs.Wanted.{Wanted}
+use Rattle.gfx_planner.specs.Want.{want, wanted_after}
 use Rattle.gfx_planner.specs.Within.{IsOutside}
 use Rattle.gfx_laws.specs.Raised.{IsOfNoRaised}
 

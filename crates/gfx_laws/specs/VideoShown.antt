@@ -19,9 +19,10 @@ use Rattle.gfx_script.specs.Writes.{place_of}
 use Rattle.gfx_surface.specs.Picture.{IsPicture, Picture, pixel_at}
 use Rattle.gfx_surface_map.specs.Surfaces.{Surfaces}
 use Rattle.gfx_tile_make.specs.Levels.{direct_pixel}
-use Rattle.gfx_tile_make.specs.Source.{Source as Tile, planes_of}
+use Rattle.gfx_tile_make.specs.Source.{SourceTile, planes_of}
 use Rattle.gfx_tile_state.specs.Passes.{blank}
-use Rattle.gfx_planner.specs.Want.{Wanted, wanted_after}
+use Rattle.gfx_planner.specs.Wanted.{Wanted}
+use Rattle.gfx_planner.specs.Want.{wanted_after}
 use Rattle.gfx_laws.specs.PassesShown.{AreNearest, IsTileOf}
 
 -- a picture's own corner
@@ -33,7 +34,7 @@ corner = record { x = 0; y = 0 }
 pub record IsOfVideoTile (setting : Setting) (source : Source) (x y : ℕ) (pixel : Pixel) : Type 0 where
   pub pixels : List Pixel
   pub nearest : AreNearest source corner (x / 64) (y / 64) pixels
-  pub tile : Tile
+  pub tile : SourceTile
   pub is : IsTileOf (record setting { transform = Plain }) pixels tile
   pub alone : (component : Component) → (planes_of tile component).kept ≡ blank
   pub shows : pixel ≡ direct_pixel tile (y % 64) (x % 64)

@@ -24,7 +24,7 @@ pub struct Frame<'a> {
 
 /// Reads the next block's frame.
 #[tactic(auto, unfolding(gfx_layout::specs::Reading::read, gfx_base::specs::Results::and_then))]
-pub fn read_frame<'a>(fields: &mut Fields<'a>) -> Result<Frame<'a>, Stop>
+pub(crate) fn read_frame<'a>(fields: &mut Fields<'a>) -> Result<Frame<'a>, Stop>
     ensures { Says (λ found. (found, fields.new)) result (read frame fields.old) }
 {
     let kind = fields.u16()?;
@@ -41,7 +41,7 @@ pub fn read_frame<'a>(fields: &mut Fields<'a>) -> Result<Frame<'a>, Stop>
 
 /// Puts what stands before a body of so many bytes.
 #[tactic(auto, unfolding(gfx_layout::specs::Shape::text))]
-pub fn put_frame(out: &mut Bytes, kind: u16, body: usize) -> Result<(), NoMemory>
+pub(crate) fn put_frame(out: &mut Bytes, kind: u16, body: usize) -> Result<(), NoMemory>
     requires { 6 + body < 2 ^ 32 }
     ensures { Puts result out.old out.new (digits two_bytes kind ++ digits four_bytes (6 + body)) }
 {

@@ -31,7 +31,7 @@ fn read_context_body(body: &[u8]) -> Result<ContextBody, Stop>
 
 /// Reads the body of RFX_PROGRESSIVE_CONTEXT.
 #[tactic(auto, unfolding(crate::specs::Reading::context_of, gfx_base::specs::Results::and_then))]
-pub fn read_context<'a>(body: &[u8]) -> Result<Block<'a>, Stop>
+pub(crate) fn read_context<'a>(body: &[u8]) -> Result<Block<'a>, Stop>
     ensures { Says (λ block. block) result (context_of body.now) }
 {
     let parts = read_context_body(body)?;
@@ -64,7 +64,7 @@ fn read_region_body<'a>(alloc: Global, body: &'a [u8]) -> Result<RegionBody<'a>,
 
 /// Reads the body of RFX_PROGRESSIVE_REGION.
 #[tactic(auto, unfolding(crate::specs::Reading::region_of, gfx_base::specs::Results::and_then))]
-pub fn read_region<'a>(alloc: Global, body: &'a [u8]) -> Result<Region<'a>, Cause<Stop>>
+pub(crate) fn read_region<'a>(alloc: Global, body: &'a [u8]) -> Result<Region<'a>, Cause<Stop>>
     ensures { Gives (λ region. region) result (region_of body.now) }
 {
     let parts = read_region_body(alloc, body)?;

@@ -145,7 +145,7 @@ fn read_each<'a>(
 
 /// Reads so many tiles, which have to be all of these bytes.
 #[tactic(auto, unfolding(crate::specs::Reading::tiles_of, gfx_base::specs::Results::and_then))]
-pub fn read_tiles<'a>(
+pub(crate) fn read_tiles<'a>(
     alloc: Global,
     bytes: &'a [u8],
     count: usize,

@@ -60,7 +60,7 @@ fn measure(tile: &Tile<'_>) -> usize
 }
 
 /// How many bytes these tiles have together.
-pub fn tiles_size(tiles: &[Tile<'_>]) -> usize
+pub(crate) fn tiles_size(tiles: &[Tile<'_>]) -> usize
     requires fit { AllByRecursion IsSpellableTile tiles.now }
     requires short { sum_by tile_size tiles.now < 2 ^ 32 }
     ensures { result ≡ sum_by tile_size tiles.now }
@@ -210,7 +210,7 @@ fn put_tile(out: &mut Bytes, tile: &Tile<'_>) -> Result<(), NoMemory>
 }
 
 /// Puts tiles at the end, one after the other.
-pub fn put_tiles(out: &mut Bytes, tiles: &[Tile<'_>]) -> Result<(), NoMemory>
+pub(crate) fn put_tiles(out: &mut Bytes, tiles: &[Tile<'_>]) -> Result<(), NoMemory>
     requires { AllByRecursion IsSpellableTile tiles.now }
     ensures { Puts result out.old out.new (flat_map tile_text tiles.now) }
 {

@@ -8,7 +8,7 @@ use Rattle.gfx_rlgr.specs.Writes.{rlgr_bytes}
 use Rattle.gfx_rlgr.proofs.Writes.{written-only}
 use Rattle.gfx_srl.proofs.Writes.{written-only as srl-only}
 use Rattle.gfx_tile_make.specs.declared.data.Pass.{Pass}
-use Rattle.gfx_tile_make.specs.Source.{Source}
+use Rattle.gfx_tile_make.specs.Source.{SourceTile}
 use Rattle.gfx_tile_make.specs.Upgrade.{IsPass, entries_to}
 use Rattle.gfx_tile_state.specs.Entries.{pairs_from, raw_from}
 use Rattle.gfx_prog_encode.specs.Inside.{pass_to}
@@ -17,7 +17,7 @@ use Rattle.gfx_prog_encode.specs.Messages.{raised, raw_code, srl_code}
 pub code-only : (values due : List ℤ) (bytes : List ℕ) → length values ≡ 4096 → IsBytes bytes → Written values bytes → values ≡ due → bytes ≡ rlgr_bytes due
 code-only values due bytes count fits written is = written-only values bytes count fits written ∙ ap rlgr_bytes is
 
-pub pass-only : (source : Source) (component : Component) (level : ℕ) (srl raw : List ℕ) → IsBytes srl → IsBytes raw → IsPass source component level srl raw
+pub pass-only : (source : SourceTile) (component : Component) (level : ℕ) (srl raw : List ℕ) → IsBytes srl → IsBytes raw → IsPass source component level srl raw
     → ◌≡◌ {A = Pass} (record { srl = srl; raw = raw }) (pass_to source component level)
 unfolding pass_to
 pass-only source component level srl raw srl_fits raw_fits written =

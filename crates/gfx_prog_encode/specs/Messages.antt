@@ -16,7 +16,7 @@ use Rattle.gfx_rlgr.specs.Writes.{rlgr_bytes}
 use Rattle.gfx_srl.specs.Writes.{srl_bytes}
 use Rattle.gfx_tile_state.specs.Entries.{Pass, pairs_from, raw_from}
 use Rattle.gfx_tile_make.specs.Levels.{first_values, values_at}
-use Rattle.gfx_tile_make.specs.Source.{Source}
+use Rattle.gfx_tile_make.specs.Source.{SourceTile}
 use Rattle.gfx_tile_make.specs.Upgrade.{entries_to, upgrade_to}
 use Rattle.gfx_prog_block.specs.declared.area.Area.{Area}
 use Rattle.gfx_prog_block.specs.declared.block.Block.{Block}
@@ -41,13 +41,13 @@ abbrev pub head_of : TileSend → TileHead
 head_of send = record { quant_y = 0; quant_cb = 1; quant_cr = 2; x_idx = send.cell.x; y_idx = send.cell.y }
 
 -- a component at the first level
-abbrev pub first_code : Source → Component → List ℕ
+abbrev pub first_code : SourceTile → Component → List ℕ
 first_code source component = rlgr_bytes (first_values source.setting.transform (values_at source component 0))
 
-unfoldable pub first_pass : Source → FirstPass
+unfoldable pub first_pass : SourceTile → FirstPass
 first_pass source = record { y = first_code source Y; cb = first_code source Cb; cr = first_code source Cr; tail = [] }
 
-abbrev pub flags_of : Source → ℕ
+abbrev pub flags_of : SourceTile → ℕ
 flags_of source = if source.difference then DIFFERENCE else 0
 
 -- a tile at the first level
@@ -55,16 +55,16 @@ abbrev pub first_tile : TileSend → Tile
 first_tile send = tiles.First (head_of send) (flags_of send.tile) 0 (first_pass send.tile)
 
 -- what raises a component to a level, coded in SRL and raw
-abbrev pub raised : Source → Component → ℕ → Pass
+abbrev pub raised : SourceTile → Component → ℕ → Pass
 raised source component level = upgrade_to source component level [] []
 
-abbrev pub srl_code : Source → Component → ℕ → List ℕ
+abbrev pub srl_code : SourceTile → Component → ℕ → List ℕ
 srl_code source component level = srl_bytes (pairs_from (raised source component level) 0 (entries_to source component level))
 
-abbrev pub raw_code : Source → Component → ℕ → List ℕ
+abbrev pub raw_code : SourceTile → Component → ℕ → List ℕ
 raw_code source component level = padded (raw_from (raised source component level) 0 (entries_to source component level))
 
-unfoldable pub upgrade_pass : Source → ℕ → UpgradePass
+unfoldable pub upgrade_pass : SourceTile → ℕ → UpgradePass
 upgrade_pass source level = record {
   y_srl = srl_code source Y level;
   y_raw = raw_code source Y level;

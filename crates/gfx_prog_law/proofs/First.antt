@@ -16,7 +16,7 @@ use Rattle.gfx_prog_encode.specs.Messages.{first_code}
 use Rattle.gfx_tile_state.specs.Making.{first_part}
 use Rattle.gfx_tile_state.proofs.Making.{first-is}
 use Rattle.gfx_tile_make.specs.Levels.{MayBeSent, StaysWithin, first_values, positions_at, record_at, record_by, summed_at, truncated_plane, values_at}
-use Rattle.gfx_tile_make.specs.Source.{Planes, Source, planes_of, sent}
+use Rattle.gfx_tile_make.specs.Source.{Planes, SourceTile, planes_of, sent}
 use Rattle.gfx_tile_make.proofs.ByBand.{length-by_band}
 use Rattle.gfx_tile_make.proofs.Records.{summed-first, values-have}
 use Rattle.gfx_tile_make.proofs.Sources.{sent-whole}
@@ -39,21 +39,21 @@ first-made t base level bytes planes long stays code =
       stays,
     )
 
-pub first-left : (source : Source) (component : Component) (bytes : List ℕ) → MayBeSent source → Rlgr bytes (Ok (first_values source.setting.transform (values_at source component 0)))
+pub first-left : (source : SourceTile) (component : Component) (bytes : List ℕ) → MayBeSent source → Rlgr bytes (Ok (first_values source.setting.transform (values_at source component 0)))
     → first_part source.setting.transform (record_at source component 0).positions bytes (record_at source component 0).kept ≡ Ok (record_at source component 0)
 first-left source component bytes may code =
     first-made source.setting.transform (base_of component source.setting) (left_out component source.setting.levels 0) bytes (planes_of source component) (sent-whole source component may) (may.fits component 0 (omega arith)) code
 
 -- so do the codes that a server writes, and they fit a tile's lengths
-abbrev values-due : Source → Component → List ℤ
+abbrev values-due : SourceTile → Component → List ℤ
 values-due source component = first_values source.setting.transform (values_at source component 0)
 
-pub first-read : (source : Source) (component : Component) → MayBeSent source → AreFirst (values-due source component)
+pub first-read : (source : SourceTile) (component : Component) → MayBeSent source → AreFirst (values-due source component)
     → first_part source.setting.transform (record_at source component 0).positions (first_code source component) (record_at source component 0).kept ≡ Ok (record_at source component 0)
 first-read source component may are =
     first-left source component (first_code source component) may
     (written-says (values-due source component) (first_code source component) are.all (list_all-from_AllPass in_range (values-due source component) (all-in-range (values-due source component) are)) (always-written (values-due source component) are.all))
 
-pub first-short : (source : Source) (component : Component) → AreFirst (values-due source component) → length (first_code source component) ≤ 65535
+pub first-short : (source : SourceTile) (component : Component) → AreFirst (values-due source component) → length (first_code source component) ≤ 65535
 first-short source component are =
     short-code (values-due source component) (first_code source component) are.all (all-small (values-due source component) are) (always-written (values-due source component) are.all)

@@ -18,7 +18,7 @@ use Rattle.gfx_quant.specs.Quant.{value_of}
 use Rattle.gfx_quant.specs.Setting.{base_of, left_out}
 use Rattle.gfx_tile_state.specs.Entries.{Coded, Counted, Down, Nothing, Pass, Up, Way, band_at, coded, pairs_from, raw_from, way_at}
 use Rattle.gfx_tile_make.specs.Levels.{MayBeSent, positions_at}
-use Rattle.gfx_tile_make.specs.Source.{Source, planes_of, sent}
+use Rattle.gfx_tile_make.specs.Source.{SourceTile, planes_of, sent}
 use Rattle.gfx_tile_make.specs.Upgrade.{IsPass, entries_of, entries_to, gained, upgrade_to}
 use Rattle.gfx_tile_make.specs.Writing.{upgrade_by}
 use Rattle.gfx_tile_make.proofs.ByBand.{at-by_band, length-by_band}
@@ -84,7 +84,7 @@ all-fit t base before behind values falls =
 
 -- ---- what a server writes for an upgrade
 
-pub is-pass : (source : Source) (component : Component) (level : ℕ) → MayBeSent source → 1 ≤ level → level ≤ length source.setting.levels
+pub is-pass : (source : SourceTile) (component : Component) (level : ℕ) → MayBeSent source → 1 ≤ level → level ≤ length source.setting.levels
     → IsPass source component level (srl_code source component level) (raw_code source component level)
 is-pass source component level may some listed = record {
   coded_are = always-written (pairs_from (upgrade_to source component level [] []) 0 (entries_to source component level))

@@ -12,7 +12,7 @@ use Rattle.gfx_tile_state.specs.declared.state.TileState.{TileState}
 use Rattle.gfx_tile_state.specs.Passes.{blank, coefficients}
 use Rattle.gfx_tile_state.specs.Record.{fits_transform, part_of}
 use Rattle.gfx_tile_make.specs.Levels.{MayBeSent, record_at, tile_at}
-use Rattle.gfx_tile_make.specs.Source.{Source, difference_of, planes_of, source_of}
+use Rattle.gfx_tile_make.specs.Source.{SourceTile, difference_of, planes_of, source_of}
 use Rattle.gfx_tile_make.proofs.Sources.{difference-kept, plain-kept}
 use Rattle.gfx_prog_decode.specs.Passes.{start_of}
 use Rattle.gfx_prog_encode.specs.declared.send.TileSend.{TileSend}
@@ -20,7 +20,7 @@ use Rattle.gfx_prog_live.specs.Tiles.{gone_on, is_in_range}
 use Rattle.gfx_prog_law.specs.Accepted.{GoesOn}
 
 -- a tile is as it was, or goes on the last level of the one before
-abbrev LastOf : Option TileSend → Source → TileSend → Type 0
+abbrev LastOf : Option TileSend → SourceTile → TileSend → Type 0
 LastOf before tile old = (before ≡ Some old) × ((old.level ≡ length old.tile.setting.levels) × (is_in_range (difference_of tile old.tile) ≡ true))
 
 three : (a b c : Bool) → (a && b && c) ≡ true → (b ≡ true) × (c ≡ true)
@@ -28,7 +28,7 @@ three true true c e = (refl, e)
 three true false c e = cc
 three false b c e = cc
 
-pub gone-by : (P : Source → Type 0) (differences : Bool) (before : Option TileSend) (tile : Source) → P tile → ((old : TileSend) → LastOf before tile old → P (difference_of tile old.tile)) → P (gone_on differences before tile)
+pub gone-by : (P : SourceTile → Type 0) (differences : Bool) (before : Option TileSend) (tile : SourceTile) → P tile → ((old : TileSend) → LastOf before tile old → P (difference_of tile old.tile)) → P (gone_on differences before tile)
 unfolding gone_on
 gone-by P differences None tile plain last = plain
 gone-by P differences (Some old) tile plain last =
@@ -44,7 +44,7 @@ fits-itself : (t : Transform) → fits_transform (Some t) t ≡ true
 fits-itself Plain = refl
 fits-itself Reduced = refl
 
-part-at : (source : Source) (level : ℕ) (component : Component) → part_of (tile_at source level) component ≡ record_at source component level
+part-at : (source : SourceTile) (level : ℕ) (component : Component) → part_of (tile_at source level) component ≡ record_at source component level
 part-at source level Y = refl
 part-at source level Cb = refl
 part-at source level Cr = refl
@@ -62,7 +62,7 @@ plain-goes c rect setting pixels before = record {
 }
 
 -- a difference tile on the record of the last level
-pub difference-goes : (c : Cell) (rect : Rect) (tile : Source) (old : TileSend) (before : Option TileState) → MayBeSent old.tile → old.tile.setting ≡ tile.setting
+pub difference-goes : (c : Cell) (rect : Rect) (tile : SourceTile) (old : TileSend) (before : Option TileState) → MayBeSent old.tile → old.tile.setting ≡ tile.setting
     → old.level ≡ length old.tile.setting.levels → before ≡ Some (tile_at old.tile old.level)
     → GoesOn before (record { cell = c; rect = rect; tile = difference_of tile old.tile; level = 0 })
 difference-goes c rect tile old before may coded last e = record {

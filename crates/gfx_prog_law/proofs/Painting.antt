@@ -15,7 +15,7 @@ use Rattle.gfx_script.specs.Scripted.{Script}
 use Rattle.gfx_surface.specs.declared.TheConstants.{MOST_SIDE}
 use Rattle.gfx_tile_state.specs.declared.state.TileState.{TileState}
 use Rattle.gfx_tile_make.specs.Levels.{MayBeSent, tile_at}
-use Rattle.gfx_tile_make.specs.Source.{Source, difference_of, source_of}
+use Rattle.gfx_tile_make.specs.Source.{SourceTile, difference_of, source_of}
 use Rattle.gfx_tile_make.proofs.Sources.{difference-may, plain-may}
 use Rattle.gfx_prog_block.specs.declared.area.Area.{Area}
 use Rattle.gfx_prog_decode.specs.Records.{Records}
@@ -102,7 +102,7 @@ module _ (script : Script) (live : Live) (id width height : ℕ) (drawing : Draw
   abbrev own-pixels : Cell → List Pixel
   own-pixels c = cell_pixels drawing rect c
 
-  abbrev own-tile : Cell → Source
+  abbrev own-tile : Cell → SourceTile
   own-tile c = source_of script.setting (own-pixels c)
 
   -- what is live in it
@@ -120,7 +120,7 @@ module _ (script : Script) (live : Live) (id width height : ℕ) (drawing : Draw
   painted-was c met = record {
     may = gone-by MayBeSent script.differences (before c) (own-tile c) (plain-may script.setting (own-pixels c) set.accepted set.bases)
         (λ old last. difference-may (own-tile c) old.tile (plain-may script.setting (own-pixels c) set.accepted set.bases) (live-was c old last.0).may (in-range-fits (difference_of (own-tile c) old.tile) last.1.1));
-    coded = gone-by (λ (t : Source). t.setting ≡ script.setting) script.differences (before c) (own-tile c) refl (λ old last. refl);
+    coded = gone-by (λ (t : SourceTile). t.setting ≡ script.setting) script.differences (before c) (own-tile c) refl (λ old last. refl);
     level = omega arith;
     begins = cut-begins rect c met width height inside;
     rect = cut-rect rect c met is;
@@ -132,7 +132,7 @@ module _ (script : Script) (live : Live) (id width height : ℕ) (drawing : Draw
   painted-asks : (c : Cell) → Met rect c → Asked PaintAsk id records (sent c)
   unfolding send_of
   painted-asks c met = (
-    gone-by (λ (t : Source). GoesOn (finmap.get records (cell_key id c)) (record { cell = c; rect = cut_to_cell rect c; tile = t; level = 0 })) script.differences (before c) (own-tile c)
+    gone-by (λ (t : SourceTile). GoesOn (finmap.get records (cell_key id c)) (record { cell = c; rect = cut_to_cell rect c; tile = t; level = 0 })) script.differences (before c) (own-tile c)
         (plain-goes c (cut_to_cell rect c) script.setting (own-pixels c) (finmap.get records (cell_key id c)))
         (λ old last.
         difference-goes c (cut_to_cell rect c) (own-tile c) old (finmap.get records (cell_key id c)) (live-was c old last.0).may (live-was c old last.0).coded last.1.0 (live-stands c old last.0)),

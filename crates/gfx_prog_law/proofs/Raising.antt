@@ -17,7 +17,7 @@ use Rattle.gfx_tile_state.specs.Making.{are_below, may_upgrade, upgraded_part}
 use Rattle.gfx_tile_state.specs.Record.{fits_transform}
 use Rattle.gfx_tile_state.specs.Shape.{AreBelow}
 use Rattle.gfx_tile_state.proofs.Making.{upgrade-is}
-use Rattle.gfx_tile_make.specs.Source.{Planes, Source, planes_of, sent}
+use Rattle.gfx_tile_make.specs.Source.{Planes, SourceTile, planes_of, sent}
 use Rattle.gfx_tile_make.specs.Levels.{MayBeSent, StaysWithin, positions_at, record_at, record_by, summed_at}
 use Rattle.gfx_tile_make.specs.Upgrade.{entries_of, upgrade_to}
 use Rattle.gfx_tile_make.proofs.ByBand.{length-by_band}
@@ -45,7 +45,7 @@ record-raised t base before behind planes srl raw long falls stays entries =
     )
 
 -- what a server writes raises a component from the level before
-pub part-raised : (source : Source) (component : Component) (level : ℕ) → MayBeSent source → 1 ≤ level → level ≤ length source.setting.levels
+pub part-raised : (source : SourceTile) (component : Component) (level : ℕ) → MayBeSent source → 1 ≤ level → level ≤ length source.setting.levels
     → upgraded_part (upgrade_to source component level (bits_of (srl_code source component level)) (bits_of (raw_code source component level))) (record_at source component level).positions (record_at source component (level - 1))
     ≡ Ok (record_at source component level)
 part-raised source component level may some listed =
@@ -93,7 +93,7 @@ positions-below base low high below (suc (suc (suc (suc (suc (suc (suc (suc (suc
 positions-below base low high below (suc (suc (suc (suc (suc (suc (suc (suc (suc (suc k)))))))))) h = absurd (omega arith)
 
 -- the positions of a component fall from the level before
-pub level-below : (source : Source) (component : Component) (level : ℕ) (positions : List ℕ) → MayBeSent source → 1 ≤ level → level ≤ length source.setting.levels → positions ≡ (record_at source component level).positions
+pub level-below : (source : SourceTile) (component : Component) (level : ℕ) (positions : List ℕ) → MayBeSent source → 1 ≤ level → level ≤ length source.setting.levels → positions ≡ (record_at source component level).positions
     → are_below positions (record_at source component (level - 1)).positions ≡ true
 level-below source component level positions may some listed is =
     ap (λ p. are_below p (record_at source component (level - 1)).positions) is

@@ -9,7 +9,7 @@ use Rattle.gfx_tile_state.specs.declared.state.TileState.{TileState}
 use Rattle.gfx_tile_state.specs.Entries.{pass_of}
 use Rattle.gfx_tile_state.specs.Making.{first_part, may_upgrade, upgraded_part}
 use Rattle.gfx_tile_state.specs.Record.{fits_transform, part_of}
-use Rattle.gfx_tile_make.specs.Source.{Source, planes_of, sent}
+use Rattle.gfx_tile_make.specs.Source.{SourceTile, planes_of, sent}
 use Rattle.gfx_tile_make.specs.Levels.{MayBeSent, record_at, tile_at}
 use Rattle.gfx_tile_make.proofs.ReadBack.{pass-short}
 use Rattle.gfx_tile_make.proofs.Sources.{few-at, sent-whole}
@@ -24,14 +24,14 @@ use Rattle.gfx_prog_law.proofs.Values.{first-due}
 -- ---- at the first level
 
 -- the code of a component leaves its record at level 0
-part-begun : (difference : Bool) (coding : Coding) (source : Source) (component : Component) (before : TileState) → MayBeSent source → coding.transform ≡ source.setting.transform
+part-begun : (difference : Bool) (coding : Coding) (source : SourceTile) (component : Component) (before : TileState) → MayBeSent source → coding.transform ≡ source.setting.transform
     → positions_in coding component ≡ (record_at source component 0).positions → kept_of difference (part_of before component) ≡ (record_at source component 0).kept
     → part_started difference coding component (first_code source component) before ≡ Ok (record_at source component 0)
 part-begun difference coding source component before may same place due =
     (λ i. first_part (same i) (place i) (first_code source component) (due i)) ∙ first-read source component may (first-due source component may)
 
 -- a tile's codes at the first level leave its record at level 0
-pub tile-begun : (difference : Bool) (coding : Coding) (source : Source) (before : TileState) → MayBeSent source → IsSetting source.setting → coding.transform ≡ source.setting.transform
+pub tile-begun : (difference : Bool) (coding : Coding) (source : SourceTile) (before : TileState) → MayBeSent source → IsSetting source.setting → coding.transform ≡ source.setting.transform
     → ((component : Component) → positions_in coding component ≡ (record_at source component 0).positions)
     → ((component : Component) → kept_of difference (part_of before component) ≡ (record_at source component 0).kept)
     → started difference coding (first_pass source) before ≡ Ok (tile_at source 0)
@@ -43,13 +43,13 @@ tile-begun difference coding source before may setting same places due =
     ∙ (λ i. Ok (record { transform = Some (same i); y = record_at source Y 0; cb = record_at source Cb 0; cr = record_at source Cr 0 }))
 
 -- and are short
-pub first-short-tile : (source : Source) (component : Component) → MayBeSent source → IsSetting source.setting → length (first_code source component) ≤ 65535
+pub first-short-tile : (source : SourceTile) (component : Component) → MayBeSent source → IsSetting source.setting → length (first_code source component) ≤ 65535
 first-short-tile source component may setting = first-short source component (first-due source component may)
 
 -- ---- upgrades
 
 -- what raises a component raises its part of a record
-part-improved : (coding : Coding) (source : Source) (component : Component) (level : ℕ) (old : TileState) → MayBeSent source → 1 ≤ level → level ≤ length source.setting.levels → coding.transform ≡ source.setting.transform
+part-improved : (coding : Coding) (source : SourceTile) (component : Component) (level : ℕ) (old : TileState) → MayBeSent source → 1 ≤ level → level ≤ length source.setting.levels → coding.transform ≡ source.setting.transform
     → positions_in coding component ≡ (record_at source component level).positions → part_of old component ≡ record_at source component (level - 1)
     → part_improved coding component (srl_code source component level) (raw_code source component level) old ≡ Ok (record_at source component level)
 part-improved coding source component level old may some listed same place was =
@@ -58,7 +58,7 @@ part-improved coding source component level old may some listed same place was =
     ∙ part-raised source component level may some listed
 
 -- what raises a tile raises its record
-pub tile-raised : (coding : Coding) (source : Source) (level : ℕ) → MayBeSent source → IsSetting source.setting → 1 ≤ level → level ≤ length source.setting.levels → coding.transform ≡ source.setting.transform
+pub tile-raised : (coding : Coding) (source : SourceTile) (level : ℕ) → MayBeSent source → IsSetting source.setting → 1 ≤ level → level ≤ length source.setting.levels → coding.transform ≡ source.setting.transform
     → ((component : Component) → positions_in coding component ≡ (record_at source component level).positions)
     → improved coding (upgrade_pass source level) (tile_at source (level - 1)) ≡ Ok (tile_at source level)
 unfolding improved upgrade_pass
@@ -76,7 +76,7 @@ tile-raised coding source level may setting some listed same places =
     ∙ and_then_at (part_improved coding Cr (srl_code source Cr level) (raw_code source Cr level) old) (record_at source Cr level) _ (part-improved coding source Cr level old may some listed same (places Cr) refl)
 
 -- and is short
-pub pass-short-tile : (source : Source) (component : Component) (level : ℕ) → MayBeSent source → IsSetting source.setting → 1 ≤ level → level ≤ length source.setting.levels
+pub pass-short-tile : (source : SourceTile) (component : Component) (level : ℕ) → MayBeSent source → IsSetting source.setting → 1 ≤ level → level ≤ length source.setting.levels
     → length (srl_code source component level) + length (raw_code source component level) ≤ 65535
 pass-short-tile source component level may setting some listed =
     pass-short source.setting.transform (base_of component source.setting) (left_out component source.setting.levels (level - 1)) (left_out component source.setting.levels level) (sent (planes_of source component))

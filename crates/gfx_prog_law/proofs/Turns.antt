@@ -16,7 +16,7 @@ use Rattle.gfx_quant.specs.Setting.{IsSetting}
 use Rattle.gfx_tile_state.specs.declared.state.TileState.{TileState}
 use Rattle.gfx_tile_state.specs.Record.{fits_transform}
 use Rattle.gfx_tile_make.specs.Levels.{record_at, tile_at}
-use Rattle.gfx_tile_make.specs.Source.{Source}
+use Rattle.gfx_tile_make.specs.Source.{SourceTile}
 use Rattle.gfx_prog_block.specs.declared.area.Area.{Area}
 use Rattle.gfx_prog_block.specs.declared.region.Region.{Region as RegionRead}
 use Rattle.gfx_prog_block.specs.declared.tile.Tile.{Tile}
@@ -42,7 +42,7 @@ use Rattle.gfx_prog_law.proofs.Quants.{are-bases}
 -- ---- one tile
 
 -- the bit positions that are read are those of the record that is left
-positions-are : (source : Source) (level : ℕ) (component : Component) → positions_in (coding_at source.setting level) component ≡ (record_at source component level).positions
+positions-are : (source : SourceTile) (level : ℕ) (component : Component) → positions_in (coding_at source.setting level) component ≡ (record_at source component level).positions
 positions-are source level Y = refl
 positions-are source level Cb = refl
 positions-are source level Cr = refl

@@ -12,7 +12,7 @@ use Rattle.gfx_quant.specs.Setting.{left_out}
 use Rattle.gfx_quant.proofs.Smaller.{truncated_within}
 use Rattle.gfx_tile_state.specs.Entries.{band_at}
 use Rattle.gfx_tile_make.specs.Planes.{differences}
-use Rattle.gfx_tile_make.specs.Source.{Source, planes_of, sent}
+use Rattle.gfx_tile_make.specs.Source.{SourceTile, planes_of, sent}
 use Rattle.gfx_tile_make.specs.Levels.{MayBeSent, first_values, truncated_plane, values_at}
 use Rattle.gfx_tile_make.proofs.ByBand.{at-by_band, length-by_band}
 use Rattle.gfx_tile_make.proofs.Differing.{AreFirst, are-first, low-starts}
@@ -30,7 +30,7 @@ halves-first n values far long small =
     are-first (take n values) (drop n values) values (sym (take-append-drop n values)) long (omega (arith, length-take n values)) small
 
 -- what a first tile codes of a component
-pub first-due : (source : Source) (component : Component) → MayBeSent source → AreFirst (first_values source.setting.transform (values_at source component 0))
+pub first-due : (source : SourceTile) (component : Component) → MayBeSent source → AreFirst (first_values source.setting.transform (values_at source component 0))
 first-due source component may =
     let t : Transform = source.setting.transform in
     let level : List ℕ = left_out component source.setting.levels 0 in

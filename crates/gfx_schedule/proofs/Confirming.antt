@@ -1,5 +1,5 @@
 -- The version that a server's end confirms of the offers of a script.
-use Rattle.std.proofs.Common.{◌≡◌, ℕ, ◌+◌, ◌<◌, ◌≤◌, ◌^◌, ◌==◌, Bool, true, false, ◌&&◌, ◌||◌, not, bit_and, if◌then◌else◌, List, [], ◌∷◌, ◌++◌, length, map, Option, Some, None, Ok, IsTrue, refl, sym, ap, ◌∙◌, arith, inl, inr, eq-eqb}
+use Rattle.std.proofs.Common.{◌≡◌, ℕ, ◌+◌, ◌<◌, ◌≤◌, ◌^◌, ◌==◌, Bool, true, false, ◌&&◌, ◌||◌, not, List, [], ◌∷◌, ◌++◌, length, map, Option, Some, None, Ok, IsTrue, refl, sym, ap, ◌∙◌, arith, inl, inr, eq-eqb}
 use Rattle.std.proofs.lemmas.Bool.{cases_Bool, eqb-true, and_parts}
 use Rattle.std.specs.Int.{w32}
 use Rattle.std.specs.List.{find, AllByRecursion}
@@ -21,9 +21,8 @@ use Rattle.gfx_pdu.proofs.Laws.{length-spelling}
 use Rattle.gfx_script.specs.Script.{IsAcceptedFrom}
 use Rattle.gfx_script.specs.Checks.{Held}
 use Rattle.gfx_script.specs.Scripted.{Script}
-use Rattle.gfx_state.specs.Same.{Wider}
 use Rattle.gfx_state.specs.Sending.{sent, IsCarried}
-use Rattle.gfx_state.specs.State.{State, started}
+use Rattle.gfx_state.specs.State.{State}
 use Rattle.gfx_state.specs.Step.{step, is_version, has_small_cache, caps_confirmed}
 use Rattle.gfx_planner.proofs.Effects.{all_steps-one}
 use Rattle.gfx_schedule.specs.Hearing.{Heard, confirm, told}

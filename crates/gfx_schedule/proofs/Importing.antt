@@ -1,5 +1,5 @@
 -- A session may begin with kept bitmaps.
-use Rattle.std.proofs.Common.{◌≡◌, ℕ, ◌+◌, nat_eq, true, List, [], ◌∷◌, length, take, refl, sym, ap, ◌∙◌, subst}
+use Rattle.std.proofs.Common.{◌≡◌, ℕ, ◌+◌, nat_eq, true, List, [], ◌∷◌, length, take, refl, ap}
 use Rattle.std.proofs.lemmas.Bool.{eqb-true}
 use Rattle.std.specs.Cmp.{nat_cmp_total}
 use Rattle.std.specs.Ordering.{nat_cmp}
@@ -14,16 +14,13 @@ use Rattle.gfx_import.proofs.ChosenLemmas.{imported-chosen}
 use Rattle.gfx_import.proofs.KeyLemmas.{both_true}
 use Rattle.gfx_import.proofs.OwnLemmas.{agreed-own}
 use Rattle.gfx_planner.proofs.BitmapStarts.{agrees_at_start, holds_at_start}
-use Rattle.gfx_script.specs.Kinds.{KindedStep, Fits}
 use Rattle.gfx_script.specs.Scripted.{Script}
 use Rattle.gfx_script.specs.Starting.{start_of, starts_of}
 use Rattle.gfx_script.specs.declared.turn.Turn.{Turn}
-use Rattle.gfx_state.specs.Alike.{Alike, entry_outline, outlines}
+use Rattle.gfx_state.specs.Alike.{entry_outline, outlines}
 use Rattle.gfx_state.specs.Same.{Wider}
-use Rattle.gfx_state.specs.State.{started_with}
-use Rattle.gfx_schedule.specs.Schedule.{ImportHolds, EveryImport, ImportMayBegin}
+use Rattle.gfx_schedule.specs.Schedule.{EveryImport, ImportMayBegin}
 use Rattle.gfx_schedule.specs.Starts.{MayBegin, MayImport, MayStart, Start, from_kept}
-use Rattle.gfx_schedule.specs.World.{world_from}
 use Rattle.gfx_schedule.proofs.Turns.{every_schedule_alike, every_schedule_from}
 
 -- bitmaps with the same keys and sides have the same outlines, in the same slots

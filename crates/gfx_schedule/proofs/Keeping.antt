@@ -14,7 +14,7 @@ use Rattle.gfx_state.specs.History.{Effect}
 use Rattle.gfx_state.specs.State.{State}
 use Rattle.gfx_window.specs.Window.{acknowledged}
 use Rattle.gfx_schedule.specs.Frames.{frame_before, frames_of}
-use Rattle.gfx_schedule.specs.ServerEnd.{ServerEnd}
+use Rattle.gfx_schedule.specs.ServerEnd.{ScheduledEnd}
 use Rattle.gfx_schedule.specs.Hearing.{Heard, acknowledges, told}
 use Rattle.gfx_schedule.specs.Words.{said, IsWord, tell, tells, TakesAll}
 use Rattle.gfx_schedule.proofs.Flights.{Flight, pair_of}
@@ -56,7 +56,7 @@ words_carried (flight ∷ flights) fit = (λ more. acknowledgement_read flight.s
 -- what the server's end makes of them ---------------------------------------------------------------------
 
 -- the server's end with these frames in flight
-abbrev pub flies : ServerEnd → List Flight → ServerEnd
+abbrev pub flies : ScheduledEnd → List Flight → ScheduledEnd
 flies end flights = record end {
   window = record end.window { flying = map (λ (f : Flight). f.sent_as) flights };
   ends = map (λ (f : Flight). f.server) flights;
@@ -72,7 +72,7 @@ having heard done left = record heard {
 }
 
 -- a server's end that has these frames in flight
-pub record HasFlying (end : ServerEnd) (flights : List Flight) : Type 0 where
+pub record HasFlying (end : ScheduledEnd) (flights : List Flight) : Type 0 where
   pub flying : end.window.flying ≡ map (λ (f : Flight). f.sent_as) flights
   pub ends : end.ends ≡ map (λ (f : Flight). f.server) flights
 

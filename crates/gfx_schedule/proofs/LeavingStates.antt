@@ -22,8 +22,12 @@ use Rattle.gfx_script.specs.declared.step.Step.TheVariants.{Surface, Delete, Res
 use Rattle.gfx_surface.specs.Picture.{Picture, overlaid}
 use Rattle.gfx_surface_map.specs.Shown.{Shown}
 use Rattle.gfx_surface_map.specs.Surfaces.{painted}
+use Rattle.gfx_planner.specs.Pixels.{opaque_in, pixels_in}
 use Rattle.gfx_planner.specs.Passes.{ended_by, live_after, passes_as}
-use Rattle.gfx_planner.specs.Want.{Wanted, drawn_on, drawing, opaque_in, pixels_in, with_painting, with_pixels, wanted_as, wanted_after}
+use Rattle.gfx_planner.specs.Wanted.{Wanted}
+use Rattle.gfx_planner.specs.SurfaceEffects.{drawn_on, drawing}
+use Rattle.gfx_planner.specs.PaintEffects.{with_painting, with_pixels}
+use Rattle.gfx_planner.specs.Want.{wanted_as, wanted_after}
 use Rattle.gfx_window.specs.Superseded.{covers}
 use Rattle.gfx_window.proofs.HullLaws.{both}
 use Rattle.gfx_schedule.proofs.LeavingPictures.{AreAlike, AreBeside, Draws, sides_back, painted-draws, overlaid-draws, drawn-self, drawn-alike, drawn-same, beside-covered, some-covers}

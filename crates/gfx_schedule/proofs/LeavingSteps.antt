@@ -16,7 +16,8 @@ use Rattle.gfx_script.specs.declared.step.Kind.{Kind}
 use Rattle.gfx_script.specs.declared.step.Step.{Step}
 use Rattle.gfx_script.specs.declared.step.Step.TheVariants.{Surface, Delete, Reset, Map, Fill, Copy, Keep, Show, Forget, Paint, Improve, Frame}
 use Rattle.gfx_planner.specs.Passes.{ended_by, passes_as}
-use Rattle.gfx_planner.specs.Want.{Wanted, wanted_as, wanted_after}
+use Rattle.gfx_planner.specs.Wanted.{Wanted}
+use Rattle.gfx_planner.specs.Want.{wanted_as, wanted_after}
 use Rattle.gfx_window.specs.Superseded.{plain_area, shows, covers, is_covered, is_left_out}
 use Rattle.gfx_window.specs.declared.window.Queued.{Queued}
 use Rattle.gfx_window.proofs.HullLaws.{both}

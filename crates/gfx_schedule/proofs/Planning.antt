@@ -20,9 +20,13 @@ use Rattle.gfx_state.specs.State.{State}
 use Rattle.gfx_state.specs.Step.{step, frame_ended, is_open}
 use Rattle.gfx_state.proofs.Sent.{all_steps-append, all_steps-cons, all_steps-nil}
 use Rattle.gfx_state.proofs.Wider.{all_steps_alike}
-use Rattle.gfx_planner.specs.Joined.{all_messages, after_all, frame_of, after_frame, JoinsFrame}
-use Rattle.gfx_planner.specs.Want.{Wanted, wanted_after, want_from}
-use Rattle.gfx_planner.specs.Wire.{Server, frame_start, after_open}
+use Rattle.gfx_planner.specs.Wanted.{Wanted}
+use Rattle.gfx_planner.specs.Want.{wanted_after, want_from}
+use Rattle.gfx_planner.specs.Server.{Server}
+use Rattle.gfx_planner.specs.Wire.{frame_start}
+use Rattle.gfx_planner.specs.After.{after_open}
+use Rattle.gfx_planner.specs.Joined.{all_messages, after_all, frame_of, after_frame}
+use Rattle.gfx_planner.specs.JoinedShown.{JoinsFrame}
 use Rattle.gfx_planner.proofs.Joined.{joined_frames_are_shown}
 use Rattle.gfx_planner.proofs.Lists.{all_front, all_behind}
 use Rattle.gfx_planner.proofs.Streams.{bare, held_through-append, held_through-cons}
@@ -30,14 +34,14 @@ use Rattle.gfx_schedule.specs.Frames.{frames_of}
 use Rattle.gfx_schedule.specs.Plan.{InPlanFrom}
 use Rattle.gfx_schedule.specs.Starts.{Start}
 use Rattle.gfx_schedule.specs.Leaving.{AreAmong, steps_of}
-use Rattle.gfx_schedule.specs.ServerEnd.{ServerEnd, first_frame, behind_frame, numbered, queued, due, with_sent}
+use Rattle.gfx_schedule.specs.ServerEnd.{ScheduledEnd, first_frame, behind_frame, numbered, queued, due, with_sent}
 use Rattle.gfx_schedule.proofs.Flights.{frames_both, frames_inside, frames_end, Flight, Extends}
 use Rattle.gfx_schedule.proofs.Items.{frame_parts, numbered-append, steps_of-numbered}
 use Rattle.gfx_schedule.proofs.LeavingItems.{all_among, only_leaves}
 use Rattle.gfx_schedule.proofs.LeavingSteps.{is_allowed, not_seen}
 
 -- a frame of the script is queued
-pub queues : (start : Start) (script : Script) (kinded : List KindedStep) (end : ServerEnd) (gone waiting : List KindedStep) → InPlanFrom start script kinded end gone waiting → InPlanFrom start script kinded (queued end) gone (waiting ++ first_frame end.left)
+pub queues : (start : Start) (script : Script) (kinded : List KindedStep) (end : ScheduledEnd) (gone waiting : List KindedStep) → InPlanFrom start script kinded end gone waiting → InPlanFrom start script kinded (queued end) gone (waiting ++ first_frame end.left)
 unfolding queued
 queues start script kinded end gone waiting plan =
     let first : List KindedStep = first_frame end.left in
@@ -59,7 +63,7 @@ queues start script kinded end gone waiting plan =
 
 -- what the script says of the steps that wait -----------------------------------------------------------------
 
-pub record Ahead (start : Start) (script : Script) (kinded : List KindedStep) (end : ServerEnd) (gone waiting : List KindedStep) (held : Held) : Type 0 where
+pub record Ahead (start : Start) (script : Script) (kinded : List KindedStep) (end : ScheduledEnd) (gone waiting : List KindedStep) (held : Held) : Type 0 where
   pub after : Held
   pub checked : held_through held (bare (due script end)) ≡ Ok after
   pub whole : held_through start.held (bare (gone ++ waiting)) ≡ Ok after
@@ -84,7 +88,7 @@ held_both held via after (x ∷ xs) ys first second =
     let c = held_through-cons held via x xs first in
     and_then_at (held_after held x) c.0 (λ next. held_through next (xs ++ ys)) c.1 ∙ held_both c.0 via after xs ys c.2 second
 
-pub ahead : (start : Start) (script : Script) (kinded : List KindedStep) (end : ServerEnd) (gone waiting : List KindedStep) → IsAcceptedFrom start.held script → Fits kinded script.steps → (plan : InPlanFrom start script kinded end gone waiting) → Ahead start script kinded end gone waiting plan.held
+pub ahead : (start : Start) (script : Script) (kinded : List KindedStep) (end : ScheduledEnd) (gone waiting : List KindedStep) → IsAcceptedFrom start.held script → Fits kinded script.steps → (plan : InPlanFrom start script kinded end gone waiting) → Ahead start script kinded end gone waiting plan.held
 ahead start script kinded end gone waiting good fits plan =
     let all : bare (gone ++ (waiting ++ end.left)) ≡ script.steps = ap bare (sym plan.cut) ∙ fits.same in
     let is : steps_of script end.window.pending ≡ waiting = ap (steps_of script) plan.pending ∙ steps_of-numbered script gone waiting end.left all in
@@ -112,14 +116,14 @@ ahead start script kinded end gone waiting good fits plan =
 -- a frame goes ------------------------------------------------------------------------------------------------
 
 -- the frame that goes, of all that waits
-pub joins : (start : Start) (script : Script) (kinded : List KindedStep) (end : ServerEnd) (gone waiting : List KindedStep) → IsAcceptedFrom start.held script → Fits kinded script.steps → (plan : InPlanFrom start script kinded end gone waiting)
+pub joins : (start : Start) (script : Script) (kinded : List KindedStep) (end : ScheduledEnd) (gone waiting : List KindedStep) → IsAcceptedFrom start.held script → Fits kinded script.steps → (plan : InPlanFrom start script kinded end gone waiting)
     → (ahead : Ahead start script kinded end gone waiting plan.held) → JoinsFrame script end.server (due script end) ahead.after (want_from script start.wanted (gone ++ waiting))
 joins start script kinded end gone waiting good fits plan ahead =
     subst (JoinsFrame script end.server (due script end) ahead.after) ahead.wanted
     (joined_frames_are_shown script end.server (due script end) plan.held ahead.after (want_from script start.wanted gone) (omega (arith, plan.frames, ahead.few, good.few)) plan.frame plan.holds plan.agrees ahead.numbers ahead.kinds ahead.checked)
 
 -- at least one step waited
-pub goes : (start : Start) (script : Script) (kinded : List KindedStep) (end : ServerEnd) (gone waiting : List KindedStep) (plan : InPlanFrom start script kinded end gone waiting) (ahead : Ahead start script kinded end gone waiting plan.held) → 0 < length waiting
+pub goes : (start : Start) (script : Script) (kinded : List KindedStep) (end : ScheduledEnd) (gone waiting : List KindedStep) (plan : InPlanFrom start script kinded end gone waiting) (ahead : Ahead start script kinded end gone waiting plan.held) → 0 < length waiting
     → JoinsFrame script end.server (due script end) ahead.after (want_from script start.wanted (gone ++ waiting)) → InPlanFrom start script kinded (with_sent end (after_frame script end.server (due script end))) (gone ++ waiting) []
 unfolding with_sent
 goes start script kinded end gone waiting plan ahead some joins = record {

@@ -25,7 +25,7 @@ use Rattle.gfx_schedule.specs.Frames.{frames_of}
 use Rattle.gfx_schedule.specs.Hearing.{Heard, listening, hears}
 use Rattle.gfx_schedule.specs.Schedule.{rounds_for, RoundsEnd}
 use Rattle.gfx_schedule.specs.Starts.{Start}
-use Rattle.gfx_schedule.specs.ServerEnd.{ServerEnd, is_none, behind_frame, queued, can_send, serves, with_sent}
+use Rattle.gfx_schedule.specs.ServerEnd.{ScheduledEnd, is_none, behind_frame, queued, can_send, serves, with_sent}
 use Rattle.gfx_schedule.specs.Words.{said}
 use Rattle.gfx_schedule.specs.World.{World, server_turns, client_takes, server_heard, happens, world_from, round, drained, is_ended}
 use Rattle.gfx_schedule.proofs.Confirming.{confirms, tell_offers}
@@ -52,7 +52,7 @@ none_coming R run server coming down = by down.todo down.inside.bytes_are down.i
         absurd cc
 
 -- where none is on its way to the server's end, no message is
-pub none_said : (end : ServerEnd) (words : List ClientPdu) → Upward end [] words → words ≡ []
+pub none_said : (end : ScheduledEnd) (words : List ClientPdu) → Upward end [] words → words ≡ []
 none_said end [] up = refl
 none_said end (word ∷ words) up =
     let whole : front end.heard ≡ Whole (word_spelling word) (said words) = ap front (sym (append-nil end.heard) ∙ up.bytes_are) ∙ (up.carried.0 (said words)).whole in
@@ -157,7 +157,7 @@ none_flying R start script kinded w good keeps none =
     by coming (Going confirmed are) =
         let h = frames_heard R start script kinded w w.up [] (sym (append-nil w.up)) keeps are in
         let listens = h.listens in
-        let end : ServerEnd = (hears script (listening w.server) w.up).end in
+        let end : ScheduledEnd = (hears script (listening w.server) w.up).end in
         let words = none_said end (map word_of h.later) (record { goes_on = listens.goes_on; short = listens.short; bytes_are = listens.bytes_are; carried = listens.carried }) in
         let later = none_mapped word_of h.later words in
         ap (λ z. z.end.window.flying) h.is ∙ ap (λ z. map (λ (f : Flight). f.sent_as) (z ++ keeps.coming)) later ∙ ap (map (λ (f : Flight). f.sent_as)) coming
@@ -201,7 +201,7 @@ served_all R start script kinded w good keeps settled =
           (ap (λ z. z.window.pending) is ∙ empty (queued w.server).window.pending (refused (queued w.server) settled.confirmed room can), ap (λ z. z.left) is, ap (λ z. z.confirmed) is ∙ settled.confirmed)
     ]
   where
-    refused : (end : ServerEnd) → end.confirmed ≡ true → has_room end.window ≡ true → can_send end ≡ false → is_none end.window.pending ≡ true
+    refused : (end : ScheduledEnd) → end.confirmed ≡ true → has_room end.window ≡ true → can_send end ≡ false → is_none end.window.pending ≡ true
     refused end confirmed room can = by end.confirmed (is_none end.window.pending) (has_room end.window) confirmed room can
       where
         by : (a b c : Bool) → a ≡ true → c ≡ true → (a && (not b && c)) ≡ false → b ≡ true

@@ -30,13 +30,14 @@ use Rattle.gfx_state.proofs.Runs.{eats-append, eats-nil}
 use Rattle.gfx_state.proofs.Sent.{sent-nil}
 use Rattle.gfx_state.proofs.Wider.{Wider_same, started_fresh, wider_alike}
 use Rattle.gfx_alike.proofs.Steps.{alike_steps, wider_is_alike}
+use Rattle.gfx_planner.specs.Tiles.{HoldsLive}
+use Rattle.gfx_planner.specs.Want.{want_from}
+use Rattle.gfx_planner.specs.Server.{Server as Planned, at_start}
+use Rattle.gfx_planner.specs.Agree.{Agree}
+use Rattle.gfx_planner.specs.Holds.{Holds}
 use Rattle.gfx_planner.specs.Joined.{frame_of, after_frame}
 use Rattle.gfx_prog_live.specs.Live.{Passes}
 use Rattle.gfx_prog_decode.specs.Records.{Records}
-use Rattle.gfx_planner.specs.Agree.{Agree, Holds}
-use Rattle.gfx_planner.specs.Tiles.{HoldsLive}
-use Rattle.gfx_planner.specs.Want.{want_from}
-use Rattle.gfx_planner.specs.Wire.{Server as Planned, at_start}
 use Rattle.gfx_planner.proofs.Effects.{all_steps-none}
 use Rattle.gfx_planner.proofs.Lists.{all_both, all_front, all_behind}
 use Rattle.gfx_planner.proofs.Streams.{stands_at_start}
@@ -49,7 +50,7 @@ use Rattle.gfx_schedule.specs.Plan.{InPlanFrom}
 use Rattle.gfx_schedule.specs.Rising.{AreRising}
 use Rattle.gfx_schedule.specs.Schedule.{ShowsWanted, wanted_at, IsShownFrom, IsAlikeFrom, KeepsWorldBy, KeepsWorldFrom, KeepsAlikeFrom, EverySchedule, EveryScheduleFrom, EveryScheduleAlike}
 use Rattle.gfx_schedule.specs.Starts.{MayBegin, MayStart, Start, from_nothing}
-use Rattle.gfx_schedule.specs.ServerEnd.{ServerEnd, server_end_from, is_none, queued, can_send, due, sends, bytes_sent, with_sent, first_frame}
+use Rattle.gfx_schedule.specs.ServerEnd.{ScheduledEnd, server_end_from, is_none, queued, can_send, due, sends, bytes_sent, with_sent, first_frame}
 use Rattle.gfx_schedule.specs.Words.{said, IsWord, holding, tell, tells, TakesAll, IsListening}
 use Rattle.gfx_schedule.specs.World.{World, Acknowledged, acknowledgements, greeting, begin_from, server_turns, client_takes, server_heard, happens, world_from}
 use Rattle.gfx_schedule.proofs.Confirming.{Confirms, confirm_extends, confirms, tell_offers, version_fits}
@@ -86,12 +87,12 @@ pub record IsSeen (R : State → State → Type 0) (start : Start) (script : Scr
   pub shows : ShowsWanted ack.server (wanted_at start script kinded ack.step)
 
 -- before the version is confirmed nothing is sent; from then on the client speaks of the frames that it drew
-pub data Phase (start : Start) (script : Script) (end : ServerEnd) (drawn coming : List Flight) (words : List ClientPdu) : Type 0 where
+pub data Phase (start : Start) (script : Script) (end : ScheduledEnd) (drawn coming : List Flight) (words : List ClientPdu) : Type 0 where
   Greeting : (start.confirmed ≡ false) × (end.confirmed ≡ false) → end.server ≡ start.server → drawn ≡ [] → coming ≡ [] → words ≡ advertised script.offers ∷ [] → Phase start script end drawn coming words
   Going : end.confirmed ≡ true → words ≡ map word_of drawn → Phase start script end drawn coming words
 
 -- the bytes on their way to the server's end are these messages
-pub record Upward (end : ServerEnd) (up : List ℕ) (words : List ClientPdu) : Type 0 where
+pub record Upward (end : ScheduledEnd) (up : List ℕ) (words : List ClientPdu) : Type 0 where
   pub goes_on : end.stopped ≡ None
   pub short : front end.heard ≡ Short
   pub bytes_are : end.heard ++ up ≡ said words
@@ -163,7 +164,7 @@ promised_alike start script kinded w keeps = promised_by Alike (IsAlikeFrom star
 -- the client takes bytes -----------------------------------------------------------------------------------------
 
 -- it speaks of the frames that it draws
-speaks : (start : Start) (script : Script) (end : ServerEnd) (drawn now later : List Flight) (words : List ClientPdu) → Phase start script end drawn (now ++ later) words → Phase start script end (drawn ++ now) later (words ++ map word_of now)
+speaks : (start : Start) (script : Script) (end : ScheduledEnd) (drawn now later : List Flight) (words : List ClientPdu) → Phase start script end drawn (now ++ later) words → Phase start script end (drawn ++ now) later (words ++ map word_of now)
 speaks start script end drawn [] later words (Greeting unconfirmed at none_drawn none_coming are) =
     Greeting unconfirmed at (append-nil drawn ∙ none_drawn) none_coming (append-nil words ∙ are)
 speaks start script end drawn (flight ∷ now) later words (Greeting unconfirmed at none_drawn none_coming are) = absurd cc
@@ -250,7 +251,7 @@ queueing R start script kinded w keeps = record {
     by (Going confirmed are) = Going confirmed are
 
 -- what lets a frame go
-pub record MayGo (end : ServerEnd) : Type 0 where
+pub record MayGo (end : ScheduledEnd) : Type 0 where
   pub confirmed : end.confirmed ≡ true
   pub some : 0 < length end.window.pending
   pub room : length end.window.flying < end.window.size
@@ -263,14 +264,14 @@ not_none : {X : Type 0} (items : List X) → not (is_none items) ≡ true → 0 
 not_none [] e = absurd cc
 not_none (x ∷ items) e = omega arith
 
-pub may_go : (end : ServerEnd) → can_send end ≡ true → MayGo end
+pub may_go : (end : ScheduledEnd) → can_send end ≡ true → MayGo end
 may_go end can =
     let first = both_true end.confirmed (not (is_none end.window.pending) && has_room end.window) can in
     let second = both_true (not (is_none end.window.pending)) (has_room end.window) first.1 in
     record { confirmed = first.0; some = not_none end.window.pending second.0; room = ltb-true (length end.window.flying) end.window.size second.1 }
 
 -- once it goes, it goes on
-still_going : (start : Start) (script : Script) (old new : ServerEnd) (drawn coming more : List Flight) (words : List ClientPdu) → old.confirmed ≡ true → new.confirmed ≡ true → Phase start script old drawn coming words → Phase start script new drawn more words
+still_going : (start : Start) (script : Script) (old new : ScheduledEnd) (drawn coming more : List Flight) (words : List ClientPdu) → old.confirmed ≡ true → new.confirmed ≡ true → Phase start script old drawn coming words → Phase start script new drawn more words
 still_going start script old new drawn coming more words was is (Greeting unconfirmed at none_drawn none_coming are) = absurd (let first : old.confirmed ≡ false = unconfirmed.1 in cc)
 still_going start script old new drawn coming more words was is (Going confirmed are) = Going is are
 
@@ -296,7 +297,7 @@ pub sending : (R : State → State → Type 0) (start : Start) (script : Script)
 unfolding with_sent
 sending R start script kinded w good fits can keeps =
     let may = may_go w.server can in
-    let end : ServerEnd = w.server in
+    let end : ScheduledEnd = w.server in
     let plan = keeps.plan in
     let next = ahead start script kinded end keeps.gone keeps.waiting good.good fits plan in
     let frame = joins start script kinded end keeps.gone keeps.waiting good.good fits plan next in
@@ -346,7 +347,7 @@ sending R start script kinded w good fits can keeps =
           (all_both (λ step. step ≤ length gone) steps (end.last ∷ []) (all_within (length keeps.gone) (length gone) steps (omega (arith, length-append keeps.gone keeps.waiting)) keeps.within) (omega (arith, plan.last, length-append keeps.gone keeps.waiting), tt));
     }
 
-pub sends_yes : (script : Script) (end : ServerEnd) → can_send end ≡ true
+pub sends_yes : (script : Script) (end : ScheduledEnd) → can_send end ≡ true
     → (sends script end ≡ with_sent end (after_frame script end.server (due script end))) × (bytes_sent script end ≡ sent (frame_of script end.server (due script end)))
 unfolding sends bytes_sent
 sends_yes script end can = (
@@ -354,7 +355,7 @@ sends_yes script end can = (
   ap (λ b. cond b (sent (frame_of script end.server (due script end))) []) can,
 )
 
-pub sends_no : (script : Script) (end : ServerEnd) → can_send end ≡ false → (sends script end ≡ end) × (bytes_sent script end ≡ [])
+pub sends_no : (script : Script) (end : ScheduledEnd) → can_send end ≡ false → (sends script end ≡ end) × (bytes_sent script end ≡ [])
 unfolding sends bytes_sent
 sends_no script end can = (
   ap (λ b. cond b (with_sent end (after_frame script end.server (due script end))) end) can,
@@ -397,7 +398,7 @@ steps_acked [] left = refl
 steps_acked (flight ∷ done) left = ap (λ z. step_of flight ∷ z) (steps_acked done left)
 
 -- what a client says changes nothing of what is queued
-heard_plan : (start : Start) (script : Script) (kinded : List KindedStep) (end : ServerEnd) (gone waiting : List KindedStep) (flying : List Sent) (ends : List State) (held : List ℕ) (confirmed : Bool) → InPlanFrom start script kinded end gone waiting
+heard_plan : (start : Start) (script : Script) (kinded : List KindedStep) (end : ScheduledEnd) (gone waiting : List KindedStep) (flying : List Sent) (ends : List State) (held : List ℕ) (confirmed : Bool) → InPlanFrom start script kinded end gone waiting
     → InPlanFrom start script kinded (record end { window = record end.window { flying = flying }; ends = ends; heard = held; confirmed = confirmed }) gone waiting
 heard_plan start script kinded end gone waiting flying ends held confirmed plan =
     record { cut = plan.cut; last = plan.last; pending = plan.pending; held = plan.held; checked = plan.checked; holds = plan.holds; agrees = plan.agrees; frame = plan.frame; frames = plan.frames }
@@ -419,7 +420,7 @@ pub record HearsFrames (script : Script) (w : World) (drawn coming : List Flight
 pub frames_heard : (R : State → State → Type 0) (start : Start) (script : Script) (kinded : List KindedStep) (w : World) (bytes behind : List ℕ) → w.up ≡ bytes ++ behind → (keeps : Keeps R start script kinded w) → keeps.words ≡ map word_of keeps.drawn
     → HearsFrames script w keeps.drawn keeps.coming bytes behind
 frames_heard R start script kinded w bytes behind cut keeps are =
-    let end : ServerEnd = w.server in
+    let end : ScheduledEnd = w.server in
     let taken = subst (TakesAll script (listening end)) (sym are) (takes_all script (listening end) keeps.drawn keeps.coming keeps.upward.goes_on keeps.flying) in
     let h = words_are_heard_in_pieces script (listening end) bytes behind keeps.words (record {
       goes_on = keeps.upward.goes_on;
@@ -446,7 +447,7 @@ hears_frames : (R : State → State → Type 0) (start : Start) (script : Script
     → Keeps R start script kinded (server_heard w (hears script (listening w.server) bytes) behind)
 unfolding server_heard
 hears_frames R start script kinded w bytes behind cut keeps confirmed are =
-    let end : ServerEnd = w.server in
+    let end : ScheduledEnd = w.server in
     let s = frames_heard R start script kinded w bytes behind cut keeps are in
     let now : List Flight = s.now in
     let later : List Flight = s.later in
@@ -519,7 +520,7 @@ pub record HearsOffers (script : Script) (w : World) (bytes behind : List ℕ) :
 pub offers_heard : (R : State → State → Type 0) (start : Start) (script : Script) (kinded : List KindedStep) (w : World) (bytes behind : List ℕ) → Begins R start script → w.up ≡ bytes ++ behind → (keeps : Keeps R start script kinded w) → keeps.words ≡ advertised script.offers ∷ []
     → HearsOffers script w bytes behind
 offers_heard R start script kinded w bytes behind good cut keeps are =
-    let end : ServerEnd = w.server in
+    let end : ScheduledEnd = w.server in
     let c = confirms script start.held good.good in
     let told_is = tell_offers script (listening end) c in
     let taken : TakesAll script (listening end) (advertised script.offers ∷ []) = (ap (λ z. z.end.stopped) told_is ∙ keeps.upward.goes_on, tt) in
@@ -621,7 +622,7 @@ held_through-start held = refl
 abbrev words_first : Bool → Script → List ClientPdu
 words_first confirmed script = if confirmed then [] else advertised script.offers ∷ []
 
-first_upward : (end : ServerEnd) (confirmed : Bool) (script : Script) (held : Held) → IsAcceptedFrom held script → end.stopped ≡ None → end.heard ≡ [] → Upward end (greeting confirmed script) (words_first confirmed script)
+first_upward : (end : ScheduledEnd) (confirmed : Bool) (script : Script) (held : Held) → IsAcceptedFrom held script → end.stopped ≡ None → end.heard ≡ [] → Upward end (greeting confirmed script) (words_first confirmed script)
 first_upward end true script held good goes_on none =
     record { goes_on = goes_on; short = ap front none ∙ front-nil; bytes_are = ap (λ z. z ++ []) none; carried = tt }
 first_upward end false script held good goes_on none = record {

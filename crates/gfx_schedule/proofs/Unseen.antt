@@ -21,7 +21,7 @@ use Rattle.gfx_planner.proofs.Streams.{bare}
 use Rattle.gfx_window.specs.Window.{Window, with_pending, acknowledged}
 use Rattle.gfx_window.specs.declared.window.AckUnknown.{AckUnknown}
 use Rattle.gfx_schedule.specs.Hearing.{Heard, listening, stop, confirm, confirms, acknowledges, told, judge, hear, hears}
-use Rattle.gfx_schedule.specs.ServerEnd.{ServerEnd, Refused, first_frame, behind_frame, numbered, queued, can_send, due, with_sent, sends, bytes_sent, serves}
+use Rattle.gfx_schedule.specs.ServerEnd.{ScheduledEnd, Refused, first_frame, behind_frame, numbered, queued, can_send, due, with_sent, sends, bytes_sent, serves}
 use Rattle.gfx_schedule.specs.Starts.{Start}
 use Rattle.gfx_schedule.specs.World.{World, begin_from, server_turns, client_takes, server_heard, happens, world_from}
 use Rattle.gfx_schedule.proofs.Items.{frame_parts}
@@ -31,7 +31,7 @@ abbrev pub with_left : List KindedStep → World → World
 with_left left w = record w { server = record w.server { left = left } }
 
 -- the same server's end, with other steps left and another number of the last step that was queued
-abbrev leaving : List KindedStep → ℕ → ServerEnd → ServerEnd
+abbrev leaving : List KindedStep → ℕ → ScheduledEnd → ScheduledEnd
 leaving left last end = record end { left = left; last = last }
 
 abbrev heard_leaving : List KindedStep → ℕ → Heard → Heard
@@ -116,10 +116,10 @@ same_frame some others same agree =
 -- queueing and sending ------------------------------------------------------------------------------------------
 
 -- so many steps are queued next
-abbrev next_count : ServerEnd → ℕ
+abbrev next_count : ScheduledEnd → ℕ
 next_count end = length (first_frame end.left)
 
-queued_same : (end : ServerEnd) (left behind : List KindedStep) → first_frame left ≡ first_frame end.left → behind_frame left ≡ behind → queued (leaving left end.last end) ≡ leaving behind (end.last + next_count end) (queued end)
+queued_same : (end : ScheduledEnd) (left behind : List KindedStep) → first_frame left ≡ first_frame end.left → behind_frame left ≡ behind → queued (leaving left end.last end) ≡ leaving behind (end.last + next_count end) (queued end)
 unfolding queued
 queued_same end left behind first rest =
     λ i. record end {
@@ -128,25 +128,25 @@ queued_same end left behind first rest =
       window = with_pending end.window (end.window.pending ++ numbered (end.last + 1) (first i));
     }
 
-either_end : (left : List KindedStep) (last : ℕ) (b : Bool) (x y : ServerEnd) → cond b (leaving left last x) (leaving left last y) ≡ leaving left last (cond b x y)
+either_end : (left : List KindedStep) (last : ℕ) (b : Bool) (x y : ScheduledEnd) → cond b (leaving left last x) (leaving left last y) ≡ leaving left last (cond b x y)
 either_end left last true x y = refl
 either_end left last false x y = refl
 
 -- sending doesn't look at the steps that are left
-sends_same : (script : Script) (end : ServerEnd) (left : List KindedStep) → sends script (leaving left end.last end) ≡ leaving left end.last (sends script end)
+sends_same : (script : Script) (end : ScheduledEnd) (left : List KindedStep) → sends script (leaving left end.last end) ≡ leaving left end.last (sends script end)
 unfolding sends with_sent
 sends_same script end left = either_end left end.last (can_send end) (with_sent end (after_frame script end.server (due script end))) end
 
-bytes_same : (script : Script) (end : ServerEnd) (left : List KindedStep) → bytes_sent script (leaving left end.last end) ≡ bytes_sent script end
+bytes_same : (script : Script) (end : ScheduledEnd) (left : List KindedStep) → bytes_sent script (leaving left end.last end) ≡ bytes_sent script end
 unfolding bytes_sent
 bytes_same script end left = refl
 
 -- what a turn of the server's end leaves
-record Serves (script : Script) (end : ServerEnd) : Type 0 where
+record Serves (script : Script) (end : ScheduledEnd) : Type 0 where
   left : (serves script end).left ≡ behind_frame end.left
   last : (serves script end).last ≡ end.last + next_count end
 
-serves_leaves : (script : Script) (end : ServerEnd) → Serves script end
+serves_leaves : (script : Script) (end : ScheduledEnd) → Serves script end
 unfolding queued
 serves_leaves script end =
     let same = sends_same script (queued end) (queued end).left in
@@ -225,7 +225,7 @@ server_unseen : (script : Script) (kinded other : List KindedStep) (w : World) �
     → take (server_turns script w).server.last other ≡ take (server_turns script w).server.last kinded → server_turns script (others_left other w) ≡ others_left other (server_turns script w)
 unfolding server_turns queued
 server_unseen script kinded other w same behind agree =
-    let end : ServerEnd = w.server in
+    let end : ScheduledEnd = w.server in
     let s = serves_leaves script end in
     let count : ℕ = next_count end in
     let left : List KindedStep = drop end.last other in

@@ -18,17 +18,17 @@ use Rattle.gfx_state.specs.State.{State}
 use Rattle.gfx_window.specs.declared.window.AckUnknown.{AckUnknown}
 use Rattle.gfx_window.specs.declared.window.Sent.{Sent}
 use Rattle.gfx_window.specs.Window.{Window, acknowledged}
-use Rattle.gfx_schedule.specs.ServerEnd.{ServerEnd, Stop, Refused, Unknown}
+use Rattle.gfx_schedule.specs.ServerEnd.{ScheduledEnd, Stop, Refused, Unknown}
 
 -- a server's end that has listened: what it answered, the frames whose acknowledgements it took, and its
 -- states right after them
 pub record Heard : Type 0 where
-  pub end : ServerEnd
+  pub end : ScheduledEnd
   pub out : List ℕ
   pub taken : List Sent
   pub states : List State
 
-abbrev pub listening : ServerEnd → Heard
+abbrev pub listening : ScheduledEnd → Heard
 listening end = record { end = end; out = []; taken = []; states = [] }
 
 -- it listens no more

@@ -1,8 +1,9 @@
 -- What is left out of a frame isn't missed: this project's own rule.
 use Rattle.std.specs.Prelude.{◌≡◌, ◌≤◌, ◌⊎◌, ◌+◌, ℕ, List, [], ◌∷◌, drop, fold, length, map, Option, Some, Ok, if◌then◌else◌}
 use Rattle.std.specs.List.{filter_map, slice_get}
-use Rattle.gfx_planner.specs.Agree.{kinded_at}
-use Rattle.gfx_planner.specs.Want.{Wanted, wanted_after}
+use Rattle.gfx_planner.specs.Wanted.{Wanted}
+use Rattle.gfx_planner.specs.Want.{wanted_after}
+use Rattle.gfx_planner.specs.Allowed.{kinded_at}
 use Rattle.gfx_script.specs.Checks.{Held, held_through}
 use Rattle.gfx_script.specs.Kinds.{KindedStep}
 use Rattle.gfx_script.specs.Scripted.{Script}

@@ -5,7 +5,8 @@ use Rattle.std.specs.List.{AllByRecursion}
 use Rattle.gfx_bitmap_cache.specs.Slots.{Entry}
 use Rattle.gfx_import.specs.Agreed.{agree}
 use Rattle.gfx_planner.specs.Tiles.{HoldsLive}
-use Rattle.gfx_planner.specs.Want.{Wanted, want_from}
+use Rattle.gfx_planner.specs.Wanted.{Wanted}
+use Rattle.gfx_planner.specs.Want.{want_from}
 use Rattle.gfx_script.specs.Kinds.{KindedStep, Fits}
 use Rattle.gfx_script.specs.Script.{IsAccepted, IsAcceptedFrom}
 use Rattle.gfx_script.specs.Scripted.{Script}

@@ -2,8 +2,8 @@
 -- frames are joined, and which steps are left out of one, is this project's own rule.
 use Rattle.std.specs.Prelude.{ℕ, ◌+◌, Bool, ◌&&◌, not, ◌==◌, List, [], ◌∷◌, ◌++◌, length, Option, None, if◌then◌else◌}
 use Rattle.gfx_base.specs.declared.refusal.Refusal.{Refusal}
+use Rattle.gfx_planner.specs.Server.{Server}
 use Rattle.gfx_planner.specs.Joined.{frame_of, after_frame}
-use Rattle.gfx_planner.specs.Wire.{Server}
 use Rattle.gfx_script.specs.Kinds.{KindedStep}
 use Rattle.gfx_script.specs.Script.{is_frame}
 use Rattle.gfx_script.specs.Scripted.{Script}
@@ -23,7 +23,7 @@ pub data Stop : Type 0 where
   -- an acknowledgement isn't of the oldest frame in flight
   Unknown : AckUnknown → Stop
 
-pub record ServerEnd : Type 0 where
+pub record ScheduledEnd : Type 0 where
   -- the steps that aren't queued yet, each with the kind that it goes as
   pub left : List KindedStep
   -- the number of the last step that was queued, counted from 1; 0 before the first
@@ -41,7 +41,7 @@ pub record ServerEnd : Type 0 where
   pub stopped : Option Stop
 
 -- nothing is queued yet, of steps that go as these kinds
-abbrev pub server_end_from : Start → Script → List KindedStep → ServerEnd
+abbrev pub server_end_from : Start → Script → List KindedStep → ScheduledEnd
 server_end_from start script kinded = record {
   left = kinded;
   last = 0;
@@ -53,7 +53,7 @@ server_end_from start script kinded = record {
   stopped = None;
 }
 
-abbrev pub server_at_start : Script → List KindedStep → ServerEnd
+abbrev pub server_at_start : Script → List KindedStep → ScheduledEnd
 server_at_start script kinded = server_end_from (from_nothing script) script kinded
 
 -- the steps of the first script frame, up to and including the step of the word `frame`, and those behind it
@@ -71,7 +71,7 @@ numbered at [] = []
 numbered at (one ∷ more) = record { step = at; kind = one.kind } ∷ numbered (at + 1) more
 
 -- the next script frame is queued, where there is one
-unfoldable pub queued : ServerEnd → ServerEnd
+unfoldable pub queued : ScheduledEnd → ScheduledEnd
 queued end = record end {
   left = behind_frame end.left;
   last = end.last + length (first_frame end.left);
@@ -86,40 +86,40 @@ is_none items = length items == 0
 abbrev pub may_send : Bool → Window → Bool
 may_send confirmed window = confirmed && (not (is_none window.pending) && has_room window)
 
-abbrev pub can_send : ServerEnd → Bool
+abbrev pub can_send : ScheduledEnd → Bool
 can_send end = may_send end.confirmed end.window
 
 -- the steps of the frame that goes then: those that wait without exactly those that a later one covers
-abbrev pub due : Script → ServerEnd → List KindedStep
+abbrev pub due : Script → ScheduledEnd → List KindedStep
 due script end = steps_of script (kept script end.window.pending)
 
 -- that frame is in flight
-unfoldable pub with_sent : ServerEnd → Server → ServerEnd
+unfoldable pub with_sent : ScheduledEnd → Server → ScheduledEnd
 with_sent end server = record end {
   window = with_frame end.window server.frames end.last;
   server = server;
   ends = end.ends ++ server.state ∷ [];
 }
 
-unfoldable pub sends : Script → ServerEnd → ServerEnd
+unfoldable pub sends : Script → ScheduledEnd → ScheduledEnd
 sends script end = if can_send end then with_sent end (after_frame script end.server (due script end)) else end
 
 -- the bytes of that frame
-unfoldable pub bytes_sent : Script → ServerEnd → List ℕ
+unfoldable pub bytes_sent : Script → ScheduledEnd → List ℕ
 bytes_sent script end = if can_send end then sent (frame_of script end.server (due script end)) else []
 
 -- a turn: the next script frame is queued, and then all that waits goes as one frame, where it can
-abbrev pub serves : Script → ServerEnd → ServerEnd
+abbrev pub serves : Script → ScheduledEnd → ScheduledEnd
 serves script end = sends script (queued end)
 
 -- what a turn puts out
-abbrev pub serving : Script → ServerEnd → List ℕ
+abbrev pub serving : Script → ScheduledEnd → List ℕ
 serving script end = bytes_sent script (queued end)
 
 -- a turn does something
-abbrev pub can_serve : ServerEnd → Bool
+abbrev pub can_serve : ScheduledEnd → Bool
 can_serve end = not (is_none end.left && not (can_send (queued end)))
 
 -- all of the script was queued, sent and acknowledged
-abbrev pub has_served : ServerEnd → Bool
+abbrev pub has_served : ScheduledEnd → Bool
 has_served end = is_none end.left && (is_none end.window.pending && is_none end.window.flying)

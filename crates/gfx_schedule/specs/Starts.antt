@@ -5,9 +5,10 @@ use Rattle.gfx_bitmap_cache.specs.Slots.{Entry}
 use Rattle.gfx_import.specs.Agreed.{have_same_sides}
 use Rattle.gfx_import.specs.Imported.{imported}
 use Rattle.gfx_import.specs.Started.{in_slots, own}
-use Rattle.gfx_planner.specs.Agree.{Agree, Holds}
-use Rattle.gfx_planner.specs.Want.{Wanted, bitmaps_wanted, nothing_wanted}
-use Rattle.gfx_planner.specs.Wire.{Server, at_start, server_with}
+use Rattle.gfx_planner.specs.Wanted.{Wanted, bitmaps_wanted, nothing_wanted}
+use Rattle.gfx_planner.specs.Server.{Server, at_start, server_with}
+use Rattle.gfx_planner.specs.Agree.{Agree}
+use Rattle.gfx_planner.specs.Holds.{Holds}
 use Rattle.gfx_script.specs.Checks.{Held, held_first, sides_of_all}
 use Rattle.gfx_script.specs.Kinds.{KindedStep, Fits}
 use Rattle.gfx_script.specs.Script.{IsAcceptedAtStart, IsAcceptedFrom, held_at_start}

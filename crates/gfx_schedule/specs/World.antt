@@ -15,7 +15,7 @@ use Rattle.gfx_state.specs.State.{State}
 use Rattle.gfx_window.specs.declared.window.Sent.{Sent}
 use Rattle.gfx_schedule.specs.declared.turned.Turned.{Turned}
 use Rattle.gfx_schedule.specs.declared.turned.Turned.TheVariants.{Moved, Waiting, Ended}
-use Rattle.gfx_schedule.specs.ServerEnd.{ServerEnd, server_end_from, serves, serving, can_serve, has_served, is_none}
+use Rattle.gfx_schedule.specs.ServerEnd.{ScheduledEnd, server_end_from, serves, serving, can_serve, has_served, is_none}
 use Rattle.gfx_schedule.specs.Hearing.{Heard, listening, hears}
 use Rattle.gfx_schedule.specs.Starts.{Start, from_nothing}
 
@@ -36,7 +36,7 @@ acknowledgements frames servers clients = []
 pub record World : Type 0 where
   -- the client's state before the first byte
   pub start : State
-  pub server : ServerEnd
+  pub server : ScheduledEnd
   -- the bytes in flight to the client, and to the server
   pub down : List ℕ
   pub up : List ℕ

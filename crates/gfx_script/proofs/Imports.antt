@@ -6,7 +6,7 @@ use Rattle.std.proofs.lemmas.List.Sums.{sum_by-cons}
 use Rattle.std.proofs.lemmas.Map.Keys.{IsDistinct-cons}
 use Rattle.gfx_bitmap_cache.specs.Slots.{Entry, budget, bytes_of, last_slot}
 use Rattle.gfx_slot_plan.proofs.InTurn.{keys_planned}
-use Rattle.gfx_import.specs.Chosen.{AreShared, IsChosen}
+use Rattle.gfx_import.specs.Chosen.{AreShared}
 use Rattle.gfx_import.specs.Entries.{are_distinct, entry_keys, has_key}
 use Rattle.gfx_import.specs.Imported.{imported}
 use Rattle.gfx_import.proofs.ChosenLemmas.{imported-chosen}

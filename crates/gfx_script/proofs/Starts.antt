@@ -1,16 +1,15 @@
 -- The bitmaps that a script starts with, kept one after another.
-use Rattle.std.proofs.Common.{◌≡◌, ◌∙◌, ◌<◌, ◌≤◌, ◌+◌, ap, sym, refl, subst, Bool, ℕ, List, [], ◌∷◌, ◌++◌, map, length, take, drop, get_or, Ok, Err, arith}
+use Rattle.std.proofs.Common.{◌≡◌, ◌∙◌, ◌<◌, ◌≤◌, ◌+◌, ap, sym, subst, Bool, ℕ, List, [], ◌∷◌, ◌++◌, map, length, take, drop, get_or, Ok, Err, arith}
 use Rattle.std.specs.FinMap.{FinMap, empty, insert}
 use Rattle.std.specs.Ordering.{nat_cmp}
 use Rattle.std.proofs.lemmas.List.{drop_more, length-map, map-append, take-append-drop, take_all, take_more}
-use Rattle.gfx_bitmap_cache.specs.Slots.{bytes_for}
 use Rattle.gfx_slot_plan.specs.Plan.{IsPlan, keeps}
 use Rattle.gfx_slot_plan.specs.Started.{plan_with}
 use Rattle.gfx_slot_plan.proofs.InTurn.{IsNext, keeps_in_turn, next_planned}
 use Rattle.gfx_script.specs.declared.error.ScriptKind.{ScriptKind}
 use Rattle.gfx_script.specs.declared.held.Sides.{Sides}
 use Rattle.gfx_script.specs.declared.start.StartBitmap.{StartBitmap}
-use Rattle.gfx_script.specs.Checks.{held_first, held_from, sides_of_all}
+use Rattle.gfx_script.specs.Checks.{held_from, sides_of_all}
 use Rattle.gfx_script.specs.Script.{IsAccepted, IsAcceptedAtStart, IsAcceptedFrom}
 use Rattle.gfx_script.specs.Scripted.{Script}
 use Rattle.gfx_script.specs.Starting.{IsStart, key_bytes, sides_from, stock_with}

@@ -12,7 +12,7 @@ use toml::Value;
 
 /// Ten numbers for the bands in their order, each from the least to the most.
 #[tactic(auto, unfolding(crate::specs::Progressive::quant_of, gfx_base::specs::Results::and_then))]
-pub fn quant_of(items: &[Value], least: u8, most: u8) -> Result<Quant, ScriptKind>
+pub(crate) fn quant_of(items: &[Value], least: u8, most: u8) -> Result<Quant, ScriptKind>
     requires { most < 16 }
     ensures { result ≡ quant_of least most (map view items.now) }
 {

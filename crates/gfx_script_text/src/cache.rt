@@ -14,7 +14,7 @@ use toml::Table;
 
 /// Reads `keep`.
 #[tactic(auto, unfolding(crate::specs::Words::keep_of, gfx_base::specs::Results::and_then))]
-pub fn read_keep(table: &Table) -> Result<Step, ScriptKind>
+pub(crate) fn read_keep(table: &Table) -> Result<Step, ScriptKind>
     ensures { result ≡ keep_of (table_view table.now) }
 {
     check_keys(table, &["do", "id", "key", "rect"])?;
@@ -29,7 +29,7 @@ pub fn read_keep(table: &Table) -> Result<Step, ScriptKind>
 
 /// Reads `show`.
 #[tactic(auto, unfolding(crate::specs::Words::show_of, gfx_base::specs::Results::and_then))]
-pub fn read_show(alloc: Global, table: &Table) -> Result<Step, Flaw>
+pub(crate) fn read_show(alloc: Global, table: &Table) -> Result<Step, Flaw>
     ensures { Gives (λ x. x) result (show_of (table_view table.now)) }
 {
     check_keys(table, &["do", "key", "to", "points"])?;
@@ -44,7 +44,7 @@ pub fn read_show(alloc: Global, table: &Table) -> Result<Step, Flaw>
 
 /// Reads `forget`.
 #[tactic(auto, unfolding(crate::specs::Words::forget_of, gfx_base::specs::Results::and_then))]
-pub fn read_forget(table: &Table) -> Result<Step, ScriptKind>
+pub(crate) fn read_forget(table: &Table) -> Result<Step, ScriptKind>
     ensures { result ≡ forget_of (table_view table.now) }
 {
     check_keys(table, &["do", "key"])?;

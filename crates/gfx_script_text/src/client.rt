@@ -16,7 +16,7 @@ use toml::{Table, Value};
 
 /// Reads what stands under `client`, if anything does.
 #[tactic(auto, unfolding(crate::specs::Clients::offers_of, gfx_base::specs::Results::and_then))]
-pub fn read_client(alloc: Global, client: Option<&[Value]>) -> Result<Offers, Flaw>
+pub(crate) fn read_client(alloc: Global, client: Option<&[Value]>) -> Result<Offers, Flaw>
     ensures { Gives (λ x. x) result (offers_of (option_map (λ x. map view x.now) client.entry)) }
 {
     let Some(values) = client else {

@@ -9,7 +9,7 @@ use hex::FromHex;
 
 /// Reads a colour as eight hexadecimal digits B, G, R, A.
 #[tactic(auto, unfolding(crate::specs::Colour::colour_of, gfx_base::specs::Results::and_then))]
-pub fn read_colour(digits: &str) -> Result<Pixel, ScriptKind>
+pub(crate) fn read_colour(digits: &str) -> Result<Pixel, ScriptKind>
     ensures { result ≡ colour_of digits.now }
 {
     match <[u8; 4] as FromHex>::from_hex(digits) {

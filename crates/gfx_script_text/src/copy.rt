@@ -14,7 +14,7 @@ use toml::{Table, Value};
 
 /// Reads `copy`.
 #[tactic(auto, unfolding(crate::specs::Words::copy_of, gfx_base::specs::Results::and_then))]
-pub fn read_copy(alloc: Global, table: &Table) -> Result<Step, Flaw>
+pub(crate) fn read_copy(alloc: Global, table: &Table) -> Result<Step, Flaw>
     ensures { Gives (λ x. x) result (copy_of (table_view table.now)) }
 {
     check_keys(table, &["do", "from", "to", "rect", "points"])?;

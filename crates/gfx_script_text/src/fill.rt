@@ -14,7 +14,7 @@ use toml::Table;
 
 /// Reads `fill`.
 #[tactic(auto, unfolding(crate::specs::Words::fill_of, gfx_base::specs::Results::and_then))]
-pub fn read_fill(alloc: Global, table: &Table) -> Result<Step, Flaw>
+pub(crate) fn read_fill(alloc: Global, table: &Table) -> Result<Step, Flaw>
     ensures { Gives (λ x. x) result (fill_of (table_view table.now)) }
 {
     check_keys(table, &["do", "id", "colour", "rects"])?;

@@ -25,7 +25,7 @@ pub struct Bases {
 
 /// Reads what stands under `level`, if anything does.
 #[tactic(auto, unfolding(crate::specs::Progressive::levels_of, gfx_base::specs::Results::and_then))]
-pub fn levels_of(bases: Bases, values: Option<&[Value]>) -> Result<Levels, ScriptKind>
+pub(crate) fn levels_of(bases: Bases, values: Option<&[Value]>) -> Result<Levels, ScriptKind>
     ensures { result ≡ levels_of bases (option_map (λ x. map view x.now) values.entry) }
 {
     let Some(values) = values else {
@@ -38,7 +38,7 @@ pub fn levels_of(bases: Bases, values: Option<&[Value]>) -> Result<Levels, Scrip
 }
 
 /// The one level where the script doesn't list any.
-pub fn usual_levels() -> Levels
+pub(crate) fn usual_levels() -> Levels
     ensures { result ≡ usual_level ∷ [] }
 {
     let mut levels = Levels::new();

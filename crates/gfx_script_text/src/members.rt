@@ -15,14 +15,14 @@ use gfx_script::{MOST_KEY, ScriptKind};
 use toml::{Table, Value};
 
 /// What stands under a key, if anything does.
-pub fn member<'a>(table: &'a Table, key: &str) -> Option<&'a Value>
+pub(crate) fn member<'a>(table: &'a Table, key: &str) -> Option<&'a Value>
     ensures { option_map (λ v. view v.now) result ≡ get_member key.now (table_view table.now) }
 {
     table.get(key)
 }
 
 /// Refuses a table that has another key than these.
-pub fn check_keys(table: &Table, keys: &[&str]) -> Result<(), ScriptKind>
+pub(crate) fn check_keys(table: &Table, keys: &[&str]) -> Result<(), ScriptKind>
     ensures { result ≡ check Key (members.has_only (map (λ k. k.now) keys.now) (table_view table.now)) }
 {
     if has_only(table, keys) {
@@ -52,7 +52,7 @@ fn is_among(key: &str, keys: &[&str]) -> bool
 }
 
 /// The items of a value that is an array.
-pub fn items_in(value: &Value) -> Option<&[Value]>
+pub(crate) fn items_in(value: &Value) -> Option<&[Value]>
     ensures { option_map (λ x. map view x.now) result ≡ members.items_in (view value.now) }
 {
     match value.as_array() {
@@ -63,7 +63,7 @@ pub fn items_in(value: &Value) -> Option<&[Value]>
 
 /// The whole number under a key.
 #[tactic(auto, unfolding(crate::specs::Members::whole))]
-pub fn whole(table: &Table, key: &str) -> Result<i64, ScriptKind>
+pub(crate) fn whole(table: &Table, key: &str) -> Result<i64, ScriptKind>
     ensures { result ≡ members.whole key.now (table_view table.now) }
 {
     match member(table, key) {
@@ -74,7 +74,7 @@ pub fn whole(table: &Table, key: &str) -> Result<i64, ScriptKind>
 
 /// The whole number under a key, which may be missing.
 #[tactic(auto, unfolding(gfx_base::specs::Results::and_then))]
-pub fn whole_if_any(table: &Table, key: &str) -> Result<Option<i64>, ScriptKind>
+pub(crate) fn whole_if_any(table: &Table, key: &str) -> Result<Option<i64>, ScriptKind>
     ensures { result ≡ members.whole_if_any (get_member key.now (table_view table.now)) }
 {
     match member(table, key) {
@@ -87,7 +87,7 @@ pub fn whole_if_any(table: &Table, key: &str) -> Result<Option<i64>, ScriptKind>
 }
 
 /// The truth value under a key, which may be missing and is then false.
-pub fn flag_or_false(table: &Table, key: &str) -> Result<bool, ScriptKind>
+pub(crate) fn flag_or_false(table: &Table, key: &str) -> Result<bool, ScriptKind>
     ensures { result ≡ members.flag_or_false (get_member key.now (table_view table.now)) }
 {
     match member(table, key) {
@@ -99,7 +99,7 @@ pub fn flag_or_false(table: &Table, key: &str) -> Result<bool, ScriptKind>
 
 /// The table under a key, which may be missing.
 #[tactic(auto, unfolding(gfx_base::specs::Results::and_then))]
-pub fn table_if_any<'a>(table: &'a Table, key: &str) -> Result<Option<&'a Table>, ScriptKind>
+pub(crate) fn table_if_any<'a>(table: &'a Table, key: &str) -> Result<Option<&'a Table>, ScriptKind>
     ensures { Says (option_map (λ t. table_view t.now)) result (members.table_if_any (get_member key.now (table_view table.now))) }
 {
     match member(table, key) {
@@ -113,7 +113,7 @@ pub fn table_if_any<'a>(table: &'a Table, key: &str) -> Result<Option<&'a Table>
 
 /// The text under a key.
 #[tactic(auto, unfolding(crate::specs::Members::text))]
-pub fn text<'a>(table: &'a Table, key: &str) -> Result<&'a str, ScriptKind>
+pub(crate) fn text<'a>(table: &'a Table, key: &str) -> Result<&'a str, ScriptKind>
     ensures { Says (λ x. x.now) result (members.text key.now (table_view table.now)) }
 {
     match member(table, key) {
@@ -124,7 +124,7 @@ pub fn text<'a>(table: &'a Table, key: &str) -> Result<&'a str, ScriptKind>
 
 /// The items of the array under a key.
 #[tactic(auto, unfolding(crate::specs::Members::list))]
-pub fn list<'a>(table: &'a Table, key: &str) -> Result<&'a [Value], ScriptKind>
+pub(crate) fn list<'a>(table: &'a Table, key: &str) -> Result<&'a [Value], ScriptKind>
     ensures { Says (λ x. map view x.now) result (members.list key.now (table_view table.now)) }
 {
     match member(table, key) {
@@ -135,7 +135,10 @@ pub fn list<'a>(table: &'a Table, key: &str) -> Result<&'a [Value], ScriptKind>
 
 /// The items of the array under a key, which may be missing.
 #[tactic(auto, unfolding(crate::specs::Members::items_in, gfx_base::specs::Results::and_then))]
-pub fn items_if_any<'a>(table: &'a Table, key: &str) -> Result<Option<&'a [Value]>, ScriptKind>
+pub(crate) fn items_if_any<'a>(
+    table: &'a Table,
+    key: &str,
+) -> Result<Option<&'a [Value]>, ScriptKind>
     ensures { Says (option_map (λ x. map view x.now)) result (members.items_if_any (get_member key.now (table_view table.now))) }
 {
     match member(table, key) {
@@ -149,7 +152,7 @@ pub fn items_if_any<'a>(table: &'a Table, key: &str) -> Result<Option<&'a [Value
 
 /// A whole number from the least to the most.
 #[tactic(auto, unfolding(crate::specs::Members::within))]
-pub fn within(number: i64, least: u16, most: u16) -> Result<u16, ScriptKind>
+pub(crate) fn within(number: i64, least: u16, most: u16) -> Result<u16, ScriptKind>
     ensures { result ≡ members.within least most number }
 {
     match u16::try_from(number) {
@@ -160,7 +163,7 @@ pub fn within(number: i64, least: u16, most: u16) -> Result<u16, ScriptKind>
 
 /// The same of a number that fits eight bits.
 #[tactic(auto, unfolding(crate::specs::Members::within))]
-pub fn small_within(number: i64, least: u8, most: u8) -> Result<u8, ScriptKind>
+pub(crate) fn small_within(number: i64, least: u8, most: u8) -> Result<u8, ScriptKind>
     ensures { result ≡ members.within least most number }
 {
     match u8::try_from(number) {
@@ -171,7 +174,7 @@ pub fn small_within(number: i64, least: u8, most: u8) -> Result<u8, ScriptKind>
 
 /// The key of a bitmap.
 #[tactic(auto, unfolding(crate::specs::Members::within))]
-pub fn key_number(number: i64) -> Result<u64, ScriptKind>
+pub(crate) fn key_number(number: i64) -> Result<u64, ScriptKind>
     ensures { result ≡ members.within 0 MOST_KEY number }
 {
     match u64::try_from(number) {

@@ -14,7 +14,7 @@ use toml::Table;
 
 /// Reads `reset`.
 #[tactic(auto, unfolding(crate::specs::Words::reset_of, gfx_base::specs::Results::and_then))]
-pub fn read_reset(table: &Table) -> Result<Step, ScriptKind>
+pub(crate) fn read_reset(table: &Table) -> Result<Step, ScriptKind>
     ensures { result ≡ reset_of (table_view table.now) }
 {
     check_keys(table, &["do", "width", "height"])?;
@@ -27,7 +27,7 @@ pub fn read_reset(table: &Table) -> Result<Step, ScriptKind>
 
 /// Reads `map`.
 #[tactic(auto, unfolding(crate::specs::Words::map_of, gfx_base::specs::Results::and_then))]
-pub fn read_map(table: &Table) -> Result<Step, ScriptKind>
+pub(crate) fn read_map(table: &Table) -> Result<Step, ScriptKind>
     ensures { result ≡ map_of (table_view table.now) }
 {
     check_keys(table, &["do", "id", "x", "y"])?;

@@ -15,7 +15,7 @@ use toml::{Table, Value};
 
 /// Reads `paint`, where the pictures have these names.
 #[tactic(auto, unfolding(crate::specs::Words::paint_of, gfx_base::specs::Results::and_then))]
-pub fn read_paint(names: &Names<'_>, table: &Table) -> Result<Step, ScriptKind>
+pub(crate) fn read_paint(names: &Names<'_>, table: &Table) -> Result<Step, ScriptKind>
     ensures { result ≡ paint_of names.now (table_view table.now) }
 {
     check_keys(table, &["do", "id", "picture", "at", "kind", "glyph"])?;

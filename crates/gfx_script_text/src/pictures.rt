@@ -41,7 +41,7 @@ pub struct Gallery<'a> {
 
 /// Reads the pictures of a script.
 #[tactic(auto, unfolding(crate::specs::Pictures::pictures_of, gfx_base::specs::Results::and_then))]
-pub fn read_pictures(alloc: Global, values: &[Value]) -> Result<Gallery<'_>, Flaw>
+pub(crate) fn read_pictures(alloc: Global, values: &[Value]) -> Result<Gallery<'_>, Flaw>
     ensures { Gives gallery_seen result (pictures_of (map view values.now)) }
 {
     if values.len() > MOST_PICTURES {

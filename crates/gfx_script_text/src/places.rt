@@ -20,7 +20,7 @@ use std::alloc::Global;
 use toml::{Table, Value};
 
 /// Whether all of these values are arrays of whole numbers.
-pub fn all_are_whole(values: &[Value]) -> bool
+pub(crate) fn all_are_whole(values: &[Value]) -> bool
     ensures { result ≡ list_all are_whole (map view values.now) }
 {
     'values: for value in values {
@@ -42,7 +42,7 @@ fn are_whole(value: &Value) -> bool
 }
 
 /// Whether all of these values are whole numbers.
-pub fn all_whole(values: &[Value]) -> bool
+pub(crate) fn all_whole(values: &[Value]) -> bool
     ensures { result ≡ list_all is_whole (map view values.now) }
 {
     'values: for value in values {
@@ -55,7 +55,7 @@ pub fn all_whole(values: &[Value]) -> bool
 
 /// The array of whole numbers under a key.
 #[tactic(auto, unfolding(crate::specs::Places::numbers_at, gfx_base::specs::Results::and_then))]
-pub fn numbers_at<'a>(table: &'a Table, key: &str) -> Result<&'a [Value], ScriptKind>
+pub(crate) fn numbers_at<'a>(table: &'a Table, key: &str) -> Result<&'a [Value], ScriptKind>
     ensures { Says (λ x. map view x.now) result (numbers_at key.now (table_view table.now)) }
 {
     let values = list(table, key)?;
@@ -67,7 +67,7 @@ pub fn numbers_at<'a>(table: &'a Table, key: &str) -> Result<&'a [Value], Script
 
 /// The array of arrays of whole numbers under a key.
 #[tactic(auto, unfolding(crate::specs::Places::arrays_at, gfx_base::specs::Results::and_then))]
-pub fn arrays_at<'a>(table: &'a Table, key: &str) -> Result<&'a [Value], ScriptKind>
+pub(crate) fn arrays_at<'a>(table: &'a Table, key: &str) -> Result<&'a [Value], ScriptKind>
     ensures { Says (λ x. map view x.now) result (arrays_at key.now (table_view table.now)) }
 {
     let values = list(table, key)?;
@@ -78,7 +78,7 @@ pub fn arrays_at<'a>(table: &'a Table, key: &str) -> Result<&'a [Value], ScriptK
 }
 
 /// Reads rectangles, one after another.
-pub fn read_rects(alloc: Global, values: &[Value]) -> Result<Rects, Flaw>
+pub(crate) fn read_rects(alloc: Global, values: &[Value]) -> Result<Rects, Flaw>
     ensures { Gives (λ x. x) result (each rect_in (map view values.now)) }
 {
     let mut rects = Rects::new(alloc);
@@ -102,7 +102,7 @@ fn read_rect(value: &Value) -> Result<Rect, ScriptKind>
 
 /// The rectangle [left, top, right, bottom].
 #[tactic(auto, unfolding(crate::specs::Places::rect_of, gfx_base::specs::Results::and_then))]
-pub fn rect_of(items: &[Value]) -> Result<Rect, ScriptKind>
+pub(crate) fn rect_of(items: &[Value]) -> Result<Rect, ScriptKind>
     ensures { result ≡ rect_of (map view items.now) }
 {
     if items.len() != 4 {
@@ -122,7 +122,7 @@ pub fn rect_of(items: &[Value]) -> Result<Rect, ScriptKind>
 
 /// Reads some points, one after another.
 #[tactic(auto, unfolding(crate::specs::Places::points_of, gfx_base::specs::Results::and_then))]
-pub fn read_points(alloc: Global, values: &[Value]) -> Result<Points, Flaw>
+pub(crate) fn read_points(alloc: Global, values: &[Value]) -> Result<Points, Flaw>
     ensures { Gives (λ x. x) result (points_of (map view values.now)) }
 {
     if !(1..=MOST_RECTS).contains(&values.len()) {
@@ -156,7 +156,7 @@ fn read_point(value: &Value) -> Result<Point, ScriptKind>
 
 /// The point [x, y].
 #[tactic(auto, unfolding(crate::specs::Places::point_of, gfx_base::specs::Results::and_then))]
-pub fn point_of(items: &[Value]) -> Result<Point, ScriptKind>
+pub(crate) fn point_of(items: &[Value]) -> Result<Point, ScriptKind>
     ensures { result ≡ point_of (map view items.now) }
 {
     if items.len() != 2 {

@@ -25,7 +25,7 @@ pub struct Progressive {
 
 /// Reads what stands under `progressive`, if anything does.
 #[tactic(auto, unfolding(crate::specs::Progressive::progressive_of))]
-pub fn read_progressive(table: Option<&Table>) -> Result<Progressive, ScriptKind>
+pub(crate) fn read_progressive(table: Option<&Table>) -> Result<Progressive, ScriptKind>
     ensures { result ≡ progressive_of (option_map (λ t. table_view t.now) table.entry) }
 {
     match table {

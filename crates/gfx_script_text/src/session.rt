@@ -16,7 +16,7 @@ use toml::{Table, Value};
 
 /// The window of the number under `window`, which may be missing.
 #[tactic(auto, unfolding(crate::specs::Sessions::window_of))]
-pub fn read_window(number: Option<i64>) -> Result<u8, ScriptKind>
+pub(crate) fn read_window(number: Option<i64>) -> Result<u8, ScriptKind>
     ensures { result ≡ window_of number }
 {
     match number {
@@ -27,7 +27,7 @@ pub fn read_window(number: Option<i64>) -> Result<u8, ScriptKind>
 
 /// Reads the turns, or says that they are too many.
 #[tactic(auto, unfolding(crate::specs::Sessions::turns_of, gfx_base::specs::Results::and_then))]
-pub fn read_turns(alloc: Global, values: &[Value]) -> Result<Vec<Turn>, Flaw>
+pub(crate) fn read_turns(alloc: Global, values: &[Value]) -> Result<Vec<Turn>, Flaw>
     ensures { Gives (λ turns. turns.items) result (turns_of (map view values.now)) }
 {
     if values.len() > MOST_TURNS as usize {

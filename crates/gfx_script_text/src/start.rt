@@ -10,7 +10,7 @@ use gfx_script::{Sides, StartBitmap};
 use std::alloc::Global;
 
 /// The keys and the sides of the bitmaps that are imported of two kept files.
-pub fn read_start(
+pub(crate) fn read_start(
     alloc: Global,
     server: &Kept,
     client: &Kept,

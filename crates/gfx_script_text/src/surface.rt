@@ -15,7 +15,7 @@ use toml::{Table, Value};
 
 /// Reads `surface`.
 #[tactic(auto, unfolding(crate::specs::Words::surface_of, gfx_base::specs::Results::and_then))]
-pub fn read_surface(table: &Table) -> Result<Step, ScriptKind>
+pub(crate) fn read_surface(table: &Table) -> Result<Step, ScriptKind>
     ensures { result ≡ surface_of (table_view table.now) }
 {
     check_keys(table, &["do", "id", "width", "height", "format"])?;
@@ -36,7 +36,7 @@ pub fn read_surface(table: &Table) -> Result<Step, ScriptKind>
 
 /// Reads `delete`.
 #[tactic(auto, unfolding(crate::specs::Words::delete_of, gfx_base::specs::Results::and_then))]
-pub fn read_delete(table: &Table) -> Result<Step, ScriptKind>
+pub(crate) fn read_delete(table: &Table) -> Result<Step, ScriptKind>
     ensures { result ≡ delete_of (table_view table.now) }
 {
     check_keys(table, &["do", "id"])?;
@@ -47,7 +47,7 @@ pub fn read_delete(table: &Table) -> Result<Step, ScriptKind>
 
 /// Reads `improve`.
 #[tactic(auto, unfolding(crate::specs::Words::improve_of, gfx_base::specs::Results::and_then))]
-pub fn read_improve(table: &Table) -> Result<Step, ScriptKind>
+pub(crate) fn read_improve(table: &Table) -> Result<Step, ScriptKind>
     ensures { result ≡ improve_of (table_view table.now) }
 {
     check_keys(table, &["do", "id"])?;

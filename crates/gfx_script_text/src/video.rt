@@ -11,7 +11,7 @@ use toml::{Table, Value};
 
 /// Reads what stands under `video`, if anything does.
 #[tactic(auto, unfolding(crate::specs::Video::video_of))]
-pub fn read_video(table: Option<&Table>) -> Result<Entropy, ScriptKind>
+pub(crate) fn read_video(table: Option<&Table>) -> Result<Entropy, ScriptKind>
     ensures { result ≡ video_of (option_map (λ t. table_view t.now) table.entry) }
 {
     match table {

@@ -19,7 +19,7 @@ use toml::{Table, Value};
 
 /// Reads a step.
 #[tactic(auto, unfolding(crate::specs::Words::step_of, gfx_base::specs::Results::and_then))]
-pub fn read_step(alloc: Global, names: &Names<'_>, value: &Value) -> Result<Step, Flaw>
+pub(crate) fn read_step(alloc: Global, names: &Names<'_>, value: &Value) -> Result<Step, Flaw>
     ensures { Gives (λ x. x) result (step_of names.now (view value.now)) }
 {
     let Value::Table(table) = value else {

@@ -18,7 +18,7 @@ ghost use Rattle.gfx_srl.specs.Code.{k};
 
 /// A run's length is 2 ^ k.
 #[inline(always)]
-pub fn width_of(kp: u32) -> u8
+pub(crate) fn width_of(kp: u32) -> u8
     requires { kp ≤ PARAMETER_MAX }
     ensures value { result ≡ k kp }
     ensures small { result ≤ 10 }
@@ -28,7 +28,7 @@ pub fn width_of(kp: u32) -> u8
 
 /// The parameter after a full run.
 #[inline(always)]
-pub fn after_run(kp: u32) -> u32
+pub(crate) fn after_run(kp: u32) -> u32
     requires { kp ≤ PARAMETER_MAX }
     ensures { result ≡ min PARAMETER_MAX (kp + RUN_UP) }
 {
@@ -37,7 +37,7 @@ pub fn after_run(kp: u32) -> u32
 
 /// The parameter after a value.
 #[inline(always)]
-pub fn after_value(kp: u32) -> u32
+pub(crate) fn after_value(kp: u32) -> u32
     ensures { result ≡ kp - VALUE_DOWN }
 {
     kp.saturating_sub(VALUE_DOWN)

@@ -17,7 +17,7 @@ const SIZES: [u8; 8] = [3, 3, 2, 2, 3, 3, 2, 2];
 
 /// The most zeros that spell a magnitude.
 #[inline(always)]
-pub fn most_zeros(n: u8) -> u32
+pub(crate) fn most_zeros(n: u8) -> u32
     requires some { 1 ≤ n }
     requires few { n ≤ 24 }
     ensures most { result ≡ 2 ^ n - 2 }
@@ -28,7 +28,7 @@ pub fn most_zeros(n: u8) -> u32
 
 /// The value of this sign whose magnitude is one more.
 #[inline(always)]
-pub fn signed(negative: bool, below: u32) -> i32
+pub(crate) fn signed(negative: bool, below: u32) -> i32
     requires { below < 2 ^ 24 }
     ensures { result ≡ (if negative then negsuc below else pos (suc below)) }
 {
@@ -41,7 +41,7 @@ pub fn signed(negative: bool, below: u32) -> i32
 
 /// The value of up to `n` bits whose sign and magnitude a word begins with, and how many bits spell both.
 #[inline(always)]
-pub fn value_in(word: u64, n: u8) -> (i32, u32)
+pub(crate) fn value_in(word: u64, n: u8) -> (i32, u32)
     requires some { 1 ≤ n }
     requires few { n ≤ MOST_AHEAD }
     ensures value { (shown : ℕ) (bits : List Bool) → 1 + (2 ^ n - 2) ≤ shown → shown ≤ 64 → Shows shown word bits → (is_negative result.0 ≡ first bits) × Spelled (drop 1 bits) (zeros_code (2 ^ n - 2) (unsigned_abs result.0 - 1)) (drop result.1 bits) }

@@ -18,7 +18,7 @@ pub struct Grid {
 
 /// How many cells a side meets, a part cell counted whole.
 #[inline(always)]
-pub fn cells_along(side: u16) -> usize
+pub(crate) fn cells_along(side: u16) -> usize
     ensures { result ≡ cells_along side }
 {
     usize::from(gfx_base::cells_along(side))
@@ -26,7 +26,7 @@ pub fn cells_along(side: u16) -> usize
 
 /// Where the places of a cell begin.
 #[inline(always)]
-pub fn cell_start(width: u16, cell: Cell) -> usize
+pub(crate) fn cell_start(width: u16, cell: Cell) -> usize
     ensures { result ≡ cell_start width cell.x cell.y }
 {
     (usize::from(cell.y) * cells_along(width) + usize::from(cell.x)) * CELL_PLACES
@@ -35,7 +35,7 @@ pub fn cell_start(width: u16, cell: Cell) -> usize
 /// The place of a column of a row.
 #[inline(always)]
 #[tactic(auto, unfolding(crate::specs::Cells::place))]
-pub fn place_of(width: u16, x: u16, y: u16) -> usize
+pub(crate) fn place_of(width: u16, x: u16, y: u16) -> usize
     ensures { result ≡ place width x y }
 {
     let cell = Cell {
@@ -47,7 +47,7 @@ pub fn place_of(width: u16, x: u16, y: u16) -> usize
 
 /// Where a run of a row of one cell begins.
 #[inline(always)]
-pub fn run_at(grid: Grid, x: u16, y: u16, count: usize) -> usize
+pub(crate) fn run_at(grid: Grid, x: u16, y: u16, count: usize) -> usize
     requires some { 0 < count }
     requires columns { x + count ≤ grid.width }
     requires one_cell { x % 64 + count ≤ 64 }
@@ -60,7 +60,7 @@ pub fn run_at(grid: Grid, x: u16, y: u16, count: usize) -> usize
 
 /// How many columns of a cell are left from this column on.
 #[inline(always)]
-pub fn left_in_cell(x: u16) -> usize
+pub(crate) fn left_in_cell(x: u16) -> usize
     ensures { result ≡ 64 - x % 64 }
 {
     usize::from(CELL_SIDE - x % CELL_SIDE)

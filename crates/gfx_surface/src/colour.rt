@@ -9,7 +9,7 @@ use gfx_base::{Format, Pixel};
 pub const OPAQUE: u8 = 255;
 
 /// The colour of a new surface ([MS-RDPEGFX] leaves it open; this project's own rule).
-pub fn empty_colour(format: Format) -> Pixel
+pub(crate) fn empty_colour(format: Format) -> Pixel
     ensures { result ≡ zero_colour format }
 {
     shaded(
@@ -24,7 +24,7 @@ pub fn empty_colour(format: Format) -> Pixel
 }
 
 /// A colour as this format keeps it.
-pub fn shaded(format: Format, colour: Pixel) -> Pixel
+pub(crate) fn shaded(format: Format, colour: Pixel) -> Pixel
     ensures { result ≡ shade format colour }
 {
     match format {
@@ -37,7 +37,7 @@ pub fn shaded(format: Format, colour: Pixel) -> Pixel
 }
 
 /// The format that keeps what these two formats keep.
-pub fn kept_by_both(first: Format, second: Format) -> Format
+pub(crate) fn kept_by_both(first: Format, second: Format) -> Format
     ensures { (pixel : AnyPixel) → shade result pixel ≡ shade first (shade second pixel) }
 {
     match first {

@@ -8,7 +8,7 @@ use crate::colour::{OPAQUE, shaded};
 use gfx_base::{Format, Pixel};
 
 /// Puts pixels at a place and those after it, as this format keeps them.
-pub fn copy_run(from: &[Pixel], format: Format, pixels: &mut [Pixel], at: usize)
+pub(crate) fn copy_run(from: &[Pixel], format: Format, pixels: &mut [Pixel], at: usize)
     requires { at + length from.now ≤ length pixels.old }
     ensures { WritesRun at (at + length from.now)
         (λ k. slice_index_or (map (shade format) from.now) (k - at) no_pixel) pixels.old pixels.new }
@@ -19,7 +19,7 @@ pub fn copy_run(from: &[Pixel], format: Format, pixels: &mut [Pixel], at: usize)
 /// The same with 64 pixels, a whole row of a cell.
 // Inlined, with a length that is known: so each is a few moves of many pixels at a time.
 #[inline(always)]
-pub fn copy_whole_run(from: &[Pixel], format: Format, pixels: &mut [Pixel], at: usize)
+pub(crate) fn copy_whole_run(from: &[Pixel], format: Format, pixels: &mut [Pixel], at: usize)
     requires whole { length from.now ≡ 64 }
     requires within { at + 64 ≤ length pixels.old }
     ensures { WritesRun at (at + length from.now)

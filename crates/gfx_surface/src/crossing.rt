@@ -10,7 +10,7 @@ use crate::copies::copy_run;
 use gfx_base::{Format, Pixel, Point, Rect};
 
 /// Takes a rectangle of cells to a point of other cells, as this format keeps it.
-pub fn copy_rect(
+pub(crate) fn copy_rect(
     from: &[Pixel],
     from_grid: Grid,
     rect: Rect,

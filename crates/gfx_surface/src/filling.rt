@@ -11,7 +11,7 @@ use crate::rows::{Sides, fill_rows};
 use gfx_base::{CELL_SIDE, Cell, Pixel, Rect};
 
 /// Gives what a rectangle has of the cells this colour.
-pub fn fill_cells(cells: &mut [Pixel], grid: Grid, rect: Rect, colour: Pixel)
+pub(crate) fn fill_cells(cells: &mut [Pixel], grid: Grid, rect: Rect, colour: Pixel)
     requires full { length cells.old ≡ places grid.width grid.height }
     requires inside { IsTrue (lies_in grid.width grid.height rect) }
     ensures { WritesWhere grid.width grid.height (holds rect) (λ _ _. colour) cells.old cells.new }

@@ -11,7 +11,7 @@ use gfx_base::{Format, Pixel};
 
 /// Gives a closure two pieces of this length, which share no place, and keeps what it leaves there as
 /// this format does.
-pub fn lend_pair<F: FnOnce(&mut [Pixel], &mut [Pixel])>(
+pub(crate) fn lend_pair<F: FnOnce(&mut [Pixel], &mut [Pixel])>(
     cells: &mut [Pixel],
     first: usize,
     second: usize,
@@ -36,7 +36,7 @@ pub fn lend_pair<F: FnOnce(&mut [Pixel], &mut [Pixel])>(
 
 /// Gives a closure the pieces of these lengths that begin at two places, the first of them before the
 /// second, and keeps what it leaves there as this format does.
-pub fn lend_two<F: FnOnce(&mut [Pixel], &mut [Pixel])>(
+pub(crate) fn lend_two<F: FnOnce(&mut [Pixel], &mut [Pixel])>(
     cells: &mut [Pixel],
     first: usize,
     first_length: usize,

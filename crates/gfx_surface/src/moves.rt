@@ -8,7 +8,7 @@ use crate::cells::{Grid, left_in_cell, run_at};
 use gfx_base::{Pixel, Point, Rect};
 
 /// Takes a rectangle to a point of the same cells.
-pub fn move_rect(cells: &mut [Pixel], grid: Grid, rect: Rect, to: Point)
+pub(crate) fn move_rect(cells: &mut [Pixel], grid: Grid, rect: Rect, to: Point)
     requires inside { IsTrue (lies_in grid.width grid.height rect) }
     requires fits { IsTrue (lies_in grid.width grid.height (moved rect to)) }
     requires full { length cells.old ≡ places grid.width grid.height }

@@ -11,7 +11,13 @@ use gfx_base::{CELL_SIDE, Cell, Format, Pixel, Rect};
 
 /// Puts pixels into a rectangle, row by row from its top, as this format keeps them: a whole cell at
 /// once.
-pub fn put_pixels(cells: &mut [Pixel], grid: Grid, rect: Rect, from: &[Pixel], format: Format)
+pub(crate) fn put_pixels(
+    cells: &mut [Pixel],
+    grid: Grid,
+    rect: Rect,
+    from: &[Pixel],
+    format: Format,
+)
     requires full { length cells.old ≡ places grid.width grid.height }
     requires inside { IsTrue (lies_in grid.width grid.height rect) }
     requires whole { length from.now ≡ width_of rect * height_of rect }
@@ -70,7 +76,14 @@ fn put_rows(cells: &mut [Pixel], grid: Grid, rect: Rect, from: &[Pixel], format:
 
 /// Puts pixels into a row, from a column on, as this format keeps them: up to the border of a cell, and
 /// from there on.
-pub fn put_row(cells: &mut [Pixel], grid: Grid, x: u16, y: u16, from: &[Pixel], format: Format)
+pub(crate) fn put_row(
+    cells: &mut [Pixel],
+    grid: Grid,
+    x: u16,
+    y: u16,
+    from: &[Pixel],
+    format: Format,
+)
     requires full { length cells.old ≡ places grid.width grid.height }
     requires columns { x + length from.now ≤ grid.width }
     requires row { y < grid.height }

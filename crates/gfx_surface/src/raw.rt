@@ -13,7 +13,7 @@ use gfx_base::{BYTES_PER_PIXEL, Format, Pixel, Rect};
 /// Puts the pixels of these bytes into a rectangle, row by row from its top, as this format keeps
 /// them.
 #[tactic(auto, using(std::proofs::lemmas::Nat::rows))]
-pub fn put_raw(cells: &mut [Pixel], grid: Grid, rect: Rect, bytes: &[u8], format: Format)
+pub(crate) fn put_raw(cells: &mut [Pixel], grid: Grid, rect: Rect, bytes: &[u8], format: Format)
     requires full { length cells.old ≡ places grid.width grid.height }
     requires inside { IsTrue (lies_in grid.width grid.height rect) }
     requires whole { length bytes.now ≡ BYTES_PER_PIXEL * (width_of rect * height_of rect) }

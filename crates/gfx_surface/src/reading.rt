@@ -11,7 +11,7 @@ use gfx_base::{Format, Pixel, Rect};
 
 /// Reads the pixels of a rectangle, row by row from its top.
 #[tactic(auto, using(std::proofs::lemmas::Nat::rows))]
-pub fn read_rect(cells: &[Pixel], grid: Grid, rect: Rect, out: &mut [Pixel])
+pub(crate) fn read_rect(cells: &[Pixel], grid: Grid, rect: Rect, out: &mut [Pixel])
     requires full { length cells.now ≡ places grid.width grid.height }
     requires inside { IsTrue (lies_in grid.width grid.height rect) }
     requires whole { length out.old ≡ width_of rect * height_of rect }
@@ -45,7 +45,7 @@ fn read_into(
 }
 
 /// Reads a piece of a row, from this column on.
-pub fn read_row(cells: &[Pixel], grid: Grid, x: u16, y: u16, out: &mut [Pixel])
+pub(crate) fn read_row(cells: &[Pixel], grid: Grid, x: u16, y: u16, out: &mut [Pixel])
     requires full { length cells.now ≡ places grid.width grid.height }
     requires columns { x + length out.old ≤ grid.width }
     requires row { y < grid.height }

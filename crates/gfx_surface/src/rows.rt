@@ -14,7 +14,7 @@ pub struct Sides {
 
 /// Gives the places of a rectangle this colour.
 #[tactic(auto, using(std::proofs::lemmas::Nat::rows))]
-pub fn fill_rows(pixels: &mut [Pixel], sides: Sides, rect: Rect, colour: Pixel)
+pub(crate) fn fill_rows(pixels: &mut [Pixel], sides: Sides, rect: Rect, colour: Pixel)
     requires inside { IsTrue (lies_in sides.width sides.height rect) }
     requires full { length pixels.old ≡ sides.width * sides.height }
     ensures { WritesRows sides.width rect (λ _ _. colour) pixels.old pixels.new }

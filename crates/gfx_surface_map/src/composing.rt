@@ -18,14 +18,14 @@ const BLACK: Pixel = Pixel {
 };
 
 /// Makes a row of the output black.
-pub fn clear_row(out: &mut [Pixel])
+pub(crate) fn clear_row(out: &mut [Pixel])
     ensures { out.new ≡ replicate (length out.old) (zero_colour Xrgb) }
 {
     out.fill(BLACK);
 }
 
 /// Paints a surface, if there is one, that stands at this place over a row of the output.
-pub fn paint_row(surface: Option<&Surface>, place: Place, y: u32, out: &mut [Pixel])
+pub(crate) fn paint_row(surface: Option<&Surface>, place: Place, y: u32, out: &mut [Pixel])
     ensures { PaintsRow (option_copied surface.entry) place y out.old out.new }
 {
     if let Some(surface) = surface {

@@ -11,7 +11,7 @@ use gfx_surface::Surface;
 
 /// Copies a rectangle of a surface to points of a surface, also of the same, by way of a scratch: what is
 /// read was there before anything is written.
-pub fn copy_by_scratch(
+pub(crate) fn copy_by_scratch(
     table: &mut Table,
     scratch: &mut [Pixel],
     from: u16,
@@ -71,7 +71,7 @@ fn put_rects(table: &mut Table, id: u16, rect: Rect, pixels: &[Pixel], points: &
 }
 
 /// Puts the pixels of a rectangle at points, one after another.
-pub fn put_at_all(surface: &mut Surface, rect: Rect, pixels: &[Pixel], points: &[Point])
+pub(crate) fn put_at_all(surface: &mut Surface, rect: Rect, pixels: &[Pixel], points: &[Point])
     requires exact { length pixels.now ≡ width_of rect * height_of rect }
     requires fits { IsTrue (fit_all surface.old.width surface.old.height rect points.now) }
     ensures { surface.new ≡ stamped rect pixels.now points.now surface.old }

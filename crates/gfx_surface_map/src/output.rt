@@ -5,7 +5,7 @@ ghost use Rattle.gfx_surface_map.specs.Shown.{is_output_side};
 use crate::place::MOST_OUTPUT_SIDE;
 
 /// Whether the output may have these sides: 1 to 32,766 pixels each.
-pub fn fits_output(width: u32, height: u32) -> bool
+pub(crate) fn fits_output(width: u32, height: u32) -> bool
     ensures { result ≡ (is_output_side width && is_output_side height) }
 {
     fits_output_side(width) && fits_output_side(height)

@@ -11,7 +11,7 @@ use gfx_surface::Surface;
 use indexmap::IndexMap;
 
 /// How many cells these surfaces have together.
-pub fn total_cells(surfaces: &IndexMap<u16, Surface>) -> u32
+pub(crate) fn total_cells(surfaces: &IndexMap<u16, Surface>) -> u32
     requires { index_map_len surfaces.now ≤ MOST_SURFACES }
     ensures total { result ≡ sum_by cells_of_picture (values surfaces.now) }
     ensures small { result ≤ 1024 * 1024 * MOST_SURFACES }
@@ -25,7 +25,7 @@ pub fn total_cells(surfaces: &IndexMap<u16, Surface>) -> u32
 }
 
 /// The least id not below this one.
-pub fn least_from(surfaces: &IndexMap<u16, Surface>, from: u16) -> Option<u16>
+pub(crate) fn least_from(surfaces: &IndexMap<u16, Surface>, from: u16) -> Option<u16>
     ensures least { IsLeastFrom from (keys surfaces.now) result }
 {
     surfaces.keys().copied().filter(|id| *id >= from).min()

@@ -27,7 +27,7 @@ use Rattle.gfx_tile_state.specs.Shape.{AreBelow, AreWithin}
 use Rattle.gfx_tile_state.proofs.Places.{at-added, length-added}
 use Rattle.gfx_tile_make.specs.Planes.{by_band, less}
 use Rattle.gfx_tile_make.specs.Quantised.{quantised_at, quantised_in, quantised_samples}
-use Rattle.gfx_tile_make.specs.Source.{Planes, Source, difference_of, onto, plain, planes_of, sent, source_of}
+use Rattle.gfx_tile_make.specs.Source.{Planes, SourceTile, difference_of, onto, plain, planes_of, sent, source_of}
 use Rattle.gfx_tile_make.specs.Levels.{ComponentFits, ComponentLeaves, Fits, MayBeSent, StaysWithin, direct_pixel, direct_plane, record_at, record_by, shown_at, summed_at, truncated_plane, values_at}
 use Rattle.gfx_tile_make.specs.Fitting.{LevelsFit, LevelsLeave, PlaneFits, PlaneLeaves, fits_at, place_fits}
 use Rattle.gfx_tile_make.proofs.ByBand.{at-by_band, at-less, is-by_band, length-by_band, length-less, mapped, same-planes}
@@ -38,10 +38,10 @@ use Rattle.gfx_tile_make.proofs.Settings.{behind-none, bases-within, falls-all, 
 
 -- ---- what is known of a tile that may be sent
 
-pub sent-whole : (source : Source) (component : Component) → MayBeSent source → length (sent (planes_of source component)) ≡ 4096
+pub sent-whole : (source : SourceTile) (component : Component) → MayBeSent source → length (sent (planes_of source component)) ≡ 4096
 sent-whole source component may = length-less _ _ (may.own component ∙ sym (may.kept component)) ∙ may.own component
 
-pub falls-at : (source : Source) (component : Component) (level : ℕ) → MayBeSent source → 1 ≤ level → level ≤ length source.setting.levels
+pub falls-at : (source : SourceTile) (component : Component) (level : ℕ) → MayBeSent source → 1 ≤ level → level ≤ length source.setting.levels
     → Falls (base_of component source.setting) (left_out component source.setting.levels (level - 1)) (left_out component source.setting.levels level)
 falls-at source component level may some listed band =
     let fall = falls-all source.setting component (level - 1) may.accepted (omega arith) (number band) (few band) in
@@ -59,7 +59,7 @@ sent-small t base level planes k long h wide none stays =
     ∙ ap (λ n. coefficient_of (truncated band (at (sent planes) k) n) (value_of base band + n)) (sym none)
     ∙ sym (at-by_band t (summed_at base level) (sent planes) k (omega arith))) ∙ (stays k h).0)
 
-pub sent-within : (source : Source) (component : Component) (k : ℕ) → MayBeSent source → k < 4096 → Within 1024 (at (sent (planes_of source component)) k)
+pub sent-within : (source : SourceTile) (component : Component) (k : ℕ) → MayBeSent source → k < 4096 → Within 1024 (at (sent (planes_of source component)) k)
 sent-within source component k may h =
     let last : ℕ = length source.setting.levels in
     let band : Band = band_at source.setting.transform k in
@@ -170,28 +170,28 @@ direct-by t base level planes own kept none =
     (length-added (record_by t base level planes).kept (record_by t base level planes).sums (first ∙ sym second) ∙ first)
     (λ k h. direct-at t base level planes k own kept h (none (number (band_at t k))))
 
-pub last-direct : (source : Source) (component : Component) → MayBeSent source
+pub last-direct : (source : SourceTile) (component : Component) → MayBeSent source
     → coefficients (record_at source component (length source.setting.levels)) ≡ direct_plane source.setting.transform (base_of component source.setting) (planes_of source component).own
 last-direct source component may =
     direct-by source.setting.transform (base_of component source.setting) (left_out component source.setting.levels (length source.setting.levels)) (planes_of source component) (may.own component) (may.kept component)
     (λ k. behind-none component source.setting.levels (length source.setting.levels) k (omega arith))
 
-pub last-shown : (source : Source) → MayBeSent source → (y x : ℕ) → shown_at source (length source.setting.levels) y x ≡ direct_pixel source y x
+pub last-shown : (source : SourceTile) → MayBeSent source → (y x : ℕ) → shown_at source (length source.setting.levels) y x ≡ direct_pixel source y x
 last-shown source may y x = λ i.
     colour_of (sample source.setting.transform (last-direct source Y may i) y x) (sample source.setting.transform (last-direct source Cb may i) y x) (sample source.setting.transform (last-direct source Cr may i) y x)
 
-pub difference-kept : (source kept : Source) (component : Component) (level : ℕ) → MayBeSent kept → kept.setting ≡ source.setting
+pub difference-kept : (source kept : SourceTile) (component : Component) (level : ℕ) → MayBeSent kept → kept.setting ≡ source.setting
     → (record_at (difference_of source kept) component level).kept ≡ coefficients (record_at kept component (length kept.setting.levels))
 difference-kept source kept Y level may e = ap (λ (s : Setting). direct_plane s.transform s.y.values kept.y.own) (sym e) ∙ sym (last-direct kept Y may)
 difference-kept source kept Cb level may e = ap (λ (s : Setting). direct_plane s.transform s.cb.values kept.cb.own) (sym e) ∙ sym (last-direct kept Cb may)
 difference-kept source kept Cr level may e = ap (λ (s : Setting). direct_plane s.transform s.cr.values kept.cr.own) (sym e) ∙ sym (last-direct kept Cr may)
 
-pub plain-kept : (source : Source) (component : Component) (level : ℕ) → (planes_of source component).kept ≡ blank → (record_at source component level).kept ≡ blank
+pub plain-kept : (source : SourceTile) (component : Component) (level : ℕ) → (planes_of source component).kept ≡ blank → (record_at source component level).kept ≡ blank
 plain-kept source component level e = ap (direct_plane source.setting.transform (base_of component source.setting)) e ∙ blank-kept source.setting.transform (base_of component source.setting)
 
 -- ---- a tile that goes on another
 
-pub difference-may : (source kept : Source) → MayBeSent source → MayBeSent kept → Fits (difference_of source kept) → MayBeSent (difference_of source kept)
+pub difference-may : (source kept : SourceTile) → MayBeSent source → MayBeSent kept → Fits (difference_of source kept) → MayBeSent (difference_of source kept)
 difference-may source kept may may' fits = record {
   accepted = may.accepted;
   bases = may.bases;
@@ -212,7 +212,7 @@ difference-may source kept may may' fits = record {
 
 -- ---- what a call gives
 
-pub level-is : (source : Source) (component : Component) (level : ℕ) (t : Transform) (left : List ℕ) (planes : Planes) (values out : List ℤ) → t ≡ source.setting.transform → left ≡ left_out component source.setting.levels level → planes ≡ planes_of source component
+pub level-is : (source : SourceTile) (component : Component) (level : ℕ) (t : Transform) (left : List ℕ) (planes : Planes) (values out : List ℤ) → t ≡ source.setting.transform → left ≡ left_out component source.setting.levels level → planes ≡ planes_of source component
     → values ≡ sent planes → length values ≡ 4096 → length out ≡ 4096 → MapsBands t (λ band v. truncated band v (value_of left band)) values out → out ≡ values_at source component level
 level-is source component level t left planes values out et el ep ev long long' maps =
     mapped t (λ band v. truncated band v (value_of left band)) values out long long' maps
@@ -220,16 +220,16 @@ level-is source component level t left planes values out et el ep ev long long' 
     ∙ ap (λ l. truncated_plane source.setting.transform l values) el
     ∙ ap (truncated_plane source.setting.transform (left_out component source.setting.levels level)) (ev ∙ ap sent ep)
 
-pub sent-small-all : (source : Source) (component : Component) (planes : Planes) (values : List ℤ) → MayBeSent source → planes ≡ planes_of source component → values ≡ sent planes → length values ≡ 4096 → (k : ℕ) → k < length values → Within 1024 (at values k)
+pub sent-small-all : (source : SourceTile) (component : Component) (planes : Planes) (values : List ℤ) → MayBeSent source → planes ≡ planes_of source component → values ≡ sent planes → length values ≡ 4096 → (k : ℕ) → k < length values → Within 1024 (at values k)
 sent-small-all source component planes values may ep ev long k h = subst (λ l. Within 1024 (at l k)) (sym (ev ∙ ap sent ep)) (sent-within source component k may (omega arith))
 
-pub below-at : (source : Source) (component : Component) (level : ℕ) → MayBeSent source → 1 ≤ level → level ≤ length source.setting.levels
+pub below-at : (source : SourceTile) (component : Component) (level : ℕ) → MayBeSent source → 1 ≤ level → level ≤ length source.setting.levels
     → AreBelow (left_out component source.setting.levels level) (left_out component source.setting.levels (level - 1))
 below-at source component level may some listed k h =
     let fall = falls-all source.setting component (level - 1) may.accepted (omega arith) k h in
     subst (λ n. slice_index (left_out component source.setting.levels n) k ≤ slice_index (left_out component source.setting.levels (level - 1)) k) {x = suc (level - 1)} {y = level} (omega arith) fall.0
 
-pub few-at : (source : Source) (component : Component) (level : ℕ) (band : Band) → MayBeSent source → 1 ≤ level → level ≤ length source.setting.levels
+pub few-at : (source : SourceTile) (component : Component) (level : ℕ) (band : Band) → MayBeSent source → 1 ≤ level → level ≤ length source.setting.levels
     → value_of (left_out component source.setting.levels (level - 1)) band - value_of (left_out component source.setting.levels level) band ≤ 6
 few-at source component level band may some listed =
     let fall = falls-all source.setting component (level - 1) may.accepted (omega arith) (number band) (few band) in
@@ -238,7 +238,7 @@ few-at source component level band may some listed =
     omega arith
 
 -- a component of a tile that goes on another
-onto-of : (source kept : Source) (component : Component) → planes_of (difference_of source kept) component ≡ onto (planes_of source component) (planes_of kept component)
+onto-of : (source kept : SourceTile) (component : Component) → planes_of (difference_of source kept) component ≡ onto (planes_of source component) (planes_of kept component)
 onto-of source kept Y = refl
 onto-of source kept Cb = refl
 onto-of source kept Cr = refl
@@ -271,7 +271,7 @@ plane-leaves : (t : Transform) (base level : List ℕ) (planes : Planes) → len
 plane-leaves t base level planes kept long leaves =
     (leaves.0, leaves.1.0, and-one _ _ (sym (place-is t base level planes leaves.0 kept long leaves.1.0) ∙ leaves.1.1))
 
-pub component-fits : (source kept : Source) (component : Component) (result : Bool) → length (planes_of source component).own ≡ 4096 → length (planes_of kept component).own ≡ 4096
+pub component-fits : (source kept : SourceTile) (component : Component) (result : Bool) → length (planes_of source component).own ≡ 4096 → length (planes_of kept component).own ≡ 4096
     → MatchBool result
     (LevelsFit component source.setting.transform (base_of component source.setting) source.setting.levels (planes_of kept component).own (less (planes_of source component).own (planes_of kept component).own) (length source.setting.levels + 1))
     (LevelsLeave component source.setting.transform (base_of component source.setting) source.setting.levels (planes_of kept component).own (less (planes_of source component).own (planes_of kept component).own) (length source.setting.levels + 1))

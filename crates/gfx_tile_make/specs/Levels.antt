@@ -20,14 +20,14 @@ use Rattle.gfx_tile_state.specs.Record.{pixel_of}
 use Rattle.gfx_tile_state.specs.Shape.{AreWithin}
 use Rattle.gfx_tile_state.specs.Shapes.{positions_of}
 use Rattle.gfx_tile_make.specs.Planes.{by_band, differences}
-use Rattle.gfx_tile_make.specs.Source.{Planes, Source, planes_of, sent}
+use Rattle.gfx_tile_make.specs.Source.{Planes, SourceTile, planes_of, sent}
 
 -- values without the low bits that a level leaves out
 abbrev pub truncated_plane : Transform → List ℕ → List ℤ → List ℤ
 truncated_plane t level values = by_band t (λ band v. truncated band v (value_of level band)) values
 
 -- a component's values at a level
-abbrev pub values_at : Source → Component → ℕ → List ℤ
+abbrev pub values_at : SourceTile → Component → ℕ → List ℤ
 values_at source component level =
     truncated_plane source.setting.transform (left_out component source.setting.levels level) (sent (planes_of source component))
 
@@ -56,12 +56,12 @@ record_by t base level planes = record {
 }
 
 -- a component's record at a level
-abbrev pub record_at : Source → Component → ℕ → Part
+abbrev pub record_at : SourceTile → Component → ℕ → Part
 record_at source component level =
     record_by source.setting.transform (base_of component source.setting) (left_out component source.setting.levels level) (planes_of source component)
 
 -- a tile's record at a level
-abbrev pub tile_at : Source → ℕ → TileState
+abbrev pub tile_at : SourceTile → ℕ → TileState
 tile_at source level = record {
   transform = Some source.setting.transform;
   y = record_at source Y level;
@@ -70,16 +70,16 @@ tile_at source level = record {
 }
 
 -- a pass of this shape goes to a level of a tile
-pub record ShapeIs (source : Source) (level : ℕ) (shape : PassShape) : Type 0 where
+pub record ShapeIs (source : SourceTile) (level : ℕ) (shape : PassShape) : Type 0 where
   pub transform_is : shape.transform ≡ source.setting.transform
   pub positions_are : (component : Component) → positions_of shape component ≡ (record_at source component level).positions
 
 -- the pixel that a tile's record shows at a level
-abbrev pub shown_at : Source → ℕ → ℕ → ℕ → Pixel
+abbrev pub shown_at : SourceTile → ℕ → ℕ → ℕ → Pixel
 shown_at source level y x = pixel_of (tile_at source level) y x
 
 -- the pixel of a tile's own values, whatever it goes on
-abbrev pub direct_pixel : Source → ℕ → ℕ → Pixel
+abbrev pub direct_pixel : SourceTile → ℕ → ℕ → Pixel
 direct_pixel source y x =
     let t = source.setting.transform in
     let samples : Component → ℤ = λ component. sample t (direct_plane t (base_of component source.setting) (planes_of source component).own) y x in
@@ -90,24 +90,24 @@ abbrev pub StaysWithin : Part → Type 0
 StaysWithin part = (k : ℕ) → k < 4096 → (is_coefficient (at part.sums k) ≡ true) × (is_coefficient (at part.kept k +ℤ at part.sums k) ≡ true)
 
 -- so it is with a component at each level, up to the one behind the listed ones
-abbrev pub ComponentFits : Source → Component → Type 0
+abbrev pub ComponentFits : SourceTile → Component → Type 0
 ComponentFits source component = (level : ℕ) → level ≤ length source.setting.levels → StaysWithin (record_at source component level)
 
 -- or at some level it isn't
-abbrev pub ComponentLeaves : Source → Component → Type 0
+abbrev pub ComponentLeaves : SourceTile → Component → Type 0
 ComponentLeaves source component =
     (level : ℕ) × ((level ≤ length source.setting.levels) × LeavesIt (record_at source component level).kept (at (record_at source component level).sums))
 
 -- the record of a tile is in range at each level
-abbrev pub Fits : Source → Type 0
+abbrev pub Fits : SourceTile → Type 0
 Fits source = (component : Component) → ComponentFits source component
 
 -- or in some component it isn't
-abbrev pub Leaves : Source → Type 0
+abbrev pub Leaves : SourceTile → Type 0
 Leaves source = (component : Component) × ComponentLeaves source component
 
 -- a tile that may be sent: an accepted setting, bases in range, whole planes, and a record that is in range at each level
-pub record MayBeSent (source : Source) : Type 0 where
+pub record MayBeSent (source : SourceTile) : Type 0 where
   pub accepted : is_accepted source.setting ≡ true
   pub bases : (component : Component) → AreWithin 6 15 (base_of component source.setting)
   pub own : (component : Component) → length (planes_of source component).own ≡ 4096

@@ -14,14 +14,14 @@ pub record Planes : Type 0 where
   pub kept : List ℤ
 
 -- a tile: how it is coded, its components, and whether it goes on another
-pub record Source : Type 0 where
+pub record SourceTile : Type 0 where
   pub setting : Setting
   pub y : Planes
   pub cb : Planes
   pub cr : Planes
   pub difference : Bool
 
-abbrev pub planes_of : Source → Component → Planes
+abbrev pub planes_of : SourceTile → Component → Planes
 planes_of source Y = source.y
 planes_of source Cb = source.cb
 planes_of source Cr = source.cr
@@ -35,7 +35,7 @@ abbrev pub plain : List ℤ → Planes
 plain own = record { own = own; kept = blank }
 
 -- the tile of some pixels
-abbrev pub source_of : Setting → List Pixel → Source
+abbrev pub source_of : Setting → List Pixel → SourceTile
 source_of setting pixels = record {
   setting = setting;
   y = plain (quantised_plane setting Y pixels);
@@ -49,7 +49,7 @@ abbrev pub onto : Planes → Planes → Planes
 onto planes kept = record { own = planes.own; kept = kept.own }
 
 -- a tile that goes on another: a difference tile
-abbrev pub difference_of : Source → Source → Source
+abbrev pub difference_of : SourceTile → SourceTile → SourceTile
 difference_of source kept = record {
   setting = source.setting;
   y = onto source.y kept.y;

@@ -24,7 +24,7 @@ pub struct Writers {
 /// Writes what a value gains where `before` low bits were left out of it, and then `behind`. An `Err`
 /// says nothing of what was written.
 #[inline(always)]
-pub fn write_entry(
+pub(crate) fn write_entry(
     writers: &mut Writers,
     value: i32,
     before: u8,

@@ -153,7 +153,7 @@ fn plane_fits(
 }
 
 /// Whether a component that goes on these kept values fits at each level.
-pub fn levels_fit(
+pub(crate) fn levels_fit(
     own: &[i16],
     kept: &[i16],
     transform: Transform,

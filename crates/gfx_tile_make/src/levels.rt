@@ -4,7 +4,7 @@ ghost use Rattle.gfx_quant.specs.Setting.{base_of, left_out, of_level};
 use gfx_quant::{Component, Level, Quant, Setting};
 
 /// What a component's bands are quantised by.
-pub fn base_of(component: Component, setting: &Setting) -> Quant
+pub(crate) fn base_of(component: Component, setting: &Setting) -> Quant
     ensures { result.values ≡ base_of component setting.now }
 {
     match component {
@@ -15,7 +15,7 @@ pub fn base_of(component: Component, setting: &Setting) -> Quant
 }
 
 /// What is left out of a component at a level: behind the listed ones nothing is.
-pub fn left_out(component: Component, levels: &[Level], index: usize) -> Quant
+pub(crate) fn left_out(component: Component, levels: &[Level], index: usize) -> Quant
     ensures { result.values ≡ left_out component levels.now index }
 {
     if index < levels.len() {

@@ -97,7 +97,7 @@ fn write_plane(
 
 /// Both data of what a component's values gain where so many of their low bits were left out, and
 /// then fewer.
-pub fn write_pass(
+pub(crate) fn write_pass(
     alloc: Global,
     values: &[i32; 4096],
     transform: Transform,

@@ -28,7 +28,7 @@ fn behind(value: i32, last: i32) -> i32
 }
 
 /// The numbers of a plane, each in 16 bits.
-pub fn store(plane: &[i32; 4096], out: &mut [i16])
+pub(crate) fn store(plane: &[i32; 4096], out: &mut [i16])
     requires coefficients { AllCoefficients plane.now }
     requires room { length out.old ≡ 4096 }
     ensures { out.new ≡ plane.now }
@@ -39,7 +39,7 @@ pub fn store(plane: &[i32; 4096], out: &mut [i16])
 }
 
 /// A plane less another.
-pub fn subtract(own: &[i16], kept: &[i16], out: &mut [i32; 4096])
+pub(crate) fn subtract(own: &[i16], kept: &[i16], out: &mut [i32; 4096])
     requires own { length own.now ≡ 4096 }
     requires kept { length kept.now ≡ 4096 }
     ensures value { out.new ≡ less own.now kept.now }
@@ -51,7 +51,7 @@ pub fn subtract(own: &[i16], kept: &[i16], out: &mut [i32; 4096])
 }
 
 /// Puts in place of each number how far it is above the one before it.
-pub fn differ(values: &mut [i32])
+pub(crate) fn differ(values: &mut [i32])
     requires { AllWithin 1024 values.old }
     ensures { values.new ≡ differences (pos 0) values.old }
 {

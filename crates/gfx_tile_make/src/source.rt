@@ -31,10 +31,10 @@ pub struct SourceTile {
 }
 
 impl Model for SourceTile {
-    ghost use Rattle.gfx_tile_make.specs.Source.{Source};
+    ghost use Rattle.gfx_tile_make.specs.Source.{SourceTile};
     ghost use Rattle.gfx_tile_make.specs.Levels.{MayBeSent};
 
-    ghost Value = { Source };
+    ghost Value = { SourceTile };
 
     ghost view = { λ tile. record { setting = tile.setting; y = tile.y; cb = tile.cb; cr = tile.cr; difference = tile.difference } };
 

@@ -11,7 +11,7 @@ use Rattle.gfx_base.specs.Geometry.{sized}
 use Rattle.gfx_quant.specs.declared.setting.Setting.{Setting}
 use Rattle.gfx_rlgr.specs.declared.mode.Mode.{Mode}
 use Rattle.gfx_script.specs.declared.picture.Picture.{Picture as Drawing}
-use Rattle.gfx_tile_make.specs.Source.{Source, source_of}
+use Rattle.gfx_tile_make.specs.Source.{SourceTile, source_of}
 use Rattle.gfx_prog_live.specs.Live.{following, in_groups, number_after, numbered}
 use Rattle.gfx_prog_live.specs.Tiles.{cell_pixels}
 use Rattle.gfx_prog_live.proofs.Groups.{Writing, all_written, drop_most, one_written, take_most}
@@ -23,7 +23,7 @@ use Rattle.gfx_video_paint.specs.Video.{laid, video_payload, video_payloads, vid
 use Rattle.gfx_video_paint.proofs.Sent.{tiles-sent}
 
 -- the tile of a square, as it is put together
-pub tile_made : (own setting : Setting) (drawing : Drawing) (width height : ℕ) (square : Cell) (pixels : List Pixel) (made : Source) → setting ≡ video_setting own → HasSides width height drawing
+pub tile_made : (own setting : Setting) (drawing : Drawing) (width height : ℕ) (square : Cell) (pixels : List Pixel) (made : SourceTile) → setting ≡ video_setting own → HasSides width height drawing
     → pixels ≡ cell_pixels drawing (sized width height) square → made ≡ source_of setting pixels
     → ◌≡◌ {A = VideoTile} (record { x = square.x; y = square.y; tile = made }) (video_tile own drawing square)
 unfolding video_tile

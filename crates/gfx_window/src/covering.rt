@@ -29,7 +29,7 @@ pub struct Write {
 }
 
 /// Where a pending item writes, if it is a plain write.
-pub fn plain_write(script: &Script, item: Queued) -> Option<Write>
+pub(crate) fn plain_write(script: &Script, item: Queued) -> Option<Write>
     ensures { result ≡ option_map write_of (plain_area script.now item) }
 {
     match script.step(item.step)? {
@@ -60,7 +60,7 @@ pub fn plain_write(script: &Script, item: Queued) -> Option<Write>
 /// Whether one of these items covers a write that stands before them, and those between the two stand
 /// aside. It looks at each of them once, and at each of their rectangles once.
 #[tactic(auto)]
-pub fn is_covered(script: &Script, write: Write, items: &[Queued]) -> bool
+pub(crate) fn is_covered(script: &Script, write: Write, items: &[Queued]) -> bool
     ensures { result ≡ is_covered_by script.now write items.now }
 {
     'items: for item in items {

@@ -20,7 +20,7 @@ pub const RED: [u8; 4] = [0, 0, 255, 255];
 pub const GREEN: [u8; 4] = [0, 255, 0, 255];
 
 /// A red bitmap of these sides.
-pub fn red(key: u64, width: u16, height: u16) -> Plain {
+pub(crate) fn red(key: u64, width: u16, height: u16) -> Plain {
     Plain {
         key,
         width,
@@ -30,7 +30,7 @@ pub fn red(key: u64, width: u16, height: u16) -> Plain {
 }
 
 /// The bytes of a file that says it has so many entries, before them.
-pub fn start(alloc: Global, count: u16) -> Result<Bytes, NoMemory> {
+pub(crate) fn start(alloc: Global, count: u16) -> Result<Bytes, NoMemory> {
     let mut bytes = Bytes::new(alloc);
     bytes.append(b"KEPT")?;
     bytes.append(&count.to_le_bytes())?;
@@ -38,7 +38,7 @@ pub fn start(alloc: Global, count: u16) -> Result<Bytes, NoMemory> {
 }
 
 /// Puts an entry at the end of a file.
-pub fn put(alloc: Global, bytes: &mut Bytes, one: Plain) -> Result<(), NoMemory> {
+pub(crate) fn put(alloc: Global, bytes: &mut Bytes, one: Plain) -> Result<(), NoMemory> {
     bytes.append(&one.key.to_le_bytes())?;
     bytes.append(&one.width.to_le_bytes())?;
     bytes.append(&one.height.to_le_bytes())?;
@@ -53,7 +53,7 @@ pub fn put(alloc: Global, bytes: &mut Bytes, one: Plain) -> Result<(), NoMemory>
 }
 
 /// What is kept in a file of these entries.
-pub fn kept(alloc: Global, entries: &[Plain]) -> Result<Kept, Fail> {
+pub(crate) fn kept(alloc: Global, entries: &[Plain]) -> Result<Kept, Fail> {
     let count = u16::try_from(entries.len()).ok().ok_or("too many")?;
     let mut bytes = start(alloc, count)?;
     for one in entries {
@@ -64,7 +64,7 @@ pub fn kept(alloc: Global, entries: &[Plain]) -> Result<Kept, Fail> {
 }
 
 /// A file of so many empty bitmaps, whose keys count from 0.
-pub fn numbered(alloc: Global, count: u16) -> Result<Bytes, NoMemory> {
+pub(crate) fn numbered(alloc: Global, count: u16) -> Result<Bytes, NoMemory> {
     let mut bytes = start(alloc, count)?;
     for key in 0..count {
         put(alloc, &mut bytes, red(u64::from(key), 0, 0))?;

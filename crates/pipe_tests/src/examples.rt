@@ -44,12 +44,12 @@ pub struct Ran<'a> {
 const ROOM: usize = 8192;
 
 /// No choosers.
-pub fn nobody(alloc: Global) -> Vec<Once> {
+pub(crate) fn nobody(alloc: Global) -> Vec<Once> {
     Vec::new(alloc)
 }
 
 /// Runs a command on these bytes, with no choosers. The reads and the writes to `out` of these numbers fail.
-pub fn run_on<'a>(
+pub(crate) fn run_on<'a>(
     alloc: Global,
     words: &[&str],
     bytes: &'a [u8],
@@ -61,7 +61,7 @@ pub fn run_on<'a>(
 
 /// Runs a command on these bytes, with these choosers and so much room for its output. The reads and the writes to
 /// `out` of these numbers fail.
-pub fn run_by<'a, C: Chooser>(
+pub(crate) fn run_by<'a, C: Chooser>(
     alloc: Global,
     words: &[&str],
     choosers: &mut Vec<C>,
@@ -83,7 +83,7 @@ pub fn run_by<'a, C: Chooser>(
 }
 
 /// What `encode` makes of a script, where it is done.
-pub fn encoded(alloc: Global, script: &str) -> Result<Vec<u8>, Fail> {
+pub(crate) fn encoded(alloc: Global, script: &str) -> Result<Vec<u8>, Fail> {
     let ran = run_on(alloc, &["encode"], script.as_bytes(), &[], &[])?;
     if ran.status != Status::Done {
         return Err(Fail::from("not encoded"));
@@ -94,7 +94,7 @@ pub fn encoded(alloc: Global, script: &str) -> Result<Vec<u8>, Fail> {
 }
 
 /// Whether `render` shows this of what `encode` makes of a script.
-pub fn shows(alloc: Global, script: &str, dump: &str) -> Result<bool, Fail> {
+pub(crate) fn shows(alloc: Global, script: &str, dump: &str) -> Result<bool, Fail> {
     let stream = encoded(alloc, script)?;
     let ran = run_on(alloc, &["render"], stream.as_slice(), &[], &[])?;
     Ok(ran.status == Status::Done && ran.out.held() == dump.as_bytes())

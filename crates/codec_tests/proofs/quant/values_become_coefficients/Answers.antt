@@ -1,4 +1,4 @@
-use Rattle.std.proofs.Common.{ℕ, ℤ, pos, negsuc, replicate, arith}
+use Rattle.std.proofs.Common.{pos, negsuc, replicate, arith}
 use Rattle.codec_tests.proofs.Magnitudes.{all_alike, down_to, one_changed, up_to}
 use Rattle.codec_tests.proofs.quant.values_become_coefficients.Goals as goal
 

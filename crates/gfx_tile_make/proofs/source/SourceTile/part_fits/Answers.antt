@@ -1,7 +1,7 @@
 use Rattle.std.proofs.Common.{◌∙◌, ap, length, subst, sym}
 use Rattle.std.specs.Prelude.{MatchBool}
 use Rattle.gfx_tile_make.specs.Levels.{ComponentFits, ComponentLeaves}
-use Rattle.gfx_tile_make.specs.Source.{Planes, Source, difference_of, planes_of}
+use Rattle.gfx_tile_make.specs.Source.{Planes, SourceTile, difference_of, planes_of}
 use Rattle.gfx_tile_make.proofs.Settings.{within-all}
 use Rattle.gfx_tile_make.proofs.Sources.{component-fits}
 use Rattle.gfx_tile_make.proofs.source.SourceTile.part_fits.Goals as goal
@@ -13,7 +13,7 @@ levels_fit-requires-clause-high c = λ i listed.
 pub returns : goal.returns
 returns c =
     let component = c.args.component in
-    let inside : Source = record { setting = c.self.inside.setting; y = c.self.inside.y; cb = c.self.inside.cb; cr = c.self.inside.cr; difference = c.self.inside.difference } in
+    let inside : SourceTile = record { setting = c.self.inside.setting; y = c.self.inside.y; cb = c.self.inside.cb; cr = c.self.inside.cr; difference = c.self.inside.difference } in
     let own = c.own.ensures.value ∙ ap (λ (p : Planes). p.own) (c.part.ensures ∙ ap (λ s. planes_of s component) (sym c.self.view_is)) in
     let other = c.own-2.ensures.value ∙ ap (λ (p : Planes). p.own) c.part-2.ensures in
     subst (λ s. MatchBool c.levels_fit.result (ComponentFits (difference_of s c.args.kept.now) component) (ComponentLeaves (difference_of s c.args.kept.now) component)) c.self.view_is

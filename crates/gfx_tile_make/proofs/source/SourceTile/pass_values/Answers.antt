@@ -3,7 +3,7 @@ use Rattle.gfx_dwt.specs.declared.layout.Band.{Band}
 use Rattle.gfx_quant.specs.Quant.{value_of}
 use Rattle.gfx_quant.specs.Setting.{left_out}
 use Rattle.gfx_tile_make.specs.Levels.{MayBeSent}
-use Rattle.gfx_tile_make.specs.Source.{Source}
+use Rattle.gfx_tile_make.specs.Source.{SourceTile}
 use Rattle.gfx_tile_make.proofs.Places.{if-ok}
 use Rattle.gfx_tile_make.proofs.ReadBack.{pass-short}
 use Rattle.gfx_tile_make.proofs.Sources.{below-at, few-at}
@@ -11,7 +11,7 @@ use Rattle.gfx_tile_make.proofs.source.SourceTile.pass_values.Goals as goal
 
 pub write_pass-requires-clause-falls : goal.write_pass-requires-clause-falls
 write_pass-requires-clause-falls c =
-    let levels = c.as_slice-levels.ensures.value ∙ ap (λ (s : Source). s.setting.levels) c.self.view_is in
+    let levels = c.as_slice-levels.ensures.value ∙ ap (λ (s : SourceTile). s.setting.levels) c.self.view_is in
     let before : c.left_out-before.result.values ≡ left_out c.args.component c.args.self.now.setting.levels (c.args.level - 1) =
     c.left_out-before.ensures ∙ ap (λ n. left_out c.args.component c.as_slice-levels.result.now (n - 1)) c.from-level.ensures ∙ ap (λ l. left_out c.args.component l (c.args.level - 1)) levels in
     let behind : c.left_out-behind.result.values ≡ left_out c.args.component c.args.self.now.setting.levels c.args.level =
@@ -20,7 +20,7 @@ write_pass-requires-clause-falls c =
 
 pub returns-clause-short : goal.returns-clause-short
 returns-clause-short c =
-    let levels = c.as_slice-levels.ensures.value ∙ ap (λ (s : Source). s.setting.levels) c.self.view_is in
+    let levels = c.as_slice-levels.ensures.value ∙ ap (λ (s : SourceTile). s.setting.levels) c.self.view_is in
     let before : c.left_out-before.result.values ≡ left_out c.args.component c.args.self.now.setting.levels (c.args.level - 1) =
     c.left_out-before.ensures ∙ ap (λ n. left_out c.args.component c.as_slice-levels.result.now (n - 1)) c.from-level.ensures ∙ ap (λ l. left_out c.args.component l (c.args.level - 1)) levels in
     let behind : c.left_out-behind.result.values ≡ left_out c.args.component c.args.self.now.setting.levels c.args.level =

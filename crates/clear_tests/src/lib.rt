@@ -3,6 +3,8 @@
 #![tactic(auto)]
 
 #[cfg(test)]
+mod claiming;
+#[cfg(test)]
 mod clear;
 #[cfg(test)]
 mod clear_bands;

@@ -2,11 +2,12 @@
 //! walk along the rings would take minutes. What was sent is decoded by another state, on a surface of its own.
 ghost use Rattle.std.specs.Prelude.{◌≡◌, IfOk, length};
 
+use crate::claiming::let_go;
 use gfx_base::{Format, NoMemory, Pixel, Rect, Rgb};
 use gfx_clear::{ClearState, Layer};
 use gfx_surface::Surface;
 use std::alloc::Global;
-use std::test::Fail;
+use std::process::Abort;
 
 const WIDTH: u16 = 8192;
 
@@ -18,15 +19,45 @@ const AREA: usize = 8_388_608;
 const LENGTH: usize = 25_493_678;
 
 #[test]
-fn eight_pictures_of_noise(rt: HostRuntime) -> Result<(), Fail> {
-    let mut server = ClearState::new(rt.alloc())?;
-    let mut client = ClearState::new(rt.alloc())?;
+fn eight_pictures_of_noise(rt: HostRuntime) -> Result<(), NoMemory> {
     let mut surface = Surface::new(rt.alloc(), WIDTH, HEIGHT, Format::Argb)?;
-    for seed in 1..9 {
-        let shown = is_exchanged(rt.alloc(), &mut server, &mut client, &mut surface, seed)?;
-        assert!(rt; shown, "seed {seed}");
-    }
+    let mut server = ClearState::new(rt.alloc())?;
+    let lost = lost_to_a_client(rt.alloc(), &mut server, &mut surface);
+    let_go(server);
+    none_is_lost(&rt, lost);
     Ok(())
+}
+
+/// Ends the test where a seed was lost, or there is no memory. Nothing is held here.
+fn none_is_lost(rt: &impl Abort, lost: Result<Option<u32>, NoMemory>) {
+    assert!(rt; matches!(lost, Ok(None)));
+}
+
+/// The first seed whose noise isn't exchanged with a new client.
+fn lost_to_a_client(
+    alloc: Global,
+    server: &mut ClearState,
+    surface: &mut Surface,
+) -> Result<Option<u32>, NoMemory> {
+    let mut client = ClearState::new(alloc)?;
+    let lost = first_lost(alloc, server, &mut client, surface);
+    let_go(client);
+    lost
+}
+
+/// The first of eight seeds whose noise isn't exchanged.
+fn first_lost(
+    alloc: Global,
+    server: &mut ClearState,
+    client: &mut ClearState,
+    surface: &mut Surface,
+) -> Result<Option<u32>, NoMemory> {
+    for seed in 1..9 {
+        if !is_exchanged(alloc, server, client, surface, seed)? {
+            return Ok(Some(seed));
+        }
+    }
+    Ok(None)
 }
 
 /// Whether the noise of a seed goes in a stream of the length that is due, and is shown where another state decodes it.

@@ -8,6 +8,7 @@ pub mod NarrowLines
 pub mod NoDetail
 pub mod Pairs
 pub mod Planes
+pub mod Room
 pub mod Same
 pub mod Small
 pub mod Smooth

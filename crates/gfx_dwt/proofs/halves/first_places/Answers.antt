@@ -48,3 +48,48 @@ loop-k-preserved g c =
       lows = put_next _ _ k _ (omega arith) (bits_of_small _ c.low_place.type_inv ∙ low) c.loop-k.invariant.lows;
       highs = put_next _ _ k _ (omega arith) (high ∙ here) c.loop-k.invariant.highs;
     }
+
+pub bounds-line-0 : goal.bounds-line-0
+bounds-line-0 g c = omega arith
+
+pub bounds-line-1 : goal.bounds-line-1
+bounds-line-1 g c = omega arith
+
+pub bounds-line-2 : goal.bounds-line-2
+bounds-line-2 g c = omega arith
+
+pub overflow_mul-next : goal.overflow_mul-next
+overflow_mul-next g c = omega arith
+
+pub overflow_add-next : goal.overflow_add-next
+overflow_add-next g c = omega arith
+
+pub offset_bounds-line-k : goal.offset_bounds-line-k
+offset_bounds-line-k g c = omega arith
+
+pub bounds-line-k : goal.bounds-line-k
+bounds-line-k g c = omega arith
+
+pub overflow_mul-k : goal.overflow_mul-k
+overflow_mul-k g c = omega arith
+
+pub overflow_add-k : goal.overflow_add-k
+overflow_add-k g c = omega arith
+
+pub offset_bounds-line-k-in-loop-k : goal.offset_bounds-line-k-in-loop-k
+offset_bounds-line-k-in-loop-k g c = omega arith
+
+pub bounds-line-k-in-loop-k : goal.bounds-line-k-in-loop-k
+bounds-line-k-in-loop-k g c = omega arith
+
+pub offset_bounds-high-k : goal.offset_bounds-high-k
+offset_bounds-high-k g c = omega arith
+
+pub bounds-high-k : goal.bounds-high-k
+bounds-high-k g c = omega arith
+
+pub offset_bounds-low-k : goal.offset_bounds-low-k
+offset_bounds-low-k g c = omega arith
+
+pub bounds-low-k : goal.bounds-low-k
+bounds-low-k g c = omega arith

@@ -4,6 +4,7 @@ use Rattle.std.proofs.Math.Nat.{mul-le-mul_right}
 use Rattle.gfx_dwt.specs.Joining.{edged, joined}
 use Rattle.gfx_dwt.specs.Ranges.{at}
 use Rattle.gfx_dwt.specs.Samples.{column}
+use Rattle.gfx_dwt.proofs.Room.{line_few}
 use Rattle.gfx_dwt.proofs.Edges.{is_even, high_some, high_le_low, joined_even, joined_odd, edged_inside}
 use Rattle.gfx_dwt.proofs.Strips.{rows_put, row_put_last, strip_at}
 use Rattle.gfx_dwt.proofs.joining.join_columns.Goals as goal
@@ -95,3 +96,161 @@ returns-then-width-eq0 c = λ y x p q.
     (λ j h. c.join_last.ensures.above j h ∙ strip_at ((w - 2) * w) _ c.loop-place.out j (omega arith) ∙ c.loop-place.invariant (w - 2) j (omega arith) h)
     (λ j h. c.join_last.ensures.odds j h ∙ sym (ap (joined t l (low j) (high j)) even_width ∙ joined_odd t l (low j) (high j) n))
     y x (omega arith) q
+
+pub slice_bounds-lower-end : goal.slice_bounds-lower-end
+slice_bounds-lower-end c =
+    let t = c.args.transform in
+    let l = c.args.level in
+    let w = c.args.width in
+    let few = line_few t l in
+    let le = high_le_low t l in
+    let some = high_some t l in
+    let square : 1 * w ≤ w * w = mul-le-mul_right w (omega arith) in
+    omega arith
+
+pub slice_bounds-lower-end-2 : goal.slice_bounds-lower-end-2
+slice_bounds-lower-end-2 c =
+    let t = c.args.transform in
+    let l = c.args.level in
+    let w = c.args.width in
+    let few = line_few t l in
+    let le = high_le_low t l in
+    let some = high_some t l in
+    let square : 1 * w ≤ w * w = mul-le-mul_right w (omega arith) in
+    let front = length-take-le w c.args.out.now (omega (arith, square)) in
+    omega (arith, front)
+
+pub overflow_sub-place-end : goal.overflow_sub-place-end
+overflow_sub-place-end c =
+    let le = high_le_low c.args.transform c.args.level in
+    let some = high_some c.args.transform c.args.level in
+    omega arith
+
+pub overflow_mul-start : goal.overflow_mul-start
+overflow_mul-start c = omega arith
+
+pub overflow_mul-start-in-loop-place : goal.overflow_mul-start-in-loop-place
+overflow_mul-start-in-loop-place c =
+    let t = c.args.transform in
+    let l = c.args.level in
+    let w = c.args.width in
+    let few = line_few t l in
+    let le = high_le_low t l in
+    let some = high_some t l in
+    let more : (2 * c.loop-place.place + 3) * w ≤ w * w = mul-le-mul_right w (omega arith) in
+    let small : w * w ≤ 64 * w = mul-le-mul_right w (omega arith) in
+    omega arith
+
+pub overflow_mul-width : goal.overflow_mul-width
+overflow_mul-width c = omega arith
+
+pub overflow_add-start : goal.overflow_add-start
+overflow_add-start c =
+    let t = c.args.transform in
+    let l = c.args.level in
+    let w = c.args.width in
+    let few = line_few t l in
+    let le = high_le_low t l in
+    let some = high_some t l in
+    let more : (2 * c.loop-place.place + 3) * w ≤ w * w = mul-le-mul_right w (omega arith) in
+    let small : w * w ≤ 64 * w = mul-le-mul_right w (omega arith) in
+    omega arith
+
+pub offset_bounds-out-start : goal.offset_bounds-out-start
+offset_bounds-out-start c =
+    let t = c.args.transform in
+    let l = c.args.level in
+    let w = c.args.width in
+    let few = line_few t l in
+    let le = high_le_low t l in
+    let some = high_some t l in
+    let more : (2 * c.loop-place.place + 3) * w ≤ w * w = mul-le-mul_right w (omega arith) in
+    let small : w * w ≤ 64 * w = mul-le-mul_right w (omega arith) in
+    omega arith
+
+pub slice_bounds-join_pair-count : goal.slice_bounds-join_pair-count
+slice_bounds-join_pair-count c = omega arith
+
+pub slice_bounds-join_pair-start : goal.slice_bounds-join_pair-start
+slice_bounds-join_pair-start c = omega arith
+
+pub slice_bounds-join_pair-end : goal.slice_bounds-join_pair-end
+slice_bounds-join_pair-end c =
+    let t = c.args.transform in
+    let l = c.args.level in
+    let w = c.args.width in
+    let few = line_few t l in
+    let le = high_le_low t l in
+    let some = high_some t l in
+    let more : (2 * c.loop-place.place + 3) * w ≤ w * w = mul-le-mul_right w (omega arith) in
+    let small : w * w ≤ 64 * w = mul-le-mul_right w (omega arith) in
+    omega arith
+
+pub overflow_sub-start : goal.overflow_sub-start
+overflow_sub-start c =
+    let le = high_le_low c.args.transform c.args.level in
+    let some = high_some c.args.transform c.args.level in
+    omega arith
+
+pub overflow_mul-start-then-width-eq0 : goal.overflow_mul-start-then-width-eq0
+overflow_mul-start-then-width-eq0 c =
+    let t = c.args.transform in
+    let l = c.args.level in
+    let w = c.args.width in
+    let few = line_few t l in
+    let le = high_le_low t l in
+    let some = high_some t l in
+    let whole : (w - 2 + 2) * w ≤ w * w = mul-le-mul_right w (omega arith) in
+    let small : w * w ≤ 64 * w = mul-le-mul_right w (omega arith) in
+    omega arith
+
+pub overflow_sub-width : goal.overflow_sub-width
+overflow_sub-width c =
+    let le = high_le_low c.args.transform c.args.level in
+    let some = high_some c.args.transform c.args.level in
+    omega arith
+
+pub overflow_mul-width-then-width-eq0 : goal.overflow_mul-width-then-width-eq0
+overflow_mul-width-then-width-eq0 c = omega arith
+
+pub overflow_add-start-then-width-eq0 : goal.overflow_add-start-then-width-eq0
+overflow_add-start-then-width-eq0 c =
+    let t = c.args.transform in
+    let l = c.args.level in
+    let w = c.args.width in
+    let few = line_few t l in
+    let le = high_le_low t l in
+    let some = high_some t l in
+    let whole : (w - 2 + 2) * w ≤ w * w = mul-le-mul_right w (omega arith) in
+    let small : w * w ≤ 64 * w = mul-le-mul_right w (omega arith) in
+    omega arith
+
+pub offset_bounds-out-start-then-width-eq0 : goal.offset_bounds-out-start-then-width-eq0
+offset_bounds-out-start-then-width-eq0 c =
+    let t = c.args.transform in
+    let l = c.args.level in
+    let w = c.args.width in
+    let few = line_few t l in
+    let le = high_le_low t l in
+    let some = high_some t l in
+    let whole : (w - 2 + 2) * w ≤ w * w = mul-le-mul_right w (omega arith) in
+    let small : w * w ≤ 64 * w = mul-le-mul_right w (omega arith) in
+    omega arith
+
+pub slice_bounds-join_last-count : goal.slice_bounds-join_last-count
+slice_bounds-join_last-count c = omega arith
+
+pub slice_bounds-join_last-start : goal.slice_bounds-join_last-start
+slice_bounds-join_last-start c = omega arith
+
+pub slice_bounds-join_last-end : goal.slice_bounds-join_last-end
+slice_bounds-join_last-end c =
+    let t = c.args.transform in
+    let l = c.args.level in
+    let w = c.args.width in
+    let few = line_few t l in
+    let le = high_le_low t l in
+    let some = high_some t l in
+    let whole : (w - 2 + 2) * w ≤ w * w = mul-le-mul_right w (omega arith) in
+    let small : w * w ≤ 64 * w = mul-le-mul_right w (omega arith) in
+    omega arith

@@ -27,3 +27,42 @@ loop-k-preserved g c =
       highs = put_next _ _ k _ (omega arith) (high ∙ here) before.highs;
       lows = put_next _ _ k _ (omega arith) (bits_of_small _ c.low_place.type_inv ∙ low) before.lows;
     }
+
+pub offset_bounds-even-k : goal.offset_bounds-even-k
+offset_bounds-even-k g c = omega arith
+
+pub bounds-even-k : goal.bounds-even-k
+bounds-even-k g c = omega arith
+
+pub offset_bounds-known-k : goal.offset_bounds-known-k
+offset_bounds-known-k g c = omega arith
+
+pub bounds-known-k : goal.bounds-known-k
+bounds-known-k g c = omega arith
+
+pub offset_bounds-odd-k : goal.offset_bounds-odd-k
+offset_bounds-odd-k g c = omega arith
+
+pub bounds-odd-k : goal.bounds-odd-k
+bounds-odd-k g c = omega arith
+
+pub offset_bounds-next-k : goal.offset_bounds-next-k
+offset_bounds-next-k g c = omega arith
+
+pub bounds-next-k : goal.bounds-next-k
+bounds-next-k g c = omega arith
+
+pub offset_bounds-known-k-in-loop-k : goal.offset_bounds-known-k-in-loop-k
+offset_bounds-known-k-in-loop-k g c = omega arith
+
+pub offset_bounds-high-k : goal.offset_bounds-high-k
+offset_bounds-high-k g c = omega arith
+
+pub bounds-high-k : goal.bounds-high-k
+bounds-high-k g c = omega arith
+
+pub offset_bounds-low-k : goal.offset_bounds-low-k
+offset_bounds-low-k g c = omega arith
+
+pub bounds-low-k : goal.bounds-low-k
+bounds-low-k g c = omega arith

@@ -36,3 +36,15 @@ returns c = λ k h.
     let all = reduced_pairs_all First low high pairs.new.out 31 sample next odd refl (omega arith) (λ j q. pairs.ensures.evens j (omega arith)) (λ j q. pairs.ensures.odds j (omega arith)) (small ∙ rw e at pairs.ensures.last) value is_odd in
     rw (c.put_pair-2.ensures, c.put_pair.ensures)
     (first_line low high _ next beyond last (omega (arith, length-set {A = ℤ})) all value is_beyond is_last k (omega arith))
+
+pub bounds-low-31 : goal.bounds-low-31
+bounds-low-31 c = omega arith
+
+pub bounds-high-30 : goal.bounds-high-30
+bounds-high-30 c = omega arith
+
+pub bounds-high-30-2 : goal.bounds-high-30-2
+bounds-high-30-2 c = omega arith
+
+pub bounds-low-32 : goal.bounds-low-32
+bounds-low-32 c = omega arith

@@ -35,3 +35,63 @@ returns-clause-evens g c = λ k h. c.loop-k.invariant.pairs.evens_are k (omega a
 
 pub returns-clause-odds : goal.returns-clause-odds
 returns-clause-odds g c = λ k h. c.loop-k.invariant.pairs.odds_are k (omega arith)
+
+pub bounds-low-0 : goal.bounds-low-0
+bounds-low-0 g c = omega arith
+
+pub bounds-high-0 : goal.bounds-high-0
+bounds-high-0 g c = omega arith
+
+pub bounds-high-0-2 : goal.bounds-high-0-2
+bounds-high-0-2 g c = omega arith
+
+pub overflow_sub-k-end : goal.overflow_sub-k-end
+overflow_sub-k-end g c = omega arith
+
+pub overflow_add-k : goal.overflow_add-k
+overflow_add-k g c = omega arith
+
+pub offset_bounds-low-k : goal.offset_bounds-low-k
+offset_bounds-low-k g c = omega arith
+
+pub bounds-low-k : goal.bounds-low-k
+bounds-low-k g c = omega arith
+
+pub offset_bounds-high-k : goal.offset_bounds-high-k
+offset_bounds-high-k g c = omega arith
+
+pub bounds-high-k : goal.bounds-high-k
+bounds-high-k g c = omega arith
+
+pub overflow_add-k-in-loop-k : goal.overflow_add-k-in-loop-k
+overflow_add-k-in-loop-k g c = omega arith
+
+pub offset_bounds-high-k-in-loop-k : goal.offset_bounds-high-k-in-loop-k
+offset_bounds-high-k-in-loop-k g c = omega arith
+
+pub bounds-high-k-in-loop-k : goal.bounds-high-k-in-loop-k
+bounds-high-k-in-loop-k g c = omega arith
+
+pub overflow_mul-sample : goal.overflow_mul-sample
+overflow_mul-sample g c = omega arith
+
+pub offset_bounds-out-k : goal.offset_bounds-out-k
+offset_bounds-out-k g c = omega arith
+
+pub bounds-out-k : goal.bounds-out-k
+bounds-out-k g c = omega arith
+
+pub offset_bounds-high-k-in-loop-k-2 : goal.offset_bounds-high-k-in-loop-k-2
+offset_bounds-high-k-in-loop-k-2 g c = omega arith
+
+pub bounds-high-k-in-loop-k-2 : goal.bounds-high-k-in-loop-k-2
+bounds-high-k-in-loop-k-2 g c = omega arith
+
+pub overflow_mul-k : goal.overflow_mul-k
+overflow_mul-k g c = omega arith
+
+pub overflow_add-k-in-loop-k-2 : goal.overflow_add-k-in-loop-k-2
+overflow_add-k-in-loop-k-2 g c = omega arith
+
+pub offset_bounds-out-k-in-loop-k : goal.offset_bounds-out-k-in-loop-k
+offset_bounds-out-k-in-loop-k g c = omega arith

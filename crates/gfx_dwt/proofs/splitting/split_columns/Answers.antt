@@ -1,6 +1,5 @@
-use Rattle.std.proofs.Common.{◌*◌, ◌^◌, lit≤, ◌∙◌, arith}
-use Rattle.std.proofs.lemmas.Nat.{rows}
-use Rattle.std.proofs.lemmas.Grind.{common_steps}
+use Rattle.std.proofs.Common.{◌*◌, ◌+◌, ◌≤◌, ◌^◌, lit≤, ◌∙◌, arith}
+use Rattle.std.proofs.Math.Nat.{mul-le-mul_right}
 use Rattle.gfx_dwt.specs.Place.{low_size}
 use Rattle.gfx_dwt.specs.Samples.{column}
 use Rattle.gfx_dwt.specs.Splitting.{grows, low_half}
@@ -22,7 +21,8 @@ lows-preserved c =
     let l = c.args.level in
     let source = c.args.source.now in
     let high = c.split_pairs.new.high in
-    row_put w c.lows.r _ c.lows.low c.low_row.new.out (λ i j. low_half t l (column w source j) i) (grind (arith, common_steps, rows)) (omega arith) c.lows.invariant
+    let more : (c.lows.r + 1) * w ≤ low_size t l * w = mul-le-mul_right w (omega arith) in
+    row_put w c.lows.r _ c.lows.low c.low_row.new.out (λ i j. low_half t l (column w source j) i) (omega arith) (omega arith) c.lows.invariant
     (λ x q. c.low_row.ensures x q ∙ low_from t l (column w source x) (column w high x) (λ k h. c.split_pairs.ensures.highs k x h q) c.lows.r)
 
 pub returns-clause-lows : goal.returns-clause-lows

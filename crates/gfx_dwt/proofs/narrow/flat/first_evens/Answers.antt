@@ -1,4 +1,5 @@
 use Rattle.std.proofs.Common.{◌≡◌, ◌+◌, ◌*◌, ◌<◌, ◌≤◌, ◌∙◌, length, to_z, of_z, w16, lit<, arith, rules}
+use Rattle.std.proofs.Math.Nat.{mul-le-mul_right}
 use Rattle.gfx_dwt.specs.declared.layout.Transform.TheVariants.{Plain}
 use Rattle.gfx_dwt.specs.Lifting.{even_of}
 use Rattle.gfx_dwt.specs.Ranges.{Within, at}
@@ -45,3 +46,66 @@ loop-r-preserved c =
           (λ i h. within_more c.loop-r.most c.max-most.result _ before (c.loop-r.invariant.within i h));
       others = λ i k p q. column_kept w r 0 start c.loop-r.evens _ c.requires.size there i k q (omega arith) ∙ c.loop-r.invariant.others i k p q;
     }
+
+pub overflow_mul-start : goal.overflow_mul-start
+overflow_mul-start c =
+    let w = c.args.size in
+    let more : (c.loop-r.r + 1) * w ≤ c.args.rows * w = mul-le-mul_right w (omega arith) in
+    let small : c.args.rows * w ≤ 64 * w = mul-le-mul_right w (omega arith) in
+    omega arith
+
+pub offset_bounds-low-start : goal.offset_bounds-low-start
+offset_bounds-low-start c =
+    let w = c.args.size in
+    let more : (c.loop-r.r + 1) * w ≤ c.args.rows * w = mul-le-mul_right w (omega arith) in
+    let small : c.args.rows * w ≤ 64 * w = mul-le-mul_right w (omega arith) in
+    omega arith
+
+pub bounds-low-start : goal.bounds-low-start
+bounds-low-start c =
+    let w = c.args.size in
+    let more : (c.loop-r.r + 1) * w ≤ c.args.rows * w = mul-le-mul_right w (omega arith) in
+    let small : c.args.rows * w ≤ 64 * w = mul-le-mul_right w (omega arith) in
+    omega arith
+
+pub offset_bounds-high-start : goal.offset_bounds-high-start
+offset_bounds-high-start c =
+    let w = c.args.size in
+    let more : (c.loop-r.r + 1) * w ≤ c.args.rows * w = mul-le-mul_right w (omega arith) in
+    let small : c.args.rows * w ≤ 64 * w = mul-le-mul_right w (omega arith) in
+    omega arith
+
+pub bounds-high-start : goal.bounds-high-start
+bounds-high-start c =
+    let w = c.args.size in
+    let more : (c.loop-r.r + 1) * w ≤ c.args.rows * w = mul-le-mul_right w (omega arith) in
+    let small : c.args.rows * w ≤ 64 * w = mul-le-mul_right w (omega arith) in
+    omega arith
+
+pub offset_bounds-high-start-in-loop-r : goal.offset_bounds-high-start-in-loop-r
+offset_bounds-high-start-in-loop-r c =
+    let w = c.args.size in
+    let more : (c.loop-r.r + 1) * w ≤ c.args.rows * w = mul-le-mul_right w (omega arith) in
+    let small : c.args.rows * w ≤ 64 * w = mul-le-mul_right w (omega arith) in
+    omega arith
+
+pub bounds-high-start-in-loop-r : goal.bounds-high-start-in-loop-r
+bounds-high-start-in-loop-r c =
+    let w = c.args.size in
+    let more : (c.loop-r.r + 1) * w ≤ c.args.rows * w = mul-le-mul_right w (omega arith) in
+    let small : c.args.rows * w ≤ 64 * w = mul-le-mul_right w (omega arith) in
+    omega arith
+
+pub offset_bounds-evens-start : goal.offset_bounds-evens-start
+offset_bounds-evens-start c =
+    let w = c.args.size in
+    let more : (c.loop-r.r + 1) * w ≤ c.args.rows * w = mul-le-mul_right w (omega arith) in
+    let small : c.args.rows * w ≤ 64 * w = mul-le-mul_right w (omega arith) in
+    omega arith
+
+pub bounds-evens-start : goal.bounds-evens-start
+bounds-evens-start c =
+    let w = c.args.size in
+    let more : (c.loop-r.r + 1) * w ≤ c.args.rows * w = mul-le-mul_right w (omega arith) in
+    let small : c.args.rows * w ≤ 64 * w = mul-le-mul_right w (omega arith) in
+    omega arith

@@ -1,4 +1,5 @@
 use Rattle.std.proofs.Common.{◌≡◌, ◌+◌, ◌-◌, ◌*◌, ◌<◌, ◌≤◌, ◌∙◌, length, to_z, of_z, w16, lit<, arith, rules}
+use Rattle.std.proofs.Math.Nat.{mul-le-mul_right}
 use Rattle.gfx_dwt.specs.declared.layout.Transform.TheVariants.{Plain}
 use Rattle.gfx_dwt.specs.Lifting.{odd_of}
 use Rattle.gfx_dwt.specs.Ranges.{Within, at}
@@ -36,3 +37,80 @@ loop-r-preserved c =
           (λ i h. within_more c.loop-r.most c.max-most.result _ before (c.loop-r.invariant.within i h));
       others = λ i k p. column_kept w r (w - 1) end c.loop-r.odds _ last there i k (omega arith) (omega arith) ∙ c.loop-r.invariant.others i k p;
     }
+
+pub overflow_mul-end : goal.overflow_mul-end
+overflow_mul-end c =
+    let w = c.args.size in
+    let more : (c.loop-r.r + 1) * w ≤ c.args.rows * w = mul-le-mul_right w (omega arith) in
+    let small : c.args.rows * w ≤ 64 * w = mul-le-mul_right w (omega arith) in
+    omega arith
+
+pub overflow_add-end : goal.overflow_add-end
+overflow_add-end c =
+    let w = c.args.size in
+    let more : (c.loop-r.r + 1) * w ≤ c.args.rows * w = mul-le-mul_right w (omega arith) in
+    let small : c.args.rows * w ≤ 64 * w = mul-le-mul_right w (omega arith) in
+    omega arith
+
+pub overflow_sub-end : goal.overflow_sub-end
+overflow_sub-end c =
+    let w = c.args.size in
+    let more : (c.loop-r.r + 1) * w ≤ c.args.rows * w = mul-le-mul_right w (omega arith) in
+    let small : c.args.rows * w ≤ 64 * w = mul-le-mul_right w (omega arith) in
+    omega arith
+
+pub offset_bounds-high-end : goal.offset_bounds-high-end
+offset_bounds-high-end c =
+    let w = c.args.size in
+    let more : (c.loop-r.r + 1) * w ≤ c.args.rows * w = mul-le-mul_right w (omega arith) in
+    let small : c.args.rows * w ≤ 64 * w = mul-le-mul_right w (omega arith) in
+    omega arith
+
+pub bounds-high-end : goal.bounds-high-end
+bounds-high-end c =
+    let w = c.args.size in
+    let more : (c.loop-r.r + 1) * w ≤ c.args.rows * w = mul-le-mul_right w (omega arith) in
+    let small : c.args.rows * w ≤ 64 * w = mul-le-mul_right w (omega arith) in
+    omega arith
+
+pub offset_bounds-evens-end : goal.offset_bounds-evens-end
+offset_bounds-evens-end c =
+    let w = c.args.size in
+    let more : (c.loop-r.r + 1) * w ≤ c.args.rows * w = mul-le-mul_right w (omega arith) in
+    let small : c.args.rows * w ≤ 64 * w = mul-le-mul_right w (omega arith) in
+    omega arith
+
+pub bounds-evens-end : goal.bounds-evens-end
+bounds-evens-end c =
+    let w = c.args.size in
+    let more : (c.loop-r.r + 1) * w ≤ c.args.rows * w = mul-le-mul_right w (omega arith) in
+    let small : c.args.rows * w ≤ 64 * w = mul-le-mul_right w (omega arith) in
+    omega arith
+
+pub offset_bounds-evens-end-in-loop-r : goal.offset_bounds-evens-end-in-loop-r
+offset_bounds-evens-end-in-loop-r c =
+    let w = c.args.size in
+    let more : (c.loop-r.r + 1) * w ≤ c.args.rows * w = mul-le-mul_right w (omega arith) in
+    let small : c.args.rows * w ≤ 64 * w = mul-le-mul_right w (omega arith) in
+    omega arith
+
+pub bounds-evens-end-in-loop-r : goal.bounds-evens-end-in-loop-r
+bounds-evens-end-in-loop-r c =
+    let w = c.args.size in
+    let more : (c.loop-r.r + 1) * w ≤ c.args.rows * w = mul-le-mul_right w (omega arith) in
+    let small : c.args.rows * w ≤ 64 * w = mul-le-mul_right w (omega arith) in
+    omega arith
+
+pub offset_bounds-odds-end : goal.offset_bounds-odds-end
+offset_bounds-odds-end c =
+    let w = c.args.size in
+    let more : (c.loop-r.r + 1) * w ≤ c.args.rows * w = mul-le-mul_right w (omega arith) in
+    let small : c.args.rows * w ≤ 64 * w = mul-le-mul_right w (omega arith) in
+    omega arith
+
+pub bounds-odds-end : goal.bounds-odds-end
+bounds-odds-end c =
+    let w = c.args.size in
+    let more : (c.loop-r.r + 1) * w ≤ c.args.rows * w = mul-le-mul_right w (omega arith) in
+    let small : c.args.rows * w ≤ 64 * w = mul-le-mul_right w (omega arith) in
+    omega arith

@@ -23,3 +23,45 @@ loop-k-preserved g c =
       evens = put_next _ _ k _ (omega arith) (even ∙ value) c.loop-k.invariant.evens;
       odds = put_next _ _ k _ (omega arith) (bits_of_short _ c.odd_sample.type_inv ∙ odd) c.loop-k.invariant.odds;
     }
+
+pub offset_bounds-low-k : goal.offset_bounds-low-k
+offset_bounds-low-k g c = omega arith
+
+pub bounds-low-k : goal.bounds-low-k
+bounds-low-k g c = omega arith
+
+pub offset_bounds-high-k : goal.offset_bounds-high-k
+offset_bounds-high-k g c = omega arith
+
+pub bounds-high-k : goal.bounds-high-k
+bounds-high-k g c = omega arith
+
+pub offset_bounds-next-k : goal.offset_bounds-next-k
+offset_bounds-next-k g c = omega arith
+
+pub bounds-next-k : goal.bounds-next-k
+bounds-next-k g c = omega arith
+
+pub offset_bounds-evens-k : goal.offset_bounds-evens-k
+offset_bounds-evens-k g c = omega arith
+
+pub bounds-evens-k : goal.bounds-evens-k
+bounds-evens-k g c = omega arith
+
+pub offset_bounds-high-k-in-loop-k : goal.offset_bounds-high-k-in-loop-k
+offset_bounds-high-k-in-loop-k g c = omega arith
+
+pub bounds-high-k-in-loop-k : goal.bounds-high-k-in-loop-k
+bounds-high-k-in-loop-k g c = omega arith
+
+pub offset_bounds-above-k : goal.offset_bounds-above-k
+offset_bounds-above-k g c = omega arith
+
+pub bounds-above-k : goal.bounds-above-k
+bounds-above-k g c = omega arith
+
+pub offset_bounds-odds-k : goal.offset_bounds-odds-k
+offset_bounds-odds-k g c = omega arith
+
+pub bounds-odds-k : goal.bounds-odds-k
+bounds-odds-k g c = omega arith

@@ -61,3 +61,18 @@ returns-clause-joined c = λ _ y x p q.
     let whole : w ≡ line_size t l = rw (e, f) refl in
     rw whole at (c.join_narrow_columns.ensures y x (rw whole p) (rw whole q))
     ∙ level_of_rows t l plane _ _ _ are y x p q
+
+pub offset_bounds-coefficients-width : goal.offset_bounds-coefficients-width
+offset_bounds-coefficients-width c = omega arith
+
+pub slice_bounds-bands-count : goal.slice_bounds-bands-count
+slice_bounds-bands-count c = omega arith
+
+pub slice_bounds-bands-start : goal.slice_bounds-bands-start
+slice_bounds-bands-start c = omega arith
+
+pub slice_bounds-bands-end : goal.slice_bounds-bands-end
+slice_bounds-bands-end c = omega arith
+
+pub overflow_sub-width : goal.overflow_sub-width
+overflow_sub-width c = omega arith

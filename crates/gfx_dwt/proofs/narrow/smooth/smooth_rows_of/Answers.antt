@@ -1,8 +1,9 @@
-use Rattle.std.proofs.Common.{ℕ, ◌+◌, ◌∙◌, refl, arith}
-use Rattle.std.proofs.lemmas.Nat.{rows}
-use Rattle.std.proofs.lemmas.Grind.{common_steps}
+use Rattle.std.proofs.Common.{ℕ, ◌+◌, ◌∙◌, refl, arith, ◌*◌, ◌≤◌, ◌≡◌, ap}
+use Rattle.std.proofs.Math.Nat.{mul-le-mul_right}
+use Rattle.gfx_dwt.specs.Place.{high_size, low_size}
 use Rattle.gfx_dwt.specs.Joining.{joined}
 use Rattle.gfx_dwt.specs.Samples.{cell}
+use Rattle.gfx_dwt.proofs.Room.{line_few}
 use Rattle.gfx_dwt.proofs.NoDetail.{nought, within_of_nought}
 use Rattle.gfx_dwt.proofs.Planes.{cells_within, column_within}
 use Rattle.gfx_dwt.proofs.Same.{joined_same, joined_within}
@@ -18,7 +19,11 @@ loop-r-preserved c =
     let low = c.args.low.now in
     let f : ℕ → ℕ → _ = λ i. joined t level (cell l low i) nought in
     let h = c.high_size.result in
-    row_put (l + h) r _ c.loop-r.out c.smooth_line.new.out f (grind (arith, common_steps, rows)) (omega arith) c.loop-r.invariant
+    let size = low_size t level + high_size t level in
+    let same : l + h ≡ size = omega arith in
+    let place : r * (l + h) ≡ r * size = ap (λ z. r * z) same in
+    let more : (r + 1) * size ≤ c.args.rows * size = mul-le-mul_right size (omega arith) in
+    row_put (l + h) r _ c.loop-r.out c.smooth_line.new.out f (omega arith) (omega arith) c.loop-r.invariant
     (λ k p. c.smooth_line.ensures k (omega arith) ∙ joined_same t level _ _ _ _ (λ n q. c.narrow_row-low.ensures.each n (omega arith)) (λ n q. refl) k (omega arith))
 
 pub returns-clause-within : goal.returns-clause-within
@@ -34,3 +39,55 @@ returns-clause-within c =
     (joined_within t level 16382 0 _ _
     (λ n b. column_within l c.args.rows 16382 c.args.low.now (rw low_is c.requires.low_len) c.requires.low n (omega arith) r p)
     (λ n b. within_of_nought 0 _ refl) j (omega arith)))
+
+pub overflow_mul-start : goal.overflow_mul-start
+overflow_mul-start c =
+    let r = c.loop-r.r in
+    let t = c.args.transform in
+    let l = c.args.level in
+    let size = low_size t l + high_size t l in
+    let few : size ≤ 64 = line_few t l in
+    let same : c.low_size-low_size.result + c.high_size.result ≡ size = omega arith in
+    let place : r * (c.low_size-low_size.result + c.high_size.result) ≡ r * size = ap (λ z. r * z) same in
+    let more : (r + 1) * size ≤ c.args.rows * size = mul-le-mul_right size (omega arith) in
+    let small : c.args.rows * size ≤ 64 * size = mul-le-mul_right size (omega arith) in
+    omega arith
+
+pub overflow_add-start : goal.overflow_add-start
+overflow_add-start c =
+    let r = c.loop-r.r in
+    let t = c.args.transform in
+    let l = c.args.level in
+    let size = low_size t l + high_size t l in
+    let few : size ≤ 64 = line_few t l in
+    let same : c.low_size-low_size.result + c.high_size.result ≡ size = omega arith in
+    let place : r * (c.low_size-low_size.result + c.high_size.result) ≡ r * size = ap (λ z. r * z) same in
+    let more : (r + 1) * size ≤ c.args.rows * size = mul-le-mul_right size (omega arith) in
+    let small : c.args.rows * size ≤ 64 * size = mul-le-mul_right size (omega arith) in
+    omega arith
+
+pub offset_bounds-out-start : goal.offset_bounds-out-start
+offset_bounds-out-start c =
+    let r = c.loop-r.r in
+    let t = c.args.transform in
+    let l = c.args.level in
+    let size = low_size t l + high_size t l in
+    let few : size ≤ 64 = line_few t l in
+    let same : c.low_size-low_size.result + c.high_size.result ≡ size = omega arith in
+    let place : r * (c.low_size-low_size.result + c.high_size.result) ≡ r * size = ap (λ z. r * z) same in
+    let more : (r + 1) * size ≤ c.args.rows * size = mul-le-mul_right size (omega arith) in
+    let small : c.args.rows * size ≤ 64 * size = mul-le-mul_right size (omega arith) in
+    omega arith
+
+pub slice_bounds-smooth_line-end : goal.slice_bounds-smooth_line-end
+slice_bounds-smooth_line-end c =
+    let r = c.loop-r.r in
+    let t = c.args.transform in
+    let l = c.args.level in
+    let size = low_size t l + high_size t l in
+    let few : size ≤ 64 = line_few t l in
+    let same : c.low_size-low_size.result + c.high_size.result ≡ size = omega arith in
+    let place : r * (c.low_size-low_size.result + c.high_size.result) ≡ r * size = ap (λ z. r * z) same in
+    let more : (r + 1) * size ≤ c.args.rows * size = mul-le-mul_right size (omega arith) in
+    let small : c.args.rows * size ≤ 64 * size = mul-le-mul_right size (omega arith) in
+    omega arith

@@ -1,12 +1,14 @@
 //! The client's messages and the choice of a version, their bytes written by hand from the format.
-use gfx_base::{Bytes, Refusal};
+ghost use Rattle.gfx_caps.specs.Spelling.{IsSpellable};
+
+use crate::claiming::claim;
+use gfx_base::{Bytes, Fault, NoMemory, Refusal};
 use gfx_caps::{
-    CapsSet, CapsSets, Chosen, VERSION_8, VERSION_8_1, VERSION_10, choose_version, read_client,
-    small_cache, write_client,
+    CapsSet, CapsSets, Chosen, ClientPdu, VERSION_8, VERSION_8_1, VERSION_10, choose_version,
+    read_client, small_cache, write_client,
 };
-use gfx_pdu::read_pdu;
+use gfx_pdu::{Pdu, read_pdu};
 use std::alloc::Global;
-use std::test::Fail;
 
 /// A message, and its fields as another implementation of the format reads them.
 struct Message {
@@ -30,123 +32,194 @@ const MESSAGES: [Message; 3] = [
     },
 ];
 
-#[test]
-fn each_client_message_is_read_and_written_back(rt: HostRuntime) -> Result<(), Fail> {
-    let alloc = rt.alloc();
-    for message in &MESSAGES {
-        let pdu = read_client(alloc, message.bytes)?;
-        let text = format!(in alloc; "{pdu:?}")?;
-        assert_eq!(rt; text.as_str(), message.text);
-        let mut out = Bytes::new(alloc);
-        write_client(&pdu, &mut out)?;
-        assert_eq!(rt; out.as_slice(), message.bytes);
-    }
-    Ok(())
+/// Whether a message has these fields as its text.
+fn is_told(alloc: Global, pdu: &ClientPdu, text: &str) -> Result<bool, NoMemory> {
+    let told = format!(in alloc; "{pdu:?}")?;
+    Ok(told.as_str() == text)
 }
 
+/// Whether a message is written as these bytes.
+fn is_written(alloc: Global, pdu: &ClientPdu, bytes: &[u8]) -> Result<bool, NoMemory>
+    requires { IsSpellable pdu.now }
+{
+    let mut out = Bytes::new(alloc);
+    write_client(pdu, &mut out)?;
+    Ok(out.as_slice() == bytes)
+}
+
+/// Whether a message has the text and the bytes that are due.
+fn is_right(alloc: Global, pdu: &ClientPdu, message: &Message) -> Result<bool, NoMemory>
+    requires { IsSpellable pdu.now }
+{
+    Ok(is_told(alloc, pdu, message.text)? && is_written(alloc, pdu, message.bytes)?)
+}
+
+/// The first of the messages that isn't read and written back, if one isn't.
+fn first_wrong(alloc: Global) -> Result<Option<&'static str>, Fault> {
+    for message in &MESSAGES {
+        let pdu = read_client(alloc, message.bytes)?;
+        let right = is_right(alloc, &pdu, message);
+        drop(pdu);
+        if !right? {
+            return Ok(Some(message.text));
+        }
+    }
+    Ok(None)
+}
+
+#[test]
+fn each_client_message_is_read_and_written_back(rt: HostRuntime) {
+    assert_eq!(rt; first_wrong(rt.alloc()), Ok(None));
+}
+
+/// A set that is offered: its version, and the bytes of its flags.
+type Set = (u32, &'static [u8]);
+
 /// Puts a set behind others.
-fn offer(alloc: Global, sets: &mut CapsSets, version: u32, flags: &[u8]) -> Result<(), Fail> {
+fn offer(alloc: Global, sets: &mut CapsSets, version: u32, flags: &[u8]) -> Result<(), NoMemory> {
     let mut body = Bytes::new(alloc);
     body.append(flags)?;
     sets.push(CapsSet { version, body })?;
     Ok(())
 }
 
-/// What is chosen of these sets.
-fn chosen_of(alloc: Global, offered: &[(u32, &[u8])]) -> Result<Result<Chosen, Refusal>, Fail> {
-    let mut sets = CapsSets::new(alloc);
+/// Puts these sets behind others.
+fn offer_all(alloc: Global, sets: &mut CapsSets, offered: &[Set]) -> Result<(), NoMemory> {
     for (version, flags) in offered {
-        offer(alloc, &mut sets, *version, flags)?;
+        offer(alloc, sets, *version, flags)?;
     }
-    Ok(choose_version(&sets))
+    Ok(())
 }
 
+/// What is chosen of these sets.
+fn chosen_of(alloc: Global, offered: &[Set]) -> Result<Result<Chosen, Refusal>, NoMemory> {
+    let mut sets = CapsSets::new(alloc);
+    let done = offer_all(alloc, &mut sets, offered);
+    let chosen = choose_version(&sets);
+    drop(sets);
+    done?;
+    Ok(chosen)
+}
+
+/// The version 10 for a small cache.
+const SMALL: Chosen = Chosen {
+    version: VERSION_10,
+    flags: 0x22,
+};
+
 #[test]
-fn versions(rt: HostRuntime) -> Result<(), Fail> {
+fn versions(rt: HostRuntime) {
     let chosen = chosen_of(
         rt.alloc(),
         &[(VERSION_8, b"\x02\0\0\0"), (VERSION_10, b"\x22\0\0\0")],
-    )?;
-    let expected = Chosen {
-        version: VERSION_10,
-        flags: 0x22,
-    };
-    assert_eq!(rt; chosen, Ok(expected));
-    assert!(rt; small_cache(expected));
-    Ok(())
+    );
+    assert_eq!(rt; chosen, Ok(Ok(SMALL)));
+    assert!(rt; small_cache(SMALL));
 }
 
-#[test]
-fn thin_version(rt: HostRuntime) -> Result<(), Fail> {
-    let chosen = chosen_of(rt.alloc(), &[(VERSION_8, b"\x01\0\0\0")])?;
-    let expected = Chosen {
-        version: VERSION_8,
-        flags: 1,
-    };
-    assert_eq!(rt; chosen, Ok(expected));
-    assert!(rt; small_cache(expected));
-    Ok(())
-}
+/// The version 8 for a thin client.
+const THIN: Chosen = Chosen {
+    version: VERSION_8,
+    flags: 1,
+};
 
 #[test]
-fn the_highest_version_that_qualifies(rt: HostRuntime) -> Result<(), Fail> {
-    let table: [(&[(u32, &[u8])], u32, u32); 4] = [
-        // Of version 10 the flag of AVC is kept, and the first set counts.
-        (
-            &[(VERSION_10, b"\xf0\0\0\0"), (VERSION_10, b"\x02\0\0\0")],
-            VERSION_10,
-            0x20,
-        ),
-        // Version 10 is for no thin client; of version 8.1 the flags of the small cache and of thin clients are kept.
-        (
-            &[(VERSION_10, b"\x23\0\0\0"), (VERSION_8_1, b"\x12\0\0\0")],
-            VERSION_8_1,
-            2,
-        ),
-        (
-            &[(VERSION_10, b"\x01\0\0\0"), (VERSION_8_1, b"\xff\0\0\0")],
-            VERSION_8_1,
-            3,
-        ),
-        // A thin client's set of a higher version goes before one of a lower.
-        (
-            &[(VERSION_8, b"\0\0\0\0"), (VERSION_8_1, b"\x01\0\0\0")],
-            VERSION_8_1,
-            1,
-        ),
-    ];
-    for (offered, version, flags) in table {
-        let chosen = chosen_of(rt.alloc(), offered)?;
-        assert_eq!(rt; chosen, Ok(Chosen { version, flags }));
-    }
+fn thin_version(rt: HostRuntime) {
+    let chosen = chosen_of(rt.alloc(), &[(VERSION_8, b"\x01\0\0\0")]);
+    assert_eq!(rt; chosen, Ok(Ok(THIN)));
+    assert!(rt; small_cache(THIN));
+}
+
+/// Sets that are offered, and what is chosen of them.
+struct Choice {
+    offered: &'static [Set],
+    chosen: Result<Chosen, Refusal>,
+}
+
+const CHOICES: [Choice; 5] = [
+    // Of version 10 the flag of AVC is kept, and the first set counts.
+    Choice {
+        offered: &[(VERSION_10, b"\xf0\0\0\0"), (VERSION_10, b"\x02\0\0\0")],
+        chosen: Ok(Chosen {
+            version: VERSION_10,
+            flags: 0x20,
+        }),
+    },
+    // Version 10 is for no thin client; of version 8.1 the flags of the small cache and of thin clients are kept.
+    Choice {
+        offered: &[(VERSION_10, b"\x23\0\0\0"), (VERSION_8_1, b"\x12\0\0\0")],
+        chosen: Ok(Chosen {
+            version: VERSION_8_1,
+            flags: 2,
+        }),
+    },
+    Choice {
+        offered: &[(VERSION_10, b"\x01\0\0\0"), (VERSION_8_1, b"\xff\0\0\0")],
+        chosen: Ok(Chosen {
+            version: VERSION_8_1,
+            flags: 3,
+        }),
+    },
+    // A thin client's set of a higher version goes before one of a lower.
+    Choice {
+        offered: &[(VERSION_8, b"\0\0\0\0"), (VERSION_8_1, b"\x01\0\0\0")],
+        chosen: Ok(Chosen {
+            version: VERSION_8_1,
+            flags: 1,
+        }),
+    },
     // No set qualifies without a word of flags, of another version, or for a thin client of version 10.
-    let none = chosen_of(
-        rt.alloc(),
-        &[
+    Choice {
+        offered: &[
             (VERSION_8, b"\0\0\0"),
             (0x000A_0100, b"\0\0\0\0"),
             (VERSION_10, b"\x01\0\0\0"),
         ],
-    )?;
-    assert_eq!(rt; none, Err(Refusal::CapsVersion));
-    Ok(())
+        chosen: Err(Refusal::CapsVersion),
+    },
+];
+
+/// Whether each choice is the one that is due.
+fn all_are_chosen(alloc: Global) -> Result<bool, Fault> {
+    for choice in &CHOICES {
+        if chosen_of(alloc, choice.offered)? != choice.chosen {
+            return Ok(false);
+        }
+    }
+    Ok(true)
+}
+
+#[test]
+fn the_highest_version_that_qualifies(rt: HostRuntime) {
+    claim(&rt, all_are_chosen(rt.alloc()));
 }
 
 /// The CapsConfirm that answers example *versions*.
 const CONFIRM: &[u8] =
     b"\x13\x00\x00\x00\x14\x00\x00\x00\x02\x00\x0a\x00\x04\x00\x00\x00\x22\x00\x00\x00";
 
+/// Its fields, as another implementation of the format reads them.
+const CONFIRMED: &str = "CapsConfirm { version: 655362, payload: Items { items: [34, 0, 0, 0] } }";
+
+/// Whether a message of the server has these fields as its text.
+fn server_told(alloc: Global, pdu: &Pdu, text: &str) -> Result<bool, NoMemory> {
+    let told = format!(in alloc; "{pdu:?}")?;
+    Ok(told.as_str() == text)
+}
+
+/// Whether the confirmation is read as what it is.
+fn is_confirmed(alloc: Global) -> Result<bool, Fault> {
+    match read_pdu(alloc, CONFIRM, 0)? {
+        Some((pdu, _)) => {
+            let told = server_told(alloc, &pdu, CONFIRMED);
+            drop(pdu);
+            Ok(told?)
+        }
+        None => Ok(false),
+    }
+}
+
 #[test]
-fn the_confirmation_is_a_message_of_the_server(rt: HostRuntime) -> Result<(), Fail> {
-    let alloc = rt.alloc();
-    let Some((pdu, _)) = read_pdu(alloc, CONFIRM, 0)? else {
-        assert!(rt; false, "no message");
-        return Ok(());
-    };
-    let text = format!(in alloc; "{pdu:?}")?;
-    assert_eq!(rt;
-        text.as_str(),
-        "CapsConfirm { version: 655362, payload: Items { items: [34, 0, 0, 0] } }"
-    );
-    Ok(())
+fn the_confirmation_is_a_message_of_the_server(rt: HostRuntime) {
+    claim(&rt, is_confirmed(rt.alloc()));
 }

@@ -1,8 +1,8 @@
 //! Fragments of a dynamic channel: by hand from the format, and as they are written.
-use gfx_base::{Bytes, Fault, Refusal, field_u16};
+use crate::claiming::claim;
+use gfx_base::{Bytes, Fault, NoMemory, Refusal, field_u16};
 use gfx_dvc::{Joiner, split};
 use std::alloc::Global;
-use std::test::Fail;
 
 /// Fragments, the bytes of the messages that they end, and how they end.
 struct Joining {
@@ -110,29 +110,62 @@ fn take(joiner: &mut Joiner, fragment: &[u8], messages: &mut Bytes) -> Result<()
     Ok(())
 }
 
-#[test]
-fn fragments_are_joined(rt: HostRuntime) -> Result<(), Fail> {
-    for joining in &JOININGS {
-        let mut joiner = Joiner::new(rt.alloc());
-        let mut messages = Bytes::new(rt.alloc());
-        let mut refusal = None;
-        for fragment in &joining.fragments {
-            match take(&mut joiner, fragment, &mut messages) {
-                Ok(()) => {}
-                Err(Fault::Refused(reason)) => refusal = Some(reason),
-                Err(Fault::Memory) => assert!(rt; false),
-            }
-        }
-        assert_eq!(rt; messages.as_slice(), joining.messages);
-        match refusal {
-            Some(reason) => {
-                assert!(rt; joining.ending == Err(reason));
-                assert!(rt; joiner.finish().is_ok());
-            }
-            None => assert!(rt; joiner.finish() == joining.ending),
+/// Why the last of the fragments that is refused is so.
+fn refusal(
+    joiner: &mut Joiner,
+    joining: &Joining,
+    messages: &mut Bytes,
+) -> Result<Option<Refusal>, Fault> {
+    let mut refusal = None;
+    for fragment in &joining.fragments {
+        match take(joiner, fragment, messages) {
+            Ok(()) => {}
+            Err(Fault::Refused(reason)) => refusal = Some(reason),
+            Err(Fault::Memory) => return Err(Fault::Memory),
         }
     }
-    Ok(())
+    Ok(refusal)
+}
+
+/// Whether fragments end as is due. A refusal is told once.
+fn ends(joiner: &Joiner, refusal: Option<Refusal>, ending: Result<(), Refusal>) -> bool {
+    match refusal {
+        Some(reason) => ending == Err(reason) && joiner.finish() == Ok(()),
+        None => joiner.finish() == ending,
+    }
+}
+
+/// Whether these are the bytes of the messages.
+fn hold(messages: &Bytes, due: &[u8]) -> bool {
+    messages.as_slice() == due
+}
+
+/// Whether a new joiner makes these messages of the fragments, and ends so.
+fn is_joined(joiner: &mut Joiner, messages: &mut Bytes, joining: &Joining) -> Result<bool, Fault> {
+    let refusal = refusal(joiner, joining, messages)?;
+    Ok(hold(messages, joining.messages) && ends(joiner, refusal, joining.ending))
+}
+
+/// The same, where joiner and messages are made and let go of.
+fn joins(alloc: Global, joining: &Joining) -> Result<bool, Fault> {
+    let mut joiner = Joiner::new(alloc);
+    let mut messages = Bytes::new(alloc);
+    is_joined(&mut joiner, &mut messages, joining)
+}
+
+/// Whether all fragments are joined as is due.
+fn all_are_joined(alloc: Global) -> Result<bool, Fault> {
+    for joining in &JOININGS {
+        if !joins(alloc, joining)? {
+            return Ok(false);
+        }
+    }
+    Ok(true)
+}
+
+#[test]
+fn fragments_are_joined(rt: HostRuntime) {
+    claim(&rt, all_are_joined(rt.alloc()));
 }
 
 /// A message of so many bytes as it is written: how many fragments it has, how the first of them begins behind its
@@ -205,7 +238,7 @@ const CUTTINGS: [Cutting; 8] = [
 ];
 
 /// A message of so many bytes.
-fn message_of(alloc: Global, size: usize) -> Result<Bytes, Fail> {
+fn message_of(alloc: Global, size: usize) -> Result<Bytes, NoMemory> {
     let mut message = Bytes::new(alloc);
     for at in 0..size {
         message.push((at % 251) as u8)?;
@@ -213,40 +246,108 @@ fn message_of(alloc: Global, size: usize) -> Result<Bytes, Fail> {
     Ok(message)
 }
 
-#[test]
-fn a_message_is_cut_and_joined_again(rt: HostRuntime) -> Result<(), Fail> {
-    for cutting in &CUTTINGS {
-        let message = message_of(rt.alloc(), cutting.size)?;
-        assert!(rt; message.len() == cutting.size);
-        assert!(rt; message.len() > 0 && message.len() < 70_000);
-        let mut out = Bytes::new(rt.alloc());
-        split(message.as_slice(), &mut out)?;
-        let mut joiner = Joiner::new(rt.alloc());
-        let mut messages = Bytes::new(rt.alloc());
-        let mut rest = out.as_slice();
-        let mut sizes = Vec::new(rt.alloc());
-        let limit = rest.len();
-        for _ in 0..limit {
-            let Some(size) = field_u16(rest, 0) else {
-                break;
-            };
-            let (_, behind) = rest.split_at(2);
-            let size = usize::from(size);
-            assert!(rt; size <= behind.len());
-            let (fragment, after) = behind.split_at(size);
-            if sizes.is_empty() {
-                assert!(rt; fragment.starts_with(cutting.head));
-            }
-            sizes.push(size)?;
-            assert!(rt; take(&mut joiner, fragment, &mut messages).is_ok());
-            rest = after;
-        }
-        assert!(rt; rest.is_empty());
-        assert_eq!(rt; sizes.len(), cutting.count);
-        assert!(rt; sizes.first() == Some(&cutting.first));
-        assert!(rt; sizes.last() == Some(&cutting.last));
-        assert!(rt; joiner.finish().is_ok());
-        assert_eq!(rt; messages.as_slice(), message.as_slice());
+/// The fragments of a message, each behind its length. None is made where it has too few bytes or too many.
+fn fragments_of(alloc: Global, message: &[u8]) -> Result<Bytes, NoMemory> {
+    let mut out = Bytes::new(alloc);
+    if message.len() > 0 && message.len() < 70_000 {
+        split(message, &mut out)?;
     }
-    Ok(())
+    Ok(out)
+}
+
+/// The first of fragments that stand each behind its length, and the others.
+fn first_fragment(fragments: &[u8]) -> Option<(&[u8], &[u8])> {
+    let size = usize::from(field_u16(fragments, 0)?);
+    let (_, behind) = fragments.split_at(2);
+    if size > behind.len() {
+        return None;
+    }
+    Some(behind.split_at(size))
+}
+
+/// How many fragments there are, and how long the first and the last are.
+#[derive(Clone, Copy, PartialEq, Eq)]
+struct Sizes {
+    count: usize,
+    first: usize,
+    last: usize,
+}
+
+impl Sizes {
+    /// The sizes where a fragment of this size comes behind the others.
+    fn with(self, size: usize) -> Sizes {
+        Sizes {
+            count: self.count.saturating_add(1),
+            first: if self.count == 0 { size } else { self.first },
+            last: size,
+        }
+    }
+}
+
+/// Joins fragments that stand each behind its length, and answers their sizes; none where a byte is left.
+fn sizes_joined(
+    joiner: &mut Joiner,
+    fragments: &[u8],
+    messages: &mut Bytes,
+) -> Result<Option<Sizes>, Fault> {
+    let mut sizes = Sizes {
+        count: 0,
+        first: 0,
+        last: 0,
+    };
+    let mut rest = fragments;
+    for _ in 0..fragments.len() {
+        let Some((fragment, after)) = first_fragment(rest) else {
+            break;
+        };
+        sizes = sizes.with(fragment.len());
+        take(joiner, fragment, messages)?;
+        rest = after;
+    }
+    Ok(if rest.is_empty() { Some(sizes) } else { None })
+}
+
+/// Whether these fragments are cut so, and join to the message again.
+fn is_cut(
+    joiner: &mut Joiner,
+    messages: &mut Bytes,
+    fragments: &[u8],
+    cutting: &Cutting,
+) -> Result<bool, Fault> {
+    let sizes = sizes_joined(joiner, fragments, messages)?;
+    let due = Sizes {
+        count: cutting.count,
+        first: cutting.first,
+        last: cutting.last,
+    };
+    let Some((first, _)) = first_fragment(fragments) else {
+        return Ok(false);
+    };
+    Ok(sizes == Some(due) && first.starts_with(cutting.head) && joiner.finish() == Ok(()))
+}
+
+/// The same of the fragments of this message, where they, joiner and messages are made and let go of.
+fn cuts(alloc: Global, message: &[u8], cutting: &Cutting) -> Result<bool, Fault> {
+    let fragments = fragments_of(alloc, message)?;
+    let mut joiner = Joiner::new(alloc);
+    let mut messages = Bytes::new(alloc);
+    let cut = is_cut(&mut joiner, &mut messages, fragments.as_slice(), cutting);
+    let same = message.len() == cutting.size && messages.as_slice() == message;
+    if same { cut } else { Ok(false) }
+}
+
+/// Whether all messages are cut as is due, and joined again.
+fn all_are_cut(alloc: Global) -> Result<bool, Fault> {
+    for cutting in &CUTTINGS {
+        let message = message_of(alloc, cutting.size)?;
+        if !cuts(alloc, message.as_slice(), cutting)? {
+            return Ok(false);
+        }
+    }
+    Ok(true)
+}
+
+#[test]
+fn a_message_is_cut_and_joined_again(rt: HostRuntime) {
+    claim(&rt, all_are_cut(rt.alloc()));
 }

@@ -6,7 +6,11 @@
 #[cfg(test)]
 mod bitmaps;
 #[cfg(test)]
+mod building;
+#[cfg(test)]
 mod caps;
+#[cfg(test)]
+mod claiming;
 #[cfg(test)]
 mod fragments;
 #[cfg(test)]

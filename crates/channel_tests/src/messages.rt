@@ -1,8 +1,9 @@
 //! The fifteen messages, their bytes written by hand from the format.
-use gfx_base::{Bytes, NoMemory};
-use gfx_pdu::{read_pdu, write_pdu};
+ghost use Rattle.gfx_pdu.specs.Spelling.{IsSpellable};
+
+use gfx_base::{Bytes, Fault, NoMemory};
+use gfx_pdu::{Pdu, read_pdu, write_pdu};
 use std::alloc::Global;
-use std::test::Fail;
 
 /// A message, and its fields as another implementation of the format reads them.
 struct Message {
@@ -100,22 +101,52 @@ fn bytes_of(alloc: Global, bytes: &[u8], zeros: usize) -> Result<Bytes, NoMemory
     Ok(all)
 }
 
-#[test]
-fn each_message_is_read_and_written_back(rt: HostRuntime) -> Result<(), Fail> {
-    let alloc = rt.alloc();
+/// Whether a message has these fields as its text.
+fn is_told(alloc: Global, pdu: &Pdu, text: &str) -> Result<bool, NoMemory> {
+    let told = format!(in alloc; "{pdu:?}")?;
+    Ok(told.as_str() == text)
+}
+
+/// Whether a message is written as these bytes.
+fn is_written(alloc: Global, pdu: &Pdu, bytes: &[u8]) -> Result<bool, NoMemory>
+    requires { IsSpellable pdu.now }
+{
+    let mut out = Bytes::new(alloc);
+    write_pdu(pdu, &mut out)?;
+    Ok(out.as_slice() == bytes)
+}
+
+/// Whether a message has this text and these bytes.
+fn is_right(alloc: Global, pdu: &Pdu, text: &str, bytes: &[u8]) -> Result<bool, NoMemory>
+    requires { IsSpellable pdu.now }
+{
+    Ok(is_told(alloc, pdu, text)? && is_written(alloc, pdu, bytes)?)
+}
+
+/// Whether bytes are one message with this text, and it is written as they are.
+fn stand_for(alloc: Global, bytes: &[u8], text: &str) -> Result<bool, Fault> {
+    match read_pdu(alloc, bytes, 0)? {
+        Some((pdu, after)) => {
+            let right = is_right(alloc, &pdu, text, bytes);
+            drop(pdu);
+            Ok(after == bytes.len() && right?)
+        }
+        None => Ok(false),
+    }
+}
+
+/// The first of the messages that isn't read and written back, if one isn't.
+fn first_wrong(alloc: Global) -> Result<Option<&'static str>, Fault> {
     for message in &MESSAGES {
-        let whole = bytes_of(alloc, message.bytes, message.zeros)?;
-        match read_pdu(alloc, whole.as_slice(), 0)? {
-            None => assert!(rt; false, "no message: {}", message.text),
-            Some((pdu, after)) => {
-                assert_eq!(rt; after, whole.len());
-                let text = format!(in alloc; "{pdu:?}")?;
-                assert_eq!(rt; text.as_str(), message.text);
-                let mut out = Bytes::new(alloc);
-                write_pdu(&pdu, &mut out)?;
-                assert_eq!(rt; out.as_slice(), whole.as_slice());
-            }
+        let bytes = bytes_of(alloc, message.bytes, message.zeros)?;
+        if !stand_for(alloc, bytes.as_slice(), message.text)? {
+            return Ok(Some(message.text));
         }
     }
-    Ok(())
+    Ok(None)
+}
+
+#[test]
+fn each_message_is_read_and_written_back(rt: HostRuntime) {
+    assert_eq!(rt; first_wrong(rt.alloc()), Ok(None));
 }

@@ -1,9 +1,9 @@
 //! A client that is given frames, what it says to the server, and one at the limit of surfaces.
-use gfx_base::{Bytes, NoMemory, Refusal};
+use crate::claiming::claim;
+use gfx_base::{Bytes, Fault, NoMemory, Refusal};
 use gfx_caps::{VERSION_8_1, VERSION_10};
 use gfx_client::{Client, ClientFault, Offer, Offers, Stepped};
 use std::alloc::Global;
-use std::test::Fail;
 
 /// One red surface in one frame.
 const FILL: [u8; 91] = [
@@ -23,54 +23,67 @@ fn new_client(alloc: Global) -> Result<Client, NoMemory> {
 }
 
 /// What a client made of the bytes that it was given.
-#[derive(Drop)]
+#[derive(Clone, Copy, Debug, PartialEq, Eq)]
 struct Played {
     applied: u64,
     has_surface: bool,
     takes_slot: bool,
-    replies: Bytes,
     needs: bool,
 }
 
-/// Gives bytes to a new client, and lets go of it at one place.
-fn bytes_played(alloc: Global, bytes: &[u8]) -> Result<Played, Fail> {
-    let mut client = new_client(alloc)?;
-    let played = play(alloc, &mut client, bytes);
+/// Gives bytes to a new client, and lets go of it at one place. Its answers are gathered.
+fn bytes_played(alloc: Global, bytes: &[u8], replies: &mut Bytes) -> Result<Played, ClientFault> {
+    let Ok(mut client) = new_client(alloc) else {
+        return Err(ClientFault::Memory);
+    };
+    let played = play(&mut client, bytes, replies);
     client.let_go();
     played
 }
 
-fn play(alloc: Global, client: &mut Client, bytes: &[u8]) -> Result<Played, Fail> {
-    let mut replies = Bytes::new(alloc);
+fn play(client: &mut Client, bytes: &[u8], replies: &mut Bytes) -> Result<Played, ClientFault> {
     client.take(bytes)?;
-    step_on(client, &mut replies)?;
+    step_on(client, replies)?;
     Ok(Played {
         applied: client.applied(),
         has_surface: client.surfaces().contains(1),
         takes_slot: client.cache().takes_slot(1),
-        replies,
-        needs: needs(client.step()?),
+        needs: needs(&client.step()?),
     })
 }
 
 /// Applies messages until more bytes are needed, ten at most, and gathers what the server is told of them.
-fn step_on(client: &mut Client, replies: &mut Bytes) -> Result<(), Fail> {
+fn step_on(client: &mut Client, replies: &mut Bytes) -> Result<(), ClientFault> {
     for _ in 0..10 {
-        match client.step()? {
-            Stepped::Need => break,
-            Stepped::Applied { .. } => {}
-            Stepped::Ended { reply, .. } => replies.append(reply.as_slice())?,
+        let stepped = client.step()?;
+        if needs(&stepped) {
+            break;
+        }
+        if !is_gathered(&stepped, replies) {
+            return Err(ClientFault::Memory);
         }
     }
     Ok(())
 }
 
 /// Whether a step found no whole message.
-fn needs(stepped: Stepped) -> bool {
+fn needs(stepped: &Stepped) -> bool {
+    matches!(stepped, Stepped::Need)
+}
+
+/// Puts what the server is told of a step behind what it was told before. There may be no memory for it.
+fn is_gathered(stepped: &Stepped, replies: &mut Bytes) -> bool {
     match stepped {
-        Stepped::Need => true,
-        Stepped::Applied { .. } | Stepped::Ended { .. } => false,
+        Stepped::Ended { reply, .. } => replies.append(reply.as_slice()).is_ok(),
+        Stepped::Applied { .. } | Stepped::Need => true,
     }
+}
+
+/// What a new client makes of these bytes, and whether these are its answers.
+fn answered(alloc: Global, bytes: &[u8], answers: &[u8]) -> (Result<Played, ClientFault>, bool) {
+    let mut replies = Bytes::new(alloc);
+    let played = bytes_played(alloc, bytes, &mut replies);
+    (played, replies.as_slice() == answers)
 }
 
 /// FrameAcknowledge of frame 1, the first that is decoded: nothing waits.
@@ -79,14 +92,16 @@ const ACKNOWLEDGED: [u8; 24] = [
 ];
 
 #[test]
-fn a_frame_is_stepped_through(rt: HostRuntime) -> Result<(), Fail> {
-    let played = bytes_played(rt.alloc(), &FILL)?;
-    assert_eq!(rt; played.applied, 4);
-    assert!(rt; played.has_surface);
-    assert!(rt; played.takes_slot);
-    assert_eq!(rt; played.replies.as_slice(), ACKNOWLEDGED.as_slice());
-    assert!(rt; played.needs);
-    Ok(())
+fn a_frame_is_stepped_through(rt: HostRuntime) {
+    let (played, same) = answered(rt.alloc(), &FILL, &ACKNOWLEDGED);
+    let due = Played {
+        applied: 4,
+        has_surface: true,
+        takes_slot: true,
+        needs: true,
+    };
+    assert_eq!(rt; played, Ok(due));
+    assert!(rt; same);
 }
 
 /// Two frames that draw nothing.
@@ -110,10 +125,9 @@ const BOTH_ACKNOWLEDGED: [u8; 48] = [
 ];
 
 #[test]
-fn each_frame_is_acknowledged(rt: HostRuntime) -> Result<(), Fail> {
-    let played = bytes_played(rt.alloc(), &FRAMES)?;
-    assert_eq!(rt; played.replies.as_slice(), BOTH_ACKNOWLEDGED.as_slice());
-    Ok(())
+fn each_frame_is_acknowledged(rt: HostRuntime) {
+    let (played, same) = answered(rt.alloc(), &FRAMES, &BOTH_ACKNOWLEDGED);
+    assert!(rt; played.is_ok() && same);
 }
 
 /// CapsAdvertise of version 10 with the small cache and without AVC.
@@ -126,33 +140,60 @@ const THIN_HELLO: [u8; 26] = [
     0x16, 0, 0, 0, 0x12, 0, 0, 0, 0x16, 0, 0, 0, 1, 0, 5, 1, 8, 0, 4, 0, 0, 0, 1, 0, 0, 0,
 ];
 
-/// What a client with one offer says first.
-fn hello_of(alloc: Global, offer: Offer) -> Result<Bytes, Fail> {
+/// What a client offers, and what it says first.
+const HELLOS: [(Offer, &[u8]); 2] = [
+    (
+        Offer {
+            version: VERSION_10,
+            small: true,
+            thin: false,
+        },
+        &HELLO,
+    ),
+    (
+        Offer {
+            version: VERSION_8_1,
+            small: false,
+            thin: true,
+        },
+        &THIN_HELLO,
+    ),
+];
+
+/// A client with one offer.
+fn offering(alloc: Global, offer: Offer) -> Result<Client, NoMemory> {
     let mut offers = Offers::new(alloc);
     offers.push(offer)?;
-    let client = Client::new(alloc, offers)?;
-    let hello = client.hello();
+    Client::new(alloc, offers)
+}
+
+/// Whether a client says this first.
+fn says(client: &Client, due: &[u8]) -> Result<bool, NoMemory> {
+    let hello = client.hello()?;
+    Ok(hello.as_slice() == due)
+}
+
+/// Whether a client with this offer says this first.
+fn offers(alloc: Global, offer: Offer, due: &[u8]) -> Result<bool, NoMemory> {
+    let client = offering(alloc, offer)?;
+    let said = says(&client, due);
     client.let_go();
-    Ok(hello?)
+    said
+}
+
+/// Whether each client says what is due.
+fn all_are_offered(alloc: Global) -> Result<bool, Fault> {
+    for (offer, hello) in &HELLOS {
+        if !offers(alloc, *offer, hello)? {
+            return Ok(false);
+        }
+    }
+    Ok(true)
 }
 
 #[test]
-fn a_client_offers_its_versions(rt: HostRuntime) -> Result<(), Fail> {
-    let small = Offer {
-        version: VERSION_10,
-        small: true,
-        thin: false,
-    };
-    let thin = Offer {
-        version: VERSION_8_1,
-        small: false,
-        thin: true,
-    };
-    for (offer, bytes) in [(small, &HELLO), (thin, &THIN_HELLO)] {
-        let hello = hello_of(rt.alloc(), offer)?;
-        assert_eq!(rt; hello.as_slice(), bytes.as_slice());
-    }
-    Ok(())
+fn a_client_offers_its_versions(rt: HostRuntime) {
+    claim(&rt, all_are_offered(rt.alloc()));
 }
 
 /// A surface of 8,192 by 8,192 takes all cells; one of 1 by 1 is then too many.
@@ -164,7 +205,9 @@ const FULL: [u8; 42] = [
 ];
 
 /// The fault of the second message, and that of the end behind it.
-fn overfill(client: &mut Client) -> Result<Option<(ClientFault, Option<ClientFault>)>, Fail> {
+type Faults = Option<(ClientFault, Option<ClientFault>)>;
+
+fn overfill(client: &mut Client) -> Result<Faults, ClientFault> {
     client.take(&FULL)?;
     client.step()?;
     match client.step() {
@@ -173,18 +216,19 @@ fn overfill(client: &mut Client) -> Result<Option<(ClientFault, Option<ClientFau
     }
 }
 
-fn overfilled(alloc: Global) -> Result<Option<(ClientFault, Option<ClientFault>)>, Fail> {
-    let mut client = new_client(alloc)?;
+fn overfilled(alloc: Global) -> Result<Faults, ClientFault> {
+    let Ok(mut client) = new_client(alloc) else {
+        return Err(ClientFault::Memory);
+    };
     let faults = overfill(&mut client);
     client.let_go();
     faults
 }
 
 #[test]
-fn surface_budget(rt: HostRuntime) -> Result<(), Fail> {
+fn surface_budget(rt: HostRuntime) {
     let (number, refusal) = (2, Refusal::SurfaceBudget);
     let second = ClientFault::Refused { number, refusal };
     let end = ClientFault::ClosedRefused { number, refusal };
-    assert_eq!(rt; overfilled(rt.alloc())?, Some((second, Some(end))));
-    Ok(())
+    assert_eq!(rt; overfilled(rt.alloc()), Ok(Some((second, Some(end)))));
 }

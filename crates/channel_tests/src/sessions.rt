@@ -2,7 +2,7 @@
 use gfx_caps::{Offer, VERSION_8, VERSION_8_1, VERSION_10};
 use gfx_script::{Entropy, Script, ScriptKind, Turn};
 use gfx_script_text::{ScriptError, read_script};
-use std::test::Fail;
+use std::alloc::Global;
 
 /// A script, and what it says of its session.
 struct Case {
@@ -109,27 +109,55 @@ fn turn_at(turns: &[Turn], at: u32) -> Option<Turn> {
     turns.get(at as usize).copied()
 }
 
-#[test]
-fn what_scripts_say_of_their_sessions(rt: HostRuntime) -> Result<(), Fail> {
-    for case in &CASES {
-        let Ok(script) = read_script(rt.alloc(), case.script.as_bytes()) else {
-            assert!(rt; false, "no script");
-            return Ok(());
-        };
-        assert_eq!(rt;
-            (script.window(), script.small()),
-            (case.window, case.small)
-        );
-        assert_eq!(rt;
-            (script.thin(), script.entropy()),
-            (case.thin, case.entropy)
-        );
-        assert!(rt; script.offers().as_slice() == case.offers);
-        for at in 0..4 {
-            assert_eq!(rt; script.turn(at), turn_at(case.turns, at));
+/// Lets go of a script, which is proved once here.
+fn let_go(script: Script) {
+    drop(script);
+}
+
+/// Whether a script has these turns first, four at most.
+fn has_turns(script: &Script, turns: &[Turn]) -> bool {
+    for at in 0..4 {
+        if script.turn(at) != turn_at(turns, at) {
+            return false;
         }
     }
-    Ok(())
+    true
+}
+
+/// Whether these are the versions that the client of a script offers.
+fn has_offers(script: &Script, offers: &[Offer]) -> bool {
+    script.offers().as_slice() == offers
+}
+
+/// Whether a script says what is due of its session.
+fn says(script: &Script, case: &Case) -> bool {
+    (script.window(), script.small()) == (case.window, case.small)
+        && (script.thin(), script.entropy()) == (case.thin, case.entropy)
+        && has_offers(script, case.offers)
+        && has_turns(script, case.turns)
+}
+
+/// Whether the script of a case says what is due.
+fn is_read(alloc: Global, case: &Case) -> Result<bool, ScriptError> {
+    let script = read_script(alloc, case.script.as_bytes())?;
+    let right = says(&script, case);
+    let_go(script);
+    Ok(right)
+}
+
+/// Whether each script says what is due.
+fn all_are_read(alloc: Global) -> Result<bool, ScriptError> {
+    for case in &CASES {
+        if !is_read(alloc, case)? {
+            return Ok(false);
+        }
+    }
+    Ok(true)
+}
+
+#[test]
+fn what_scripts_say_of_their_sessions(rt: HostRuntime) {
+    assert_eq!(rt; all_are_read(rt.alloc()), Ok(true));
 }
 
 /// Scripts with one fault or more, and the kind of the first one. None of them is told of a step.
@@ -158,18 +186,31 @@ const FAULTS: [(&str, ScriptKind); 12] = [
 ];
 
 /// Why a script isn't read, if it isn't.
-fn fault_of(read: Result<Script, ScriptError>) -> Option<ScriptError> {
-    match read {
-        Ok(_) => None,
+fn fault_of(alloc: Global, script: &str) -> Option<ScriptError> {
+    match read_script(alloc, script.as_bytes()) {
+        Ok(script) => {
+            let_go(script);
+            None
+        }
         Err(error) => Some(error),
     }
 }
 
-#[test]
-fn the_first_fault_outside_the_steps_is_told(rt: HostRuntime) -> Result<(), Fail> {
-    for (script, kind) in FAULTS {
-        let fault = fault_of(read_script(rt.alloc(), script.as_bytes()));
-        assert_eq!(rt; fault, Some(ScriptError::Fault { step: 0, kind }));
+/// The first of the scripts whose fault isn't the one that is due, if there is one.
+fn first_wrong(alloc: Global) -> Option<&'static str> {
+    for (script, kind) in &FAULTS {
+        let due = ScriptError::Fault {
+            step: 0,
+            kind: *kind,
+        };
+        if fault_of(alloc, script) != Some(due) {
+            return Some(*script);
+        }
     }
-    Ok(())
+    None
+}
+
+#[test]
+fn the_first_fault_outside_the_steps_is_told(rt: HostRuntime) {
+    assert_eq!(rt; first_wrong(rt.alloc()), None);
 }

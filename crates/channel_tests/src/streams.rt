@@ -3,7 +3,6 @@ use gfx_base::{Failed, Sink, Source, write_all};
 use gfx_streams::{StdSink, StdSource};
 use std::io;
 use std::io::{Error, ErrorKind, Read, Write};
-use std::test::Fail;
 
 /// A reader that gives its count of calls, is interrupted at the second and fails at the third.
 #[derive(Drop)]

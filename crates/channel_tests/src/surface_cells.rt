@@ -1,9 +1,9 @@
 //! Surfaces by cells: copies in all directions across part cells against a plain program row by row,
 //! sides at and around a cell's, and what views leave.
+use crate::claiming::claim;
 use gfx_base::{BYTES_PER_PIXEL, Cell, Fault, Format, Pixel, Point, Rect, fits_at};
 use gfx_surface::Surface;
 use std::alloc::Global;
-use std::test::Fail;
 
 const DOT: Pixel = Pixel {
     b: 1,
@@ -190,189 +190,320 @@ fn shows(alloc: Global, surface: &Surface, plain: &Plain) -> Result<bool, Fault>
     Ok(same && all == plain.pixels)
 }
 
-#[test]
-fn copies_in_all_directions(rt: HostRuntime) -> Result<(), Fail> {
-    let rect = Rect {
-        left: 20,
-        top: 10,
-        right: 120,
-        bottom: 60,
-    };
-    for x in [0, 1, 19, 20, 21, 29, 30] {
-        for y in [0, 9, 10, 11, 20] {
-            let to = Point { x, y };
-            let mut plain = picture(rt.alloc(), 130, 70, Format::Xrgb)?;
-            let before = picture(rt.alloc(), 130, 70, Format::Xrgb)?;
-            let mut surface = surface_of(rt.alloc(), &plain, Format::Xrgb)?;
-            copy_within(&mut surface, rect, to);
-            plain.copy(&before, rect, to, Format::Xrgb);
-            assert!(rt; shows(rt.alloc(), &surface, &plain)?, "to {x}, {y}");
+/// Whether a copy within a surface does what a plain program does.
+fn copies_within(alloc: Global, rect: Rect, to: Point, format: Format) -> Result<bool, Fault> {
+    let before = picture(alloc, 130, 70, format)?;
+    let mut plain = picture(alloc, 130, 70, format)?;
+    let mut surface = surface_of(alloc, &plain, format)?;
+    copy_within(&mut surface, rect, to);
+    plain.copy(&before, rect, to, format);
+    shows(alloc, &surface, &plain)
+}
+
+/// A rectangle that lies across cells.
+const ACROSS: Rect = Rect {
+    left: 20,
+    top: 10,
+    right: 120,
+    bottom: 60,
+};
+
+/// The first point of a column to which a copy is wrong, if there is one.
+fn first_wrong_below(alloc: Global, x: u16) -> Result<Option<Point>, Fault> {
+    for y in &[0, 9, 10, 11, 20] {
+        let to = Point { x, y: *y };
+        if !copies_within(alloc, ACROSS, to, Format::Xrgb)? {
+            return Ok(Some(to));
         }
     }
-    Ok(())
+    Ok(None)
+}
+
+/// The first point to which a copy is wrong, if there is one.
+fn first_wrong(alloc: Global) -> Result<Option<Point>, Fault> {
+    for x in &[0, 1, 19, 20, 21, 29, 30] {
+        let wrong = first_wrong_below(alloc, *x)?;
+        if wrong.is_some() {
+            return Ok(wrong);
+        }
+    }
+    Ok(None)
 }
 
 #[test]
-fn copies_between_surfaces(rt: HostRuntime) -> Result<(), Fail> {
-    let rect = Rect {
-        left: 33,
-        top: 5,
-        right: 97,
-        bottom: 69,
-    };
-    for (x, y) in [(0, 0), (64, 64), (1, 63), (100, 30), (33, 5)] {
-        let to = Point { x, y };
-        for format in [Format::Xrgb, Format::Argb] {
-            let from = picture(rt.alloc(), 130, 70, Format::Argb)?;
-            let mut plain = picture(rt.alloc(), 200, 140, format)?;
-            let source = surface_of(rt.alloc(), &from, Format::Argb)?;
-            let mut surface = surface_of(rt.alloc(), &plain, format)?;
-            copy_from(&mut surface, &source, rect, to);
-            plain.copy(&from, rect, to, format);
-            assert!(rt; shows(rt.alloc(), &surface, &plain)?, "to {x}, {y}");
+fn copies_in_all_directions(rt: HostRuntime) {
+    assert_eq!(rt; first_wrong(rt.alloc()), Ok(None));
+}
+
+/// A rectangle of a cell's sides, elsewhere than a cell.
+const SHIFTED: Rect = Rect {
+    left: 33,
+    top: 5,
+    right: 97,
+    bottom: 69,
+};
+
+/// Whether a copy of `SHIFTED` to a surface does what a plain program does.
+fn copies_from(
+    alloc: Global,
+    source: &Surface,
+    from: &Plain,
+    plain: &mut Plain,
+    to: Point,
+    format: Format,
+) -> Result<bool, Fault> {
+    let mut surface = surface_of(alloc, plain, format)?;
+    copy_from(&mut surface, source, SHIFTED, to);
+    plain.copy(from, SHIFTED, to, format);
+    shows(alloc, &surface, plain)
+}
+
+/// The same from a surface to one of a format.
+fn copies_between(alloc: Global, to: Point, format: Format) -> Result<bool, Fault> {
+    let from = picture(alloc, 130, 70, Format::Argb)?;
+    let mut plain = picture(alloc, 200, 140, format)?;
+    let source = surface_of(alloc, &from, Format::Argb)?;
+    copies_from(alloc, &source, &from, &mut plain, to, format)
+}
+
+/// The first point to which a copy between surfaces is wrong, if there is one.
+fn first_wrong_between(alloc: Global) -> Result<Option<Point>, Fault> {
+    for (x, y) in &[(0, 0), (64, 64), (1, 63), (100, 30), (33, 5)] {
+        let to = Point { x: *x, y: *y };
+        let opaque = copies_between(alloc, to, Format::Xrgb)?;
+        if !opaque || !copies_between(alloc, to, Format::Argb)? {
+            return Ok(Some(to));
         }
     }
-    Ok(())
+    Ok(None)
 }
 
 #[test]
-fn sides_around_cells(rt: HostRuntime) -> Result<(), Fail> {
-    for (width, height) in [(1, 1), (64, 64), (65, 64), (63, 129), (8192, 3)] {
-        for format in [Format::Xrgb, Format::Argb] {
-            let mut plain = picture(rt.alloc(), width, height, format)?;
-            let mut surface = surface_of(rt.alloc(), &plain, format)?;
-            assert!(rt; shows(rt.alloc(), &surface, &plain)?, "{width} by {height}");
-            let piece = Rect {
-                left: width / 3,
-                top: height / 3,
-                right: width - width / 4,
-                bottom: height,
-            };
-            fill(&mut surface, piece, DOT);
-            plain.fill(piece, DOT);
-            assert!(rt;
-                shows(rt.alloc(), &surface, &plain)?,
-                "filled {width} by {height}"
-            );
-            let pixels = plain.rect(rt.alloc(), piece)?;
-            let mut bytes = Vec::new(rt.alloc());
-            for pixel in &pixels {
-                for byte in [pixel.r, pixel.g, pixel.b, pixel.a] {
-                    bytes.push(byte)?;
-                }
+fn copies_between_surfaces(rt: HostRuntime) {
+    assert_eq!(rt; first_wrong_between(rt.alloc()), Ok(None));
+}
+
+/// The bytes of pixels, red first.
+fn bytes_of(alloc: Global, pixels: &[Pixel]) -> Result<Vec<u8>, Fault> {
+    let mut bytes = Vec::new(alloc);
+    for pixel in pixels {
+        bytes.extend_from_slice(&[pixel.r, pixel.g, pixel.b, pixel.a])?;
+    }
+    Ok(bytes)
+}
+
+/// Fills a piece of a surface and of its picture.
+fn fill_both(surface: &mut Surface, plain: &mut Plain, piece: Rect) {
+    fill(surface, piece, DOT);
+    plain.fill(piece, DOT);
+}
+
+/// Puts data on a piece of a surface, and the same on its picture: what is there, with red for blue.
+fn put_both(
+    alloc: Global,
+    surface: &mut Surface,
+    plain: &mut Plain,
+    piece: Rect,
+) -> Result<(), Fault> {
+    let pixels = plain.rect(alloc, piece)?;
+    let bytes = bytes_of(alloc, &pixels)?;
+    put_bytes(surface, piece, &bytes);
+    plain.fill(piece, Pixel { b: 3, r: 1, ..DOT });
+    Ok(())
+}
+
+/// Behind what a surface isn't as its picture, if it isn't: once it is made, filled or put.
+fn what_is_wrong(
+    alloc: Global,
+    surface: &mut Surface,
+    plain: &mut Plain,
+    piece: Rect,
+) -> Result<Option<&'static str>, Fault> {
+    if !shows(alloc, surface, plain)? {
+        return Ok(Some("made"));
+    }
+    fill_both(surface, plain, piece);
+    if !shows(alloc, surface, plain)? {
+        return Ok(Some("filled"));
+    }
+    put_both(alloc, surface, plain, piece)?;
+    if !shows(alloc, surface, plain)? {
+        return Ok(Some("put"));
+    }
+    Ok(None)
+}
+
+/// The same of a surface of these sides.
+fn wrong_with(
+    alloc: Global,
+    width: u16,
+    height: u16,
+    format: Format,
+) -> Result<Option<&'static str>, Fault> {
+    let piece = Rect {
+        left: width / 3,
+        top: height / 3,
+        right: width - width / 4,
+        bottom: height,
+    };
+    let mut plain = picture(alloc, width, height, format)?;
+    let mut surface = surface_of(alloc, &plain, format)?;
+    what_is_wrong(alloc, &mut surface, &mut plain, piece)
+}
+
+/// Sides at and around a cell's.
+const SIDES: [(u16, u16); 5] = [(1, 1), (64, 64), (65, 64), (63, 129), (8192, 3)];
+
+/// The first sides with which a surface is wrong, and behind what, if there are any.
+fn first_wrong_sides(alloc: Global) -> Result<Option<(u16, u16, &'static str)>, Fault> {
+    for (width, height) in &SIDES {
+        for format in &[Format::Xrgb, Format::Argb] {
+            if let Some(wrong) = wrong_with(alloc, *width, *height, *format)? {
+                return Ok(Some((*width, *height, wrong)));
             }
-            put_bytes(&mut surface, piece, &bytes);
-            plain.fill(piece, Pixel { b: 3, r: 1, ..DOT });
-            assert!(rt;
-                shows(rt.alloc(), &surface, &plain)?,
-                "put {width} by {height}"
-            );
         }
     }
-    Ok(())
+    Ok(None)
 }
 
 #[test]
-fn wide_copy(rt: HostRuntime) -> Result<(), Fail> {
+fn sides_around_cells(rt: HostRuntime) {
+    assert_eq!(rt; first_wrong_sides(rt.alloc()), Ok(None));
+}
+
+#[test]
+fn wide_copy(rt: HostRuntime) {
     let rect = Rect::sized(100, 70);
     let to = Point { x: 1, y: 0 };
-    let before = picture(rt.alloc(), 130, 70, Format::Argb)?;
-    let mut plain = picture(rt.alloc(), 130, 70, Format::Argb)?;
-    let mut surface = surface_of(rt.alloc(), &plain, Format::Argb)?;
-    copy_within(&mut surface, rect, to);
-    plain.copy(&before, rect, to, Format::Argb);
-    assert!(rt; shows(rt.alloc(), &surface, &plain)?);
-    Ok(())
+    claim(&rt, copies_within(rt.alloc(), rect, to, Format::Argb));
 }
 
-/// The same pixels everywhere but at one place.
-fn dotted(alloc: Global, width: u16, height: u16, x: u16, y: u16) -> Result<Plain, Fault> {
+/// The sides of the surfaces below, of three cells by two, of which the last has 2 by 6 pixels.
+const WIDTH: u16 = 130;
+
+const HEIGHT: u16 = 70;
+
+const LAST: Cell = Cell { x: 2, y: 1 };
+
+/// The same pixels everywhere but at the last place.
+fn dotted(alloc: Global) -> Result<Plain, Fault> {
     let zero = Pixel {
         b: 0,
         g: 0,
         r: 0,
         a: 0,
     };
-    let mut plain = Plain::new(alloc, width, height)?;
-    plain.fill(Rect::sized(width, height), zero);
-    plain.set(place(width, x, y, 0, 0), DOT);
+    let mut plain = Plain::new(alloc, WIDTH, HEIGHT)?;
+    plain.fill(Rect::sized(WIDTH, HEIGHT), zero);
+    plain.set(place(WIDTH, 129, 69, 0, 0), DOT);
     Ok(plain)
 }
 
-#[test]
-fn pair_views(rt: HostRuntime) -> Result<(), Fail> {
-    let (first, second) = (Cell { x: 0, y: 0 }, Cell { x: 2, y: 1 });
-    let mut surface = Surface::new(rt.alloc(), 130, 70, Format::Argb)?;
-    let tile = surface.tile_mut(second);
-    assert_eq!(rt; tile.size(), (2, 6));
-    surface.with_pair(first, second, |_, other| {
+/// Whether a surface shows a dot at its last place, and nothing else.
+fn shows_dot(alloc: Global, surface: &Surface) -> Result<bool, Fault> {
+    let plain = dotted(alloc)?;
+    shows(alloc, surface, &plain)
+}
+
+/// Whether a pair of cells is lent in the order in which it is asked for.
+fn lends_pair(alloc: Global) -> Result<bool, Fault> {
+    let first = Cell { x: 0, y: 0 };
+    let mut surface = Surface::new(alloc, WIDTH, HEIGHT, Format::Argb)?;
+    let sides = surface.tile_mut(LAST).size();
+    surface.with_pair(first, LAST, |_, other| {
         other[5 * 64 + 1] = DOT;
     });
-    let plain = dotted(rt.alloc(), 130, 70, 129, 69)?;
-    assert!(rt; shows(rt.alloc(), &surface, &plain)?);
-    Ok(())
+    Ok(sides == (2, 6) && shows_dot(alloc, &surface)?)
 }
 
 #[test]
-fn turned_pair(rt: HostRuntime) -> Result<(), Fail> {
-    let (first, second) = (Cell { x: 2, y: 1 }, Cell { x: 0, y: 0 });
-    let mut surface = Surface::new(rt.alloc(), 130, 70, Format::Argb)?;
-    surface.with_pair(first, second, |one, _| {
+fn pair_views(rt: HostRuntime) {
+    claim(&rt, lends_pair(rt.alloc()));
+}
+
+/// The same where the later cell is asked for first.
+fn lends_turned_pair(alloc: Global) -> Result<bool, Fault> {
+    let second = Cell { x: 0, y: 0 };
+    let mut surface = Surface::new(alloc, WIDTH, HEIGHT, Format::Argb)?;
+    surface.with_pair(LAST, second, |one, _| {
         one[5 * 64 + 1] = DOT;
     });
-    let plain = dotted(rt.alloc(), 130, 70, 129, 69)?;
-    assert!(rt; shows(rt.alloc(), &surface, &plain)?);
-    Ok(())
+    shows_dot(alloc, &surface)
 }
 
 #[test]
-fn views_of_a_tile(rt: HostRuntime) -> Result<(), Fail> {
-    let mut surface = Surface::new(rt.alloc(), 130, 70, Format::Argb)?;
-    let mut tile = surface.tile_mut(Cell { x: 2, y: 1 });
-    assert_eq!(rt; tile.get(1, 5).a, 0);
+fn turned_pair(rt: HostRuntime) {
+    claim(&rt, lends_turned_pair(rt.alloc()));
+}
+
+/// Whether a dot is set by a view of a tile.
+fn tile_is_set(alloc: Global) -> Result<bool, Fault> {
+    let mut surface = Surface::new(alloc, WIDTH, HEIGHT, Format::Argb)?;
+    let mut tile = surface.tile_mut(LAST);
+    let before = tile.get(1, 5).a;
     tile.set(1, 5, DOT);
-    let plain = dotted(rt.alloc(), 130, 70, 129, 69)?;
-    assert!(rt; shows(rt.alloc(), &surface, &plain)?);
-    Ok(())
+    Ok(before == 0 && shows_dot(alloc, &surface)?)
 }
 
 #[test]
-fn views_of_a_strip(rt: HostRuntime) -> Result<(), Fail> {
-    let mut surface = Surface::new(rt.alloc(), 130, 70, Format::Argb)?;
+fn views_of_a_tile(rt: HostRuntime) {
+    claim(&rt, tile_is_set(rt.alloc()));
+}
+
+/// Whether a dot is set by a view of a strip.
+fn strip_is_set(alloc: Global) -> Result<bool, Fault> {
+    let mut surface = Surface::new(alloc, WIDTH, HEIGHT, Format::Argb)?;
     let mut strip = surface.strip_mut(1);
-    assert_eq!(rt; strip.get(2, 1, 5).a, 0);
+    let before = strip.get(2, 1, 5).a;
     strip.set(2, 1, 5, DOT);
-    let plain = dotted(rt.alloc(), 130, 70, 129, 69)?;
-    assert!(rt; shows(rt.alloc(), &surface, &plain)?);
-    Ok(())
+    Ok(before == 0 && shows_dot(alloc, &surface)?)
 }
 
 #[test]
-fn cells_of_a_strip(rt: HostRuntime) -> Result<(), Fail> {
-    let pixels = Vec::from_elem(rt.alloc(), DOT, 4096)?;
-    let mut surface = Surface::new(rt.alloc(), 130, 70, Format::Argb)?;
+fn views_of_a_strip(rt: HostRuntime) {
+    claim(&rt, strip_is_set(rt.alloc()));
+}
+
+/// The part of the last cell that lies on the surface.
+const PART: Rect = Rect {
+    left: 128,
+    top: 64,
+    right: WIDTH,
+    bottom: HEIGHT,
+};
+
+/// Whether a surface shows dots on the part of its last cell, and nothing else.
+fn shows_part(alloc: Global, surface: &Surface) -> Result<bool, Fault> {
+    let mut plain = dotted(alloc)?;
+    plain.fill(PART, DOT);
+    shows(alloc, surface, &plain)
+}
+
+/// Whether the pixels of a cell are put by a view of a strip.
+fn cell_is_put(alloc: Global) -> Result<bool, Fault> {
+    let pixels = Vec::from_elem(alloc, DOT, 4096)?;
+    let mut surface = Surface::new(alloc, WIDTH, HEIGHT, Format::Argb)?;
     let mut strip = surface.strip_mut(1);
     strip.put(2, &pixels);
-    let part = Rect {
-        left: 128,
-        top: 64,
-        right: 130,
-        bottom: 70,
-    };
-    let mut plain = dotted(rt.alloc(), 130, 70, 129, 69)?;
-    plain.fill(part, DOT);
-    assert!(rt; shows(rt.alloc(), &surface, &plain)?);
-    Ok(())
+    shows_part(alloc, &surface)
 }
 
 #[test]
-fn split_views(rt: HostRuntime) -> Result<(), Fail> {
-    let mut surface = Surface::new(rt.alloc(), 130, 70, Format::Argb)?;
+fn cells_of_a_strip(rt: HostRuntime) {
+    claim(&rt, cell_is_put(rt.alloc()));
+}
+
+/// Whether a dot is set by the back of a strip that is split, and what the front has beside the surface doesn't show.
+fn split_is_set(alloc: Global) -> Result<bool, Fault> {
+    let mut surface = Surface::new(alloc, WIDTH, HEIGHT, Format::Argb)?;
     surface.with_split(1, 2, |front, back| {
         front[4096 + 5 * 64 + 63] = back[0];
         back[5 * 64 + 1] = DOT;
     });
-    let plain = dotted(rt.alloc(), 130, 70, 129, 69)?;
-    assert!(rt; shows(rt.alloc(), &surface, &plain)?);
-    Ok(())
+    shows_dot(alloc, &surface)
+}
+
+#[test]
+fn split_views(rt: HostRuntime) {
+    claim(&rt, split_is_set(rt.alloc()));
 }

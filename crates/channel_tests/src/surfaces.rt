@@ -1,8 +1,8 @@
 //! Surfaces: a copy that overlaps itself, and the least id from a number on.
+use crate::claiming::claim;
 use gfx_base::{Fault, Format, Pixel, Point, Rect, Refusal};
 use gfx_surface_map::SurfaceMap;
 use std::alloc::Global;
-use std::test::Fail;
 
 const ROW: Rect = Rect {
     left: 0,
@@ -46,19 +46,15 @@ fn row_of(surfaces: &SurfaceMap, id: u16) -> Option<[Pixel; 4]> {
     ])
 }
 
-/// That many surfaces from id 1 on.
-fn several(
-    alloc: Global,
-    count: u16,
-    width: u16,
-    height: u16,
-    format: Format,
-) -> Result<SurfaceMap, Fault> {
-    let mut surfaces = SurfaceMap::new(alloc);
-    for id in 0..count {
-        surfaces.create(alloc, id + 1, width, height, format)?;
-    }
-    Ok(surfaces)
+/// Lets go of surfaces, which is proved once here.
+fn let_go(surfaces: SurfaceMap) {
+    drop(surfaces);
+}
+
+/// Adds two surfaces of four pixels, 1 and 2.
+fn create_two(alloc: Global, surfaces: &mut SurfaceMap) -> Result<(), Fault> {
+    surfaces.create(alloc, 1, 4, 1, Format::Xrgb)?;
+    surfaces.create(alloc, 2, 4, 1, Format::Xrgb)
 }
 
 /// Copies, where there is room for the source.
@@ -78,17 +74,24 @@ fn copy(
     surfaces.copy(from, to, rect, points)
 }
 
-#[test]
-fn overlapping_copy(rt: HostRuntime) -> Result<(), Fail> {
+/// Whether a copy to two points that overlap is right from one surface to another, and within one.
+fn overlap(alloc: Global, surfaces: &mut SurfaceMap) -> Result<bool, Fault> {
     let [p, q, r, s] = [grey(1), grey(2), grey(3), grey(4)];
     let front = Rect { right: 2, ..ROW };
     let points = [Point { x: 1, y: 0 }, Point { x: 2, y: 0 }];
-    let mut surfaces = several(rt.alloc(), 2, 4, 1, Format::Xrgb)?;
-    put_row(&mut surfaces, 1, &[p, q, r, s]);
-    put_row(&mut surfaces, 2, &[s, s, s, s]);
-    assert_eq!(rt; copy(&mut surfaces, 1, 2, front, &points), Ok(()));
-    assert_eq!(rt; copy(&mut surfaces, 1, 1, front, &points), Ok(()));
-    assert_eq!(rt; row_of(&surfaces, 1), Some([p, p, p, q]));
-    assert_eq!(rt; row_of(&surfaces, 2), Some([s, p, p, q]));
-    Ok(())
+    create_two(alloc, surfaces)?;
+    put_row(surfaces, 1, &[p, q, r, s]);
+    put_row(surfaces, 2, &[s, s, s, s]);
+    copy(surfaces, 1, 2, front, &points)?;
+    copy(surfaces, 1, 1, front, &points)?;
+    let first = row_of(surfaces, 1) == Some([p, p, p, q]);
+    Ok(first && row_of(surfaces, 2) == Some([s, p, p, q]))
+}
+
+#[test]
+fn overlapping_copy(rt: HostRuntime) {
+    let mut surfaces = SurfaceMap::new(rt.alloc());
+    let right = overlap(rt.alloc(), &mut surfaces);
+    let_go(surfaces);
+    claim(&rt, right);
 }

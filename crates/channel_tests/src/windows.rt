@@ -1,9 +1,10 @@
 //! Pending steps that a later one covers, and frames in flight.
+use crate::claiming::claim;
+use gfx_base::{Fault, NoMemory};
 use gfx_script::Script;
 use gfx_script_text::read_script;
 use gfx_window::{AckUnknown, Queued, Window};
 use std::alloc::Global;
-use std::test::Fail;
 
 /// A script, and its steps that are left out where all of them wait.
 struct Case {
@@ -81,9 +82,18 @@ step = [
     },
 ];
 
-/// A window in which all steps of a script wait.
-fn waiting(alloc: Global, script: &Script) -> Result<Window, Fail> {
-    let mut window = Window::new(alloc, 1);
+/// Lets go of a script, which is proved once here.
+fn let_go(script: Script) {
+    drop(script);
+}
+
+/// Lets go of a window, which is proved once here.
+fn let_go_of_window(window: Window) {
+    drop(window);
+}
+
+/// Queues all steps of a script.
+fn queue_all(window: &mut Window, script: &Script) -> Result<(), NoMemory> {
     for number in 1..=100 {
         let Some(step) = script.step(number) else {
             break;
@@ -93,50 +103,83 @@ fn waiting(alloc: Global, script: &Script) -> Result<Window, Fail> {
             kind: step.kind(),
         })?;
     }
-    Ok(window)
+    Ok(())
+}
+
+/// Whether these steps of those that wait are left out.
+fn leaves_out(window: &Window, script: &Script, left_out: &[usize]) -> bool {
+    for place in 0..window.due() {
+        if window.superseded(script, place) != left_out.contains(&place) {
+            return false;
+        }
+    }
+    true
+}
+
+/// The same in a new window in which all steps of a script wait.
+fn are_left_out(alloc: Global, script: &Script, left_out: &[usize]) -> Result<bool, NoMemory> {
+    let mut window = Window::new(alloc, 1);
+    let queued = queue_all(&mut window, script);
+    let right = leaves_out(&window, script, left_out);
+    let_go_of_window(window);
+    queued?;
+    Ok(right)
+}
+
+/// Whether the steps of a case are left out that are due, and there is such a script.
+fn is_covered(alloc: Global, case: &Case) -> Result<bool, NoMemory> {
+    let Ok(script) = read_script(alloc, case.script.as_bytes()) else {
+        return Ok(false);
+    };
+    let right = are_left_out(alloc, &script, case.left_out);
+    let_go(script);
+    right
+}
+
+/// Whether it is so in each case.
+fn all_are_covered(alloc: Global) -> Result<bool, Fault> {
+    for case in &CASES {
+        if !is_covered(alloc, case)? {
+            return Ok(false);
+        }
+    }
+    Ok(true)
 }
 
 #[test]
-fn what_a_later_step_covers(rt: HostRuntime) -> Result<(), Fail> {
-    let alloc = rt.alloc();
-    for case in &CASES {
-        let Ok(script) = read_script(alloc, case.script.as_bytes()) else {
-            assert!(rt; false, "no script");
-            return Ok(());
-        };
-        let window = waiting(alloc, &script)?;
-        for place in 0..window.due() {
-            let expected = case.left_out.contains(&place);
-            assert_eq!(rt; window.superseded(&script, place), expected);
-        }
+fn what_a_later_step_covers(rt: HostRuntime) {
+    claim(&rt, all_are_covered(rt.alloc()));
+}
+
+/// Whether a window says that a frame isn't the oldest in flight, which is this.
+fn is_unknown(window: &mut Window, id: u32, oldest: Option<u32>) -> bool {
+    window.acknowledge(id) == Err(AckUnknown { id, oldest })
+}
+
+/// Sends a frame, where there is room for it.
+fn send(window: &mut Window, frame: u32, step: u32) -> Result<(), NoMemory> {
+    if window.can_send() {
+        window.send(frame, step)?;
     }
     Ok(())
 }
 
+/// Whether two frames are in flight once they are sent, and are acknowledged in their order alone.
+fn are_in_flight(window: &mut Window) -> Result<bool, NoMemory> {
+    let none = is_unknown(window, 1, None);
+    send(window, 1, 6)?;
+    send(window, 2, 9)?;
+    let full = (window.in_flight(), window.can_send()) == (2, false);
+    let later = is_unknown(window, 9, Some(1));
+    let first = window.acknowledge(1) == Ok(6);
+    let second = window.acknowledge(2) == Ok(9);
+    Ok(none && full && later && first && second && window.can_send())
+}
+
 #[test]
-fn frames_in_flight(rt: HostRuntime) -> Result<(), Fail> {
+fn frames_in_flight(rt: HostRuntime) {
     let mut window = Window::new(rt.alloc(), 2);
-    let unknown = window.acknowledge(1);
-    assert_eq!(rt;
-        unknown,
-        Err(AckUnknown {
-            id: 1,
-            oldest: None
-        })
-    );
-    window.send(1, 6)?;
-    window.send(2, 9)?;
-    assert_eq!(rt; (window.in_flight(), window.can_send()), (2, false));
-    let unknown = window.acknowledge(9);
-    assert_eq!(rt;
-        unknown,
-        Err(AckUnknown {
-            id: 9,
-            oldest: Some(1)
-        })
-    );
-    assert_eq!(rt; window.acknowledge(1), Ok(6));
-    assert_eq!(rt; window.acknowledge(2), Ok(9));
-    assert!(rt; window.can_send());
-    Ok(())
+    let right = are_in_flight(&mut window);
+    let_go_of_window(window);
+    assert_eq!(rt; right, Ok(true));
 }

@@ -1,4 +1,6 @@
 //! Values of an independent program, the worked examples, and each public call once.
+ghost use Rattle.gfx_dwt.specs.Ranges.{AllCoefficients};
+
 use gfx_base::{Pixel, Refusal};
 use gfx_dwt::{Band, Transform};
 use gfx_quant::{
@@ -14,181 +16,302 @@ fn opaque(b: u8, g: u8, r: u8) -> Pixel {
 #[test]
 fn grey_colour(rt: HostRuntime) {
     let grey = to_colour(0, 0, 0);
-    assert_eq!(rt; grey, opaque(128, 128, 128));
-    assert_eq!(rt; from_colour(grey), (0, 0, 0));
+    assert_eq!(rt;
+        (grey, from_colour(grey)),
+        (opaque(128, 128, 128), (0, 0, 0))
+    );
+}
+
+// The first band whose 5 is accepted, if there is one.
+fn first_accepted() -> Option<usize> {
+    for at in 0..10 {
+        let mut quant = Quant { values: [6; 10] };
+        quant.values[at] = 5;
+        if check_base(&quant) != Err(Refusal::QuantRange) {
+            return Some(at);
+        }
+    }
+    None
 }
 
 #[test]
 fn base_below_six(rt: HostRuntime) {
-    assert_eq!(rt; check_base(&Quant { values: [6; 10] }), Ok(()));
-    for at in 0..10 {
-        let mut quant = Quant { values: [6; 10] };
-        quant.values[at] = 5;
-        assert_eq!(rt; check_base(&quant), Err(Refusal::QuantRange));
+    let sixes = check_base(&Quant { values: [6; 10] });
+    assert_eq!(rt; (sixes, first_accepted()), (Ok(()), None));
+}
+
+// Samples of a pixel, and its blue, green and red.
+const COLOURS: [(i16, i16, i16, (u8, u8, u8)); 13] = [
+    (4064, 0, 0, (255, 255, 255)),
+    (-4096, 0, 0, (0, 0, 0)),
+    (4095, 4095, 4095, (255, 120, 255)),
+    (-4096, -4096, -4096, (0, 135, 0)),
+    (4064, 0, 4078, (255, 163, 255)),
+    (4064, 4084, 0, (255, 211, 255)),
+    (0, 18514, 18514, (255, 0, 255)),
+    (0, 18515, 18515, (255, 0, 255)),
+    (0, -18514, -18515, (0, 255, 0)),
+    (1, 2, 3, (128, 127, 128)),
+    (-17, 333, -1021, (145, 146, 82)),
+    (16, 0, 0, (128, 128, 128)),
+    (4063, 0, 0, (254, 254, 254)),
+];
+
+// The first samples that have another colour, if there are any.
+fn first_wrong_colour() -> Option<(i16, i16, i16)> {
+    for (y, cb, cr, (b, g, r)) in &COLOURS {
+        let colour = to_colour(i32::from(*y), i32::from(*cb), i32::from(*cr));
+        if colour != opaque(*b, *g, *r) {
+            return Some((*y, *cb, *cr));
+        }
     }
+    None
+}
+
+// The colours of the samples farthest from noughts.
+fn farthest_colours() -> (Pixel, Pixel) {
+    (
+        to_colour(8_388_607, 8_388_607, 8_388_607),
+        to_colour(-8_388_608, -8_388_608, -8_388_608),
+    )
 }
 
 #[test]
 fn colours_clamp_at_their_corners(rt: HostRuntime) {
-    for (y, cb, cr, want) in [
-        (4064, 0, 0, opaque(255, 255, 255)),
-        (-4096, 0, 0, opaque(0, 0, 0)),
-        (4095, 4095, 4095, opaque(255, 120, 255)),
-        (-4096, -4096, -4096, opaque(0, 135, 0)),
-        (4064, 0, 4078, opaque(255, 163, 255)),
-        (4064, 4084, 0, opaque(255, 211, 255)),
-        (0, 18514, 18514, opaque(255, 0, 255)),
-        (0, 18515, 18515, opaque(255, 0, 255)),
-        (0, -18514, -18515, opaque(0, 255, 0)),
-        (1, 2, 3, opaque(128, 127, 128)),
-        (-17, 333, -1021, opaque(145, 146, 82)),
-        (16i16, 0i16, 0i16, opaque(128, 128, 128)),
-        (4063, 0, 0, opaque(254, 254, 254)),
-    ] {
-        assert_eq!(rt; to_colour(i32::from(y), i32::from(cb), i32::from(cr)), want);
+    assert_eq!(rt; first_wrong_colour(), None);
+    let due = (opaque(255, 0, 255), opaque(0, 255, 0));
+    assert_eq!(rt; farthest_colours(), due);
+}
+
+// Blue, green, red and alpha of pixels, and their samples.
+const SAMPLES: [((u8, u8, u8, u8), (i16, i16, i16)); 7] = [
+    ((255, 255, 255, 255), (4064, 0, 0)),
+    ((0, 0, 0, 255), (-4096, 0, 0)),
+    ((255, 0, 0, 255), (-3166, 4084, -664)),
+    ((0, 255, 0, 255), (693, -2707, -3416)),
+    ((0, 0, 255, 255), (-1657, -1379, 4078)),
+    ((1, 2, 3, 0), (-4027, -22, 18)),
+    ((16, 32, 48, 255), (-2978, -343, 297)),
+];
+
+// Whether a pixel has these samples.
+fn has_samples(pixel: Pixel, due: (i16, i16, i16)) -> bool {
+    let due = (i32::from(due.0), i32::from(due.1), i32::from(due.2));
+    from_colour(pixel) == due
+}
+
+// The samples that are due of the first pixel that has others, if there is one.
+fn first_wrong_samples() -> Option<(i16, i16, i16)> {
+    for ((b, g, r, a), due) in &SAMPLES {
+        let pixel = Pixel {
+            b: *b,
+            g: *g,
+            r: *r,
+            a: *a,
+        };
+        if !has_samples(pixel, *due) {
+            return Some(*due);
+        }
     }
-    assert_eq!(rt;
-        to_colour(8_388_607, 8_388_607, 8_388_607),
-        opaque(255, 0, 255)
-    );
-    assert_eq!(rt;
-        to_colour(-8_388_608, -8_388_608, -8_388_608),
-        opaque(0, 255, 0)
-    );
+    None
 }
 
 #[test]
 fn samples_of_pixels(rt: HostRuntime) {
-    for (pixel, want) in [
-        (opaque(255, 255, 255), (4064, 0, 0)),
-        (opaque(0, 0, 0), (-4096, 0, 0)),
-        (opaque(255, 0, 0), (-3166, 4084, -664)),
-        (opaque(0, 255, 0), (693, -2707, -3416)),
-        (opaque(0, 0, 255), (-1657, -1379, 4078)),
-        (
-            Pixel {
-                b: 1,
-                g: 2,
-                r: 3,
-                a: 0,
-            },
-            (-4027, -22, 18),
-        ),
-        (opaque(16, 32, 48), (-2978, -343, 297)),
-    ] {
-        assert_eq!(rt; from_colour(pixel), want);
+    assert_eq!(rt; first_wrong_samples(), None);
+}
+
+// Coefficients, and their values at quant 6 rounded down, and toward zero.
+const ROUNDED: [(i16, i32, i32); 10] = [
+    (0, 0, 0),
+    (31, 0, 0),
+    (32, 1, 1),
+    (-1, -1, 0),
+    (-32, -1, -1),
+    (-33, -2, -1),
+    (256, 8, 8),
+    (-257, -9, -8),
+    (32767, 1023, 1023),
+    (-32768, -1024, -1024),
+];
+
+// The first coefficient that has others, if there is one.
+fn first_wrong_rounded() -> Option<i16> {
+    for (c, floor, toward_zero) in &ROUNDED {
+        let coefficient = i32::from(*c);
+        let down = quantise(coefficient, 6, Band::Ll3);
+        if (down, quantise(coefficient, 6, Band::Hl1)) != (*floor, *toward_zero) {
+            return Some(*c);
+        }
     }
+    None
 }
 
 #[test]
 fn quantising_rounds_down_in_ll3_alone(rt: HostRuntime) {
-    for (c, floor, toward_zero) in [
-        (0, 0, 0),
-        (31, 0, 0),
-        (32i16, 1, 1),
-        (-1, -1, 0),
-        (-32, -1, -1),
-        (-33, -2, -1),
-        (256, 8, 8),
-        (-257, -9, -8),
-        (32767, 1023, 1023),
-        (-32768, -1024, -1024),
-    ] {
-        assert_eq!(rt; quantise(i32::from(c), 6, Band::Ll3), floor);
-        assert_eq!(rt; quantise(i32::from(c), 6, Band::Hl1), toward_zero);
+    let least = quantise(-1, 15, Band::Ll3);
+    let most = quantise(-32768, 15, Band::Hh3);
+    assert_eq!(rt; (first_wrong_rounded(), least, most), (None, -1, -2));
+}
+
+// Numbers, and what is left of them without three bits, rounded down, and toward zero.
+const TRUNCATED: [(i32, i32, i32); 7] = [
+    (7, 0, 0),
+    (8, 1, 1),
+    (-1, -1, 0),
+    (-8, -1, -1),
+    (-9, -2, -1),
+    (i32::MAX, 268_435_455, 268_435_455),
+    (i32::MIN, -268_435_456, -268_435_456),
+];
+
+// What is left of a number without three bits, by both, and without none.
+fn truncations(v: i32) -> (i32, i32, i32) {
+    (
+        truncate(v, 3, Band::Ll3),
+        truncate(v, 3, Band::Lh2),
+        truncate(v, 0, Band::Lh2),
+    )
+}
+
+// The first number of which something else is left, if there is one.
+fn first_wrong_truncated() -> Option<i32> {
+    for (v, floor, toward_zero) in &TRUNCATED {
+        if truncations(*v) != (*floor, *toward_zero, *v) {
+            return Some(*v);
+        }
     }
-    assert_eq!(rt; quantise(-1, 15, Band::Ll3), -1);
-    assert_eq!(rt; quantise(-32768, 15, Band::Hh3), -2);
+    None
 }
 
 #[test]
 fn truncating_takes_any_number(rt: HostRuntime) {
-    for (v, floor, toward_zero) in [
-        (7, 0, 0),
-        (8, 1, 1),
-        (-1, -1, 0),
-        (-8, -1, -1),
-        (-9, -2, -1),
-        (i32::MAX, 268_435_455, 268_435_455),
-        (i32::MIN, -268_435_456, -268_435_456),
-    ] {
-        assert_eq!(rt; truncate(v, 3, Band::Ll3), floor);
-        assert_eq!(rt; truncate(v, 3, Band::Lh2), toward_zero);
-        assert_eq!(rt; truncate(v, 0, Band::Lh2), v);
+    let least = truncate(-32768, 15, Band::Hl2);
+    assert_eq!(rt; (first_wrong_truncated(), least), (None, -1));
+}
+
+// A value's coefficients at the bit positions 1, 6 and 30.
+type Dequantised = (Option<i32>, Option<i32>, Option<i32>);
+
+const DEQUANTISED: [(i32, Dequantised); 10] = [
+    (0, (Some(0), Some(0), Some(0))),
+    (1, (Some(1), Some(32), None)),
+    (-1, (Some(-1), Some(-32), None)),
+    (1023, (Some(1023), Some(32736), None)),
+    (1024, (Some(1024), None, None)),
+    (-1024, (Some(-1024), Some(-32768), None)),
+    (-1025, (Some(-1025), None, None)),
+    (32768, (None, None, None)),
+    (-32768, (Some(-32768), None, None)),
+    (i32::MIN, (None, None, None)),
+];
+
+fn dequantised(v: i32) -> Dequantised {
+    (dequantise(v, 1), dequantise(v, 6), dequantise(v, 30))
+}
+
+// The first value that has other coefficients, if there is one.
+fn first_wrong_dequantised() -> Option<i32> {
+    for (v, due) in &DEQUANTISED {
+        if dequantised(*v) != *due {
+            return Some(*v);
+        }
     }
-    assert_eq!(rt; truncate(-32768, 15, Band::Hl2), -1);
+    None
 }
 
 #[test]
 fn coefficients_end_with_16_bits(rt: HostRuntime) {
-    for (v, first, sixth, last) in [
-        (0, Some(0), Some(0), Some(0)),
-        (1, Some(1), Some(32), None),
-        (-1, Some(-1), Some(-32), None),
-        (1023, Some(1023), Some(32736), None),
-        (1024, Some(1024), None, None),
-        (-1024, Some(-1024), Some(-32768), None),
-        (-1025, Some(-1025), None, None),
-        (32768, None, None, None),
-        (-32768, Some(-32768), None, None),
-        (i32::MIN, None, None, None),
-    ] {
-        assert_eq!(rt; dequantise(v, 1), first);
-        assert_eq!(rt; dequantise(v, 6), sixth);
-        assert_eq!(rt; dequantise(v, 30), last);
-    }
-    assert_eq!(rt; dequantise(-1, 16), Some(-32768));
-    assert_eq!(rt; dequantise(1, 16), None);
+    assert_eq!(rt; first_wrong_dequantised(), None);
+    let last = (dequantise(-1, 16), dequantise(1, 16));
+    assert_eq!(rt; last, (Some(-32768), None));
 }
 
 #[test]
 fn bands_begin_at_their_places(rt: HostRuntime) {
-    assert_eq!(rt; band_of(Transform::Plain, 0), Band::Hl1);
-    assert_eq!(rt; band_of(Transform::Plain, 1023), Band::Hl1);
-    assert_eq!(rt; band_of(Transform::Reduced, 1023), Band::Lh1);
-    assert_eq!(rt; band_of(Transform::Reduced, 3950), Band::Lh3);
-    assert_eq!(rt; band_of(Transform::Reduced, 4014), Band::Hh3);
-    assert_eq!(rt; band_of(Transform::Plain, 4095), Band::Ll3);
-    assert_eq!(rt;
-        band_start(Transform::Reduced, Band::Ll3) + band_size(Transform::Reduced, Band::Ll3),
-        4096
-    );
-    assert_eq!(rt; nth_band(3), Band::Hl2);
+    let bands = [
+        band_of(Transform::Plain, 0),
+        band_of(Transform::Plain, 1023),
+        band_of(Transform::Reduced, 1023),
+        band_of(Transform::Reduced, 3950),
+        band_of(Transform::Reduced, 4014),
+        band_of(Transform::Plain, 4095),
+        nth_band(3),
+    ];
+    let due = [
+        Band::Hl1,
+        Band::Hl1,
+        Band::Lh1,
+        Band::Lh3,
+        Band::Hh3,
+        Band::Ll3,
+        Band::Hl2,
+    ];
+    assert_eq!(rt; bands, due);
+    let reduced = Transform::Reduced;
+    let end = band_start(reduced, Band::Ll3) + band_size(reduced, Band::Ll3);
+    assert_eq!(rt; end, 4096);
 }
 
 #[test]
 fn quants_have_the_order_of_the_wire(rt: HostRuntime) {
     let bytes = [0x10, 0x32, 0x54, 0x76, 0x98];
     let quant = quant_from(&bytes);
-    assert_eq!(rt; quant.values, [7, 8, 9, 4, 5, 6, 1, 2, 3, 0]);
-    assert_eq!(rt; quant_to(&quant), bytes);
+    let due = [7, 8, 9, 4, 5, 6, 1, 2, 3, 0];
+    assert_eq!(rt; (quant.values, quant_to(&quant)), (due, bytes));
+}
+
+// Whether values become coefficients at the bit positions of each band.
+fn values_are_shifted() -> bool {
+    let mut values = [1023; 4096];
+    values[1] = -1023;
+    let mut out = [7; 4096];
+    let positions = [6, 6, 6, 6, 6, 6, 6, 6, 6, 1];
+    dequantise_plane(&values, Transform::Reduced, &positions, 1023, &mut out)
+        && (out[0], out[1]) == (32736, -32736)
+        && (out[4014], out[4015]) == (32736, 1023)
+}
+
+// Whether -1 has a coefficient up to position 16, and nought at all positions.
+fn ones_are_shifted() -> bool {
+    let mut ones = [0; 4096];
+    ones[0] = -1;
+    let mut out = [7; 4096];
+    let positions = [16, 30, 30, 30, 30, 30, 30, 30, 30, 30];
+    let taken = dequantise_plane(&ones, Transform::Plain, &positions, 1, &mut out);
+    let right = (out[0], out[1], out[4095]) == (-32768, 0, 0);
+    let beyond = dequantise_plane(&ones, Transform::Plain, &[17; 10], 1, &mut out);
+    taken && right && !beyond && out[0] == -32768
 }
 
 // -1 has a coefficient up to position 16, and nought at all positions.
 #[test]
 fn values_become_coefficients(rt: HostRuntime) {
-    let mut values = [1023; 4096];
-    values[1] = -1023;
-    let mut out = [7; 4096];
-    let positions = [6, 6, 6, 6, 6, 6, 6, 6, 6, 1];
-    assert!(rt; dequantise_plane(&values, Transform::Reduced, &positions, 1023, &mut out));
-    assert_eq!(rt; (out[0], out[1]), (32736, -32736));
-    assert_eq!(rt; (out[4014], out[4015]), (32736, 1023));
+    assert_eq!(rt; [values_are_shifted(), ones_are_shifted()], [true; 2]);
+}
 
-    let mut ones = [0; 4096];
-    ones[0] = -1;
-    assert!(rt;
-        dequantise_plane(
-            &ones,
-            Transform::Plain,
-            &[16, 30, 30, 30, 30, 30, 30, 30, 30, 30],
-            1,
-            &mut out
-        )
-    );
-    assert_eq!(rt; (out[0], out[1], out[4095]), (-32768, 0, 0));
-    assert!(rt; !dequantise_plane(&ones, Transform::Plain, &[17; 10], 1, &mut out));
-    assert_eq!(rt; out[0], -32768);
+// The first place, the last of another band, and the last one.
+fn corners(plane: &[i32; 4096]) -> (i32, i32, i32) {
+    (plane[0], plane[1023], plane[4095])
+}
+
+const CODED: Quant = Quant {
+    values: [7, 6, 6, 6, 6, 6, 6, 6, 6, 6],
+};
+
+const LEFT_OUT: Quant = Quant {
+    values: [1, 0, 0, 0, 0, 0, 0, 0, 0, 2],
+};
+
+// What a plane's corners are quantised to, and what is left of them.
+fn corners_of(plane: &[i32; 4096]) -> [(i32, i32, i32); 2]
+    requires { AllCoefficients plane.now }
+{
+    let mut coded = [0; 4096];
+    quantise_plane(plane, Transform::Reduced, &CODED, &mut coded);
+    let mut shown = [0; 4096];
+    truncate_plane(&coded, Transform::Reduced, &LEFT_OUT, &mut shown);
+    [corners(&coded), corners(&shown)]
 }
 
 #[test]
@@ -196,38 +319,24 @@ fn planes_go_place_by_place(rt: HostRuntime) {
     let mut plane = [32736; 4096];
     plane[4095] = -40000;
     cut_plane(&mut plane);
-    assert_eq!(rt; plane[4095], -32768);
-    let mut coded = [0; 4096];
-    quantise_plane(
-        &plane,
-        Transform::Reduced,
-        &Quant {
-            values: [7, 6, 6, 6, 6, 6, 6, 6, 6, 6],
-        },
-        &mut coded,
-    );
-    assert_eq!(rt; (coded[0], coded[1023], coded[4095]), (511, 1023, -1024));
-    let mut shown = [0; 4096];
-    truncate_plane(
-        &coded,
-        Transform::Reduced,
-        &Quant {
-            values: [1, 0, 0, 0, 0, 0, 0, 0, 0, 2],
-        },
-        &mut shown,
-    );
-    assert_eq!(rt; (shown[0], shown[1023], shown[4095]), (255, 1023, -256));
+    let due = [(511, 1023, -1024), (255, 1023, -256)];
+    assert_eq!(rt; (plane[4095], corners_of(&plane)), (-32768, due));
+}
+
+// The samples of the second of pixels, and its colour again.
+fn there_and_back(pixels: &mut [Pixel; 4096]) -> ((i32, i32, i32), Pixel) {
+    let (mut y, mut cb, mut cr) = ([0; 4096], [0; 4096], [0; 4096]);
+    from_colours(pixels, &mut y, &mut cb, &mut cr);
+    to_colours(&y, &cb, &cr, pixels);
+    ((y[1], cb[1], cr[1]), pixels[1])
 }
 
 #[test]
 fn colours_go_place_by_place(rt: HostRuntime) {
-    let (mut y, mut cb, mut cr) = ([0; 4096], [0; 4096], [0; 4096]);
     let mut pixels = [opaque(0, 0, 0); 4096];
     pixels[1] = opaque(255, 0, 0);
-    from_colours(&pixels, &mut y, &mut cb, &mut cr);
-    assert_eq!(rt; (y[1], cb[1], cr[1]), (-3166, 4084, -664));
-    to_colours(&y, &cb, &cr, &mut pixels);
-    assert_eq!(rt; pixels[1], opaque(254, 0, 0));
+    let due = ((-3166, 4084, -664), opaque(254, 0, 0));
+    assert_eq!(rt; there_and_back(&mut pixels), due);
 }
 
 #[test]
@@ -239,24 +348,33 @@ fn wide_colours_go_place_by_place(rt: HostRuntime) {
     assert_eq!(rt; pixels[4095], opaque(255, 68, 255));
 }
 
-#[test]
-fn colours_of_16_bits_go_place_by_place(rt: HostRuntime) {
+// The first, the last but one and the last pixel.
+fn ends(pixels: &[Pixel; 4096]) -> [Pixel; 3] {
+    [pixels[0], pixels[4094], pixels[4095]]
+}
+
+// What samples that are alike show, what they do once the last are others, and what their Y shows alone.
+fn narrow_ends() -> [[Pixel; 3]; 3] {
     let (mut y, mut cb, mut cr) = ([-17; 4096], [333; 4096], [-1021; 4096]);
     let mut pixels = [opaque(0, 0, 0); 4096];
     to_colours_narrow(&y, &cb, &cr, &mut pixels);
-    assert_eq!(rt; pixels[4095], opaque(145, 146, 82));
+    let alike = ends(&pixels);
     y[4095] = 0;
     cb[4095] = 18_514;
     cr[4095] = 18_514;
     to_colours_narrow(&y, &cb, &cr, &mut pixels);
-    assert_eq!(rt;
-        (pixels[0], pixels[4094]),
-        (opaque(145, 146, 82), opaque(145, 146, 82))
-    );
-    assert_eq!(rt; pixels[4095], opaque(255, 0, 255));
+    let others = ends(&pixels);
     to_colours_narrow(&y, &[0; 4096], &[0; 4096], &mut pixels);
-    assert_eq!(rt;
-        (pixels[0], pixels[4095]),
-        (opaque(127, 127, 127), opaque(128, 128, 128))
-    );
+    [alike, others, ends(&pixels)]
+}
+
+#[test]
+fn colours_of_16_bits_go_place_by_place(rt: HostRuntime) {
+    let (first, grey) = (opaque(145, 146, 82), opaque(127, 127, 127));
+    let due = [
+        [first, first, first],
+        [first, first, opaque(255, 0, 255)],
+        [grey, grey, opaque(128, 128, 128)],
+    ];
+    assert_eq!(rt; narrow_ends(), due);
 }

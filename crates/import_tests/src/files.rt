@@ -1,19 +1,19 @@
 //! Kept files by hand from the format, and as they are written.
-use crate::making::numbered;
+use crate::claiming::claim;
+use crate::making::{let_go, numbered};
 use gfx_base::{Bitmap, Bytes, Fault, NoMemory, Pixel, Pixels, Refusal};
 use gfx_import::{Kept, MOST_ENTRIES, read_kept, write_kept};
 use std::alloc::Global;
-use std::process::Abort;
-use std::test::Fail;
 
 /// Key 5 with one red pixel, and key 2 with two green ones, one above the other.
 const FILE: &[u8] = b"KEPT\x02\x00\
     \x05\x00\x00\x00\x00\x00\x00\x00\x01\x00\x01\x00\x00\x00\xff\xff\
     \x02\x00\x00\x00\x00\x00\x00\x00\x01\x00\x02\x00\x00\xff\x00\xff\x00\xff\x00\xff";
 
-fn is_broken(rt: &impl Abort, alloc: Global, bytes: &[u8]) {
+/// Whether bytes are no file.
+fn is_broken(alloc: Global, bytes: &[u8]) -> bool {
     let read = read_kept(alloc, bytes);
-    assert!(rt; matches!(&read, Err(Fault::Refused(Refusal::KeptShape))));
+    matches!(&read, Err(Fault::Refused(Refusal::KeptShape)))
 }
 
 /// The sides of a bitmap, and the green and red of its first pixel.
@@ -33,15 +33,26 @@ fn shown_at(kept: &Kept, place: usize) -> Option<(u64, (u16, u16, u8, u8))> {
     Some((key, shown(bitmap)?))
 }
 
+/// Whether a file holds the bitmaps that are due, by their places and by their keys.
+fn shows(kept: &Kept) -> bool {
+    kept.len() == 2
+        && shown_at(kept, 1) == Some((2, (1, 2, 255, 0)))
+        && shown_under(kept, 5) == Some((1, 1, 0, 255))
+        && shown_under(kept, 1) == None
+        && shown_at(kept, 2) == None
+}
+
+/// Whether the file is read so.
+fn is_read(alloc: Global) -> Result<bool, Fault> {
+    let kept = read_kept(alloc, FILE)?;
+    let right = shows(&kept);
+    let_go(kept);
+    Ok(right)
+}
+
 #[test]
-fn a_file_is_read(rt: HostRuntime) -> Result<(), Fail> {
-    let kept = read_kept(rt.alloc(), FILE)?;
-    assert_eq!(rt; kept.len(), 2);
-    assert_eq!(rt; shown_at(&kept, 1), Some((2, (1, 2, 255, 0))));
-    assert_eq!(rt; shown_under(&kept, 5), Some((1, 1, 0, 255)));
-    assert_eq!(rt; shown_under(&kept, 1), None);
-    assert_eq!(rt; shown_at(&kept, 2), None);
-    Ok(())
+fn a_file_is_read(rt: HostRuntime) {
+    claim(&rt, is_read(rt.alloc()));
 }
 
 /// What is kept as a file, behind a byte that was there.
@@ -52,25 +63,53 @@ fn written(alloc: Global, kept: &Kept) -> Result<Bytes, NoMemory> {
     Ok(out)
 }
 
-#[test]
-fn a_file_is_written(rt: HostRuntime) -> Result<(), Fail> {
-    let kept = read_kept(rt.alloc(), FILE)?;
-    let out = written(rt.alloc(), &kept)?;
-    assert_eq!(rt; out.len(), 1 + FILE.len());
-    assert_eq!(rt; out.as_slice().split_at(1).1, FILE);
-    Ok(())
+/// Whether what is kept is written as this file, behind a byte that was there.
+fn writes(alloc: Global, kept: &Kept, file: &[u8]) -> Result<bool, NoMemory> {
+    let out = written(alloc, kept)?;
+    Ok(out.as_slice().get(1..) == Some(file))
+}
+
+/// Whether what is read of the file is written as it again.
+fn is_written(alloc: Global) -> Result<bool, Fault> {
+    let kept = read_kept(alloc, FILE)?;
+    let right = writes(alloc, &kept, FILE);
+    let_go(kept);
+    Ok(right?)
 }
 
 #[test]
-fn a_file_that_is_cut_anywhere_is_none(rt: HostRuntime) -> Result<(), Fail> {
+fn a_file_is_written(rt: HostRuntime) {
+    claim(&rt, is_written(rt.alloc()));
+}
+
+/// The first size to which the file is cut and is still one, if there is any.
+fn first_whole(alloc: Global) -> Option<usize> {
     for size in 0..FILE.len() {
-        is_broken(&rt, rt.alloc(), FILE.split_at(size).0);
+        if !is_broken(alloc, FILE.split_at(size).0) {
+            return Some(size);
+        }
     }
-    let mut more = Bytes::new(rt.alloc());
+    None
+}
+
+/// The file, and a byte behind it.
+fn longer(alloc: Global) -> Result<Bytes, NoMemory> {
+    let mut more = Bytes::new(alloc);
     more.append(FILE)?;
     more.push(0)?;
-    is_broken(&rt, rt.alloc(), more.as_slice());
-    Ok(())
+    Ok(more)
+}
+
+/// Whether that is no file.
+fn longer_is_broken(alloc: Global) -> Result<bool, Fault> {
+    let more = longer(alloc)?;
+    Ok(is_broken(alloc, more.as_slice()))
+}
+
+#[test]
+fn a_file_that_is_cut_anywhere_is_none(rt: HostRuntime) {
+    assert_eq!(rt; first_whole(rt.alloc()), None);
+    claim(&rt, longer_is_broken(rt.alloc()));
 }
 
 /// Files that break a rule: another start, a count that lies, a key that is there twice, sides of far more pixels than
@@ -86,35 +125,62 @@ const BROKEN: [&[u8]; 8] = [
     b"KEPT\xff\xff",
 ];
 
-#[test]
-fn what_breaks_a_rule_is_no_file(rt: HostRuntime) -> Result<(), Fail> {
-    for bytes in BROKEN {
-        is_broken(&rt, rt.alloc(), bytes);
+/// Whether none of these is a file.
+fn all_are_broken(alloc: Global) -> bool {
+    for bytes in &BROKEN {
+        if !is_broken(alloc, bytes) {
+            return false;
+        }
     }
-    let none = read_kept(rt.alloc(), b"KEPT\x00\x00")?;
-    assert!(rt; none.is_empty());
-    Ok(())
+    true
+}
+
+/// Whether a file of no entries is read.
+fn none_is_read(alloc: Global) -> Result<bool, Fault> {
+    let none = read_kept(alloc, b"KEPT\x00\x00")?;
+    let right = none.is_empty();
+    let_go(none);
+    Ok(right)
 }
 
 #[test]
-fn a_file_has_5461_entries(rt: HostRuntime) -> Result<(), Fail> {
-    let most = numbered(rt.alloc(), 5_461)?;
-    let kept = read_kept(rt.alloc(), most.as_slice())?;
-    assert_eq!(rt; kept.len(), MOST_ENTRIES);
-    assert!(rt; kept.find(5_460).is_some());
-    assert!(rt; kept.find(5_461).is_none());
-    Ok(())
+fn what_breaks_a_rule_is_no_file(rt: HostRuntime) {
+    assert!(rt; all_are_broken(rt.alloc()));
+    claim(&rt, none_is_read(rt.alloc()));
+}
+
+/// Whether a file has the most entries, and their keys.
+fn has_most(kept: &Kept) -> bool {
+    kept.len() == MOST_ENTRIES && kept.find(5_460).is_some() && kept.find(5_461).is_none()
+}
+
+/// Whether so many are read.
+fn most_are_read(alloc: Global) -> Result<bool, Fault> {
+    let most = numbered(alloc, 5_461)?;
+    let kept = read_kept(alloc, most.as_slice())?;
+    let right = has_most(&kept);
+    let_go(kept);
+    Ok(right)
 }
 
 #[test]
-fn a_file_has_no_more_entries(rt: HostRuntime) -> Result<(), Fail> {
-    let more = numbered(rt.alloc(), 5_462)?;
-    is_broken(&rt, rt.alloc(), more.as_slice());
-    Ok(())
+fn a_file_has_5461_entries(rt: HostRuntime) {
+    claim(&rt, most_are_read(rt.alloc()));
 }
 
-/// One grey pixel.
-fn dot(alloc: Global, shade: u8) -> Result<Bitmap, Fail> {
+/// Whether one more is no file.
+fn more_are_none(alloc: Global) -> Result<bool, Fault> {
+    let more = numbered(alloc, 5_462)?;
+    Ok(is_broken(alloc, more.as_slice()))
+}
+
+#[test]
+fn a_file_has_no_more_entries(rt: HostRuntime) {
+    claim(&rt, more_are_none(rt.alloc()));
+}
+
+/// One grey pixel, if it is one.
+fn dot(alloc: Global, shade: u8) -> Result<Option<Bitmap>, NoMemory> {
     let mut pixels = Pixels::new(alloc);
     pixels.push(Pixel {
         b: shade,
@@ -122,10 +188,14 @@ fn dot(alloc: Global, shade: u8) -> Result<Bitmap, Fail> {
         r: shade,
         a: 255,
     })?;
+    Ok(dot_of(pixels))
+}
+
+fn dot_of(pixels: Pixels) -> Option<Bitmap> {
     if pixels.len() != 1 {
-        return Err(Fail::from("no dot"));
+        return None;
     }
-    Ok(Bitmap {
+    Some(Bitmap {
         width: 1,
         height: 1,
         pixels,
@@ -133,13 +203,14 @@ fn dot(alloc: Global, shade: u8) -> Result<Bitmap, Fail> {
 }
 
 /// Keeps a dot under a key, and says whether it is kept.
-fn add(alloc: Global, kept: &mut Kept, key: u64, shade: u8) -> Result<bool, Fail> {
-    let bitmap = dot(alloc, shade)?;
-    if bitmap.width != 1 || bitmap.height != 1 {
-        return Err(Fail::from("no dot"));
+fn add(alloc: Global, kept: &mut Kept, key: u64, shade: u8) -> Result<Option<bool>, NoMemory> {
+    match dot(alloc, shade)? {
+        Some(bitmap) if bitmap.width == 1 && bitmap.height == 1 => {
+            let added = kept.add(key, bitmap)?;
+            Ok(Some(added))
+        }
+        _ => Ok(None),
     }
-    let added = kept.add(key, bitmap)?;
-    Ok(added)
 }
 
 fn shade_of(kept: &Kept, key: u64) -> Option<u8> {
@@ -147,16 +218,24 @@ fn shade_of(kept: &Kept, key: u64) -> Option<u8> {
     bitmap.pixels.get(0).map(|pixel| pixel.b)
 }
 
+/// Whether a key is kept once, with what came first.
+fn keeps_once(alloc: Global, kept: &mut Kept) -> Result<bool, NoMemory> {
+    let first = add(alloc, kept, 9, 1)? == Some(true);
+    let second = add(alloc, kept, 3, 2)? == Some(true);
+    let again = add(alloc, kept, 9, 7)? == Some(false);
+    let shades = (shade_of(kept, 9), shade_of(kept, 3), shade_of(kept, 4));
+    Ok(first && second && again && kept.len() == 2 && shades == (Some(1), Some(2), None))
+}
+
+/// The same where nothing is kept before.
+fn new_keeps_once(alloc: Global) -> Result<bool, Fault> {
+    let mut kept = Kept::new(alloc);
+    let right = keeps_once(alloc, &mut kept);
+    let_go(kept);
+    Ok(right?)
+}
+
 #[test]
-fn a_key_is_kept_once(rt: HostRuntime) -> Result<(), Fail> {
-    let mut kept = Kept::new(rt.alloc());
-    assert!(rt; add(rt.alloc(), &mut kept, 9, 1)?);
-    assert!(rt; add(rt.alloc(), &mut kept, 3, 2)?);
-    assert!(rt; !add(rt.alloc(), &mut kept, 9, 7)?);
-    assert_eq!(rt; kept.len(), 2);
-    assert_eq!(rt;
-        (shade_of(&kept, 9), shade_of(&kept, 3), shade_of(&kept, 4)),
-        (Some(1), Some(2), None)
-    );
-    Ok(())
+fn a_key_is_kept_once(rt: HostRuntime) {
+    claim(&rt, new_keeps_once(rt.alloc()));
 }

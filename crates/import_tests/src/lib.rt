@@ -4,6 +4,8 @@
 #![tactic(auto)]
 
 #[cfg(test)]
+mod claiming;
+#[cfg(test)]
 mod clients;
 #[cfg(test)]
 mod exchange;

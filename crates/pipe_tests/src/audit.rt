@@ -1,9 +1,9 @@
 //! The command `audit`: a line for each message that is applied, and then what the messages leave.
-use crate::examples::{FILL, run_on};
+use crate::claiming::claim;
+use crate::examples::{FILL, answers, has_begun, run_on, write_fails};
 use gfx_base::NoMemory;
 use gfxpipe::Status;
 use std::alloc::Global;
-use std::test::Fail;
 
 /// The lines of the messages of one red surface.
 const FILL_LINES: &str = "1 StartFrame 16\n2 CreateSurface 15\n3 SolidFill 24\n4 EndFrame 12\n";
@@ -54,118 +54,176 @@ fn audit_of(alloc: Global, lines: &str) -> Result<Vec<u8>, NoMemory> {
     Ok(text)
 }
 
-/// What is refused has no line, and the end comes all the same.
-#[test]
-fn what_is_applied_has_a_line(rt: HostRuntime) -> Result<(), Fail> {
+/// Whether an audit of these bytes ends so, with these lines where nothing is held, and says this.
+fn tells(
+    alloc: Global,
+    bytes: &[u8],
+    status: Status,
+    lines: &str,
+    line: &str,
+) -> Result<bool, NoMemory> {
+    let text = audit_of(alloc, lines)?;
+    answers(alloc, &["audit"], bytes, status, text.as_slice(), line)
+}
+
+/// Whether audits of whole streams have a line for each message.
+fn whole_are_told(alloc: Global) -> Result<bool, NoMemory> {
+    Ok(
+        tells(alloc, &[], Status::Done, "", "")?
+            && tells(alloc, &FILL, Status::Done, FILL_LINES, "")?,
+    )
+}
+
+/// Whether audits of streams that are refused have a line for each message before that.
+fn refused_are_told(alloc: Global) -> Result<bool, NoMemory> {
     let (cut, _) = FILL.split_at(60);
     let (_, unopened) = FILL.split_at(22);
-    let table: [(&[u8], Status, &str, &str); 5] = [
-        (&[], Status::Done, "", ""),
-        (&FILL, Status::Done, FILL_LINES, ""),
-        (
-            cut,
-            Status::Refused,
-            "1 StartFrame 16\n2 CreateSurface 15\n",
-            "message 3: 1 ChannelTruncated\n",
-        ),
-        (
-            unopened,
-            Status::Refused,
-            "1 CreateSurface 15\n2 SolidFill 24\n",
-            "message 3: 22 FrameMismatch\n",
-        ),
-        (
-            &TWO,
-            Status::Refused,
-            "1 StartFrame 16\n",
-            "message 2: 22 FrameMismatch\n",
-        ),
-    ];
-    for (bytes, status, lines, line) in table {
-        let text = audit_of(rt.alloc(), lines)?;
-        let ran = run_on(rt.alloc(), &["audit"], bytes, &[], &[])?;
-        assert_eq!(rt; ran.status, status);
-        assert_eq!(rt; ran.out.held(), text.as_slice());
-        assert_eq!(rt; ran.err.held(), line.as_bytes());
-    }
-    Ok(())
+    let refused = Status::Refused;
+    let cut_lines = "1 StartFrame 16\n2 CreateSurface 15\n";
+    let unopened_lines = "1 CreateSurface 15\n2 SolidFill 24\n";
+    let truncated = "message 3: 1 ChannelTruncated\n";
+    let third = "message 3: 22 FrameMismatch\n";
+    let second = "message 2: 22 FrameMismatch\n";
+    Ok(
+        tells(alloc, cut, refused, cut_lines, truncated)?
+            && tells(alloc, unopened, refused, unopened_lines, third)?
+            && tells(alloc, &TWO, refused, "1 StartFrame 16\n", second)?,
+    )
+}
+
+/// What is refused has no line, and the end comes all the same.
+#[test]
+fn what_is_applied_has_a_line(rt: HostRuntime) {
+    claim(&rt, whole_are_told(rt.alloc()));
+    claim(&rt, refused_are_told(rt.alloc()));
+}
+
+/// Bytes, and others behind them.
+fn with_behind(alloc: Global, bytes: &[u8], behind: &[u8]) -> Result<Vec<u8>, NoMemory> {
+    let mut all = Vec::new(alloc);
+    all.extend_from_slice(bytes)?;
+    all.extend_from_slice(behind)?;
+    Ok(all)
+}
+
+/// Whether an audit of a stream and of bytes behind it ends so, tells what the stream leaves, and says this.
+fn tells_held(
+    alloc: Global,
+    stream: &[u8],
+    behind: &[u8],
+    status: Status,
+    line: &str,
+) -> Result<bool, NoMemory> {
+    let bytes = with_behind(alloc, stream, behind)?;
+    answers(
+        alloc,
+        &["audit"],
+        bytes.as_slice(),
+        status,
+        HELD.as_bytes(),
+        line,
+    )
+}
+
+/// Whether both audits of a stream tell what it leaves.
+fn both_tell_held(alloc: Global, stream: &[u8]) -> Result<bool, NoMemory> {
+    let line = "message 7: 1 ChannelTruncated\n";
+    Ok(
+        tells_held(alloc, stream, &[], Status::Done, "")?
+            && tells_held(alloc, stream, &[0], Status::Refused, line)?,
+    )
+}
+
+/// The same of the stream of a script.
+fn held_is_told(alloc: Global) -> Result<bool, NoMemory> {
+    let encoded = run_on(alloc, &["encode"], HELD_SCRIPT.as_bytes(), &[], &[])?;
+    both_tell_held(alloc, encoded.out.held())
 }
 
 /// The end is that of what was applied, also where a byte behind the stream is no whole message.
 #[test]
-fn what_is_held_is_told(rt: HostRuntime) -> Result<(), Fail> {
-    let encoded = run_on(rt.alloc(), &["encode"], HELD_SCRIPT.as_bytes(), &[], &[])?;
-    let table: [(&[u8], Status, &str); 2] = [
-        (&[], Status::Done, ""),
-        (&[0], Status::Refused, "message 7: 1 ChannelTruncated\n"),
-    ];
-    for (behind, status, line) in table {
-        let mut bytes = Vec::new(rt.alloc());
-        bytes.extend_from_slice(encoded.out.held())?;
-        bytes.extend_from_slice(behind)?;
-        let ran = run_on(rt.alloc(), &["audit"], &bytes, &[], &[])?;
-        assert_eq!(rt; ran.status, status);
-        assert_eq!(rt; ran.out.held(), HELD.as_bytes());
-        assert_eq!(rt; ran.err.held(), line.as_bytes());
+fn what_is_held_is_told(rt: HostRuntime) {
+    claim(&rt, held_is_told(rt.alloc()));
+}
+
+/// A read that fails, how the audit ends, how many bytes it prints, what it says, and how many bytes are left.
+const READS: [(u64, Status, usize, &str, usize); 3] = [
+    (1, Status::ReadFault, 0, "input: read failed\n", 91),
+    (2, Status::ReadFault, 64, "input: read failed\n", 0),
+    (3, Status::Done, 304, "", 0),
+];
+
+/// Whether each read that fails ends so, where this is printed if none does.
+fn reads_fail(alloc: Global, text: &[u8]) -> Result<bool, NoMemory> {
+    for (read, status, length, line, left) in &READS {
+        let reads = [*read];
+        let ran = run_on(alloc, &["audit"], &FILL, &reads, &[])?;
+        let begun = has_begun(&ran, *status, text, *length, line);
+        if !begun || ran.input.left().len() != *left {
+            return Ok(false);
+        }
     }
-    Ok(())
+    Ok(true)
+}
+
+/// The same of the audit of one red surface.
+fn reads_of_fill_fail(alloc: Global) -> Result<bool, NoMemory> {
+    let text = audit_of(alloc, FILL_LINES)?;
+    reads_fail(alloc, text.as_slice())
 }
 
 /// The stream is one read, and its end another. The lines of what was read before are out.
 #[test]
-fn each_read_of_audit_fails(rt: HostRuntime) -> Result<(), Fail> {
-    let text = audit_of(rt.alloc(), FILL_LINES)?;
-    for (read, status, length, line, left) in [
-        (1, Status::ReadFault, 0, "input: read failed\n", 91),
-        (2, Status::ReadFault, 64, "input: read failed\n", 0),
-        (3, Status::Done, 304, "", 0),
-    ] {
-        let fails = [read];
-        let ran = run_on(rt.alloc(), &["audit"], &FILL, &fails, &[])?;
-        assert_eq!(rt; ran.status, status);
-        assert_eq!(rt; ran.out.held().len(), length);
-        assert!(rt; text.as_slice().starts_with(ran.out.held()));
-        assert_eq!(rt; ran.err.held(), line.as_bytes());
-        assert_eq!(rt; ran.input.left().len(), left);
+fn each_read_of_audit_fails(rt: HostRuntime) {
+    claim(&rt, reads_of_fill_fail(rt.alloc()));
+}
+
+/// Whether each write that fails has printed so many bytes of these.
+fn writes_fail(
+    alloc: Global,
+    bytes: &[u8],
+    text: &[u8],
+    writes: &[(u64, usize)],
+) -> Result<bool, NoMemory> {
+    for (write, length) in writes {
+        if !write_fails(alloc, &["audit"], bytes, *write, text, *length)? {
+            return Ok(false);
+        }
     }
-    Ok(())
+    Ok(true)
+}
+
+/// Writes that fail, and how many bytes are printed before.
+const WRITES: [(u64, usize); 9] = [
+    (1, 0),
+    (2, 16),
+    (3, 35),
+    (4, 50),
+    (5, 64),
+    (6, 72),
+    (7, 146),
+    (8, 222),
+    (9, 296),
+];
+
+/// Whether each write of the audit of one red surface fails so.
+fn writes_of_fill_fail(alloc: Global) -> Result<bool, NoMemory> {
+    let text = audit_of(alloc, FILL_LINES)?;
+    writes_fail(alloc, &FILL, text.as_slice(), &WRITES)
 }
 
 /// Each line is one write: what stands before a failed one is whole.
 #[test]
-fn each_write_of_audit_fails(rt: HostRuntime) -> Result<(), Fail> {
-    let text = audit_of(rt.alloc(), FILL_LINES)?;
-    for (write, length) in [
-        (1, 0),
-        (2, 16),
-        (3, 35),
-        (4, 50),
-        (5, 64),
-        (6, 72),
-        (7, 146),
-        (8, 222),
-        (9, 296),
-    ] {
-        let fails = [write];
-        let ran = run_on(rt.alloc(), &["audit"], &FILL, &[], &fails)?;
-        assert_eq!(rt; ran.status, Status::WriteFault);
-        assert_eq!(rt; ran.out.held().len(), length);
-        assert!(rt; text.as_slice().starts_with(ran.out.held()));
-        assert_eq!(rt; ran.err.held(), b"output: write failed\n".as_slice());
-    }
-    Ok(())
+fn each_write_of_audit_fails(rt: HostRuntime) {
+    claim(&rt, writes_of_fill_fail(rt.alloc()));
 }
+
+/// The same of no messages.
+const EMPTY_WRITES: [(u64, usize); 5] = [(1, 0), (2, 8), (3, 82), (4, 158), (5, 232)];
 
 /// So of no messages.
 #[test]
-fn each_write_of_an_empty_audit_fails(rt: HostRuntime) -> Result<(), Fail> {
-    for (write, length) in [(1, 0), (2, 8), (3, 82), (4, 158), (5, 232)] {
-        let fails = [write];
-        let ran = run_on(rt.alloc(), &["audit"], &[], &[], &fails)?;
-        assert_eq!(rt; ran.status, Status::WriteFault);
-        assert_eq!(rt; ran.out.held().len(), length);
-        assert!(rt; NOTHING.as_bytes().starts_with(ran.out.held()));
-        assert_eq!(rt; ran.err.held(), b"output: write failed\n".as_slice());
-    }
-    Ok(())
+fn each_write_of_an_empty_audit_fails(rt: HostRuntime) {
+    let fail = writes_fail(rt.alloc(), &[], NOTHING.as_bytes(), &EMPTY_WRITES);
+    claim(&rt, fail);
 }

@@ -1,18 +1,9 @@
 //! Both commands, one behind the other.
-use crate::examples::{BLACK, run_on};
+use crate::claiming::claim;
+use crate::examples::{BLACK, answers, prints, run_on, shows};
+use gfx_base::NoMemory;
 use gfxpipe::Status;
 use std::alloc::Global;
-use std::test::Fail;
-
-/// Runs `encode` on a script and then `render`, with these words, on its stream.
-fn shows(alloc: Global, script: &str, words: &[&str]) -> Result<String, Fail> {
-    let encoded = run_on(alloc, &["encode"], script.as_bytes(), &[], &[])?;
-    let rendered = run_on(alloc, words, encoded.out.held(), &[], &[])?;
-    if encoded.status != Status::Done || rendered.status != Status::Done {
-        return Err(Fail::from("not done"));
-    }
-    Ok(String::from_utf8_lossy(alloc, rendered.out.held())?)
-}
 
 /// A reset of the output to 2 by 2, a surface of 2 by 1 that is red, and its place at (1, 0).
 const MAPPED_SCRIPT: &str = r#"step = [
@@ -24,13 +15,10 @@ const MAPPED_SCRIPT: &str = r#"step = [
 ]"#;
 
 #[test]
-fn the_output_of_a_mapped_surface(rt: HostRuntime) -> Result<(), Fail> {
-    let text = shows(rt.alloc(), MAPPED_SCRIPT, &["render", "--output"])?;
-    assert_eq!(rt;
-        text.as_str(),
-        "output 2x2\n000000ff0000ffff\n000000ff000000ff\n"
-    );
-    Ok(())
+fn the_output_of_a_mapped_surface(rt: HostRuntime) {
+    let output = "output 2x2\n000000ff0000ffff\n000000ff000000ff\n";
+    let words = ["render", "--output"];
+    claim(&rt, prints(rt.alloc(), MAPPED_SCRIPT, &words, output));
 }
 
 /// A copy, a bitmap that is kept, shown and forgotten, a surface that is deleted, and an output that
@@ -49,18 +37,30 @@ const WIDE_SCRIPT: &str = r#"step = [
     { do = "frame" },
 ]"#;
 
+/// Whether this is the output of that script.
+fn is_wide_output(output: &[u8]) -> bool {
+    output.len() == 13 + 4800 + 1
+        && output.starts_with(b"output 600x1\n000000ff000000ff")
+        && output.ends_with(b"000000ff000000ff0000ffff\n")
+}
+
+/// Whether that is the output of a stream.
+fn shows_wide_output(alloc: Global, stream: &[u8]) -> Result<bool, NoMemory> {
+    let ran = run_on(alloc, &["render", "--output"], stream, &[], &[])?;
+    Ok(ran.status == Status::Done && is_wide_output(ran.out.held()))
+}
+
+/// Whether it is that of the stream that `encode` makes of the script.
+fn output_is_shown(alloc: Global) -> Result<bool, NoMemory> {
+    let ran = run_on(alloc, &["encode"], WIDE_SCRIPT.as_bytes(), &[], &[])?;
+    shows_wide_output(alloc, ran.out.held())
+}
+
 #[test]
-fn a_copy_a_delete_and_a_forget(rt: HostRuntime) -> Result<(), Fail> {
-    let text = shows(rt.alloc(), WIDE_SCRIPT, &["render"])?;
-    assert_eq!(rt;
-        text.as_str(),
-        "surface 2 3x1 xrgb\n000000ff0000ffff000000ff\n"
-    );
-    let output = shows(rt.alloc(), WIDE_SCRIPT, &["render", "--output"])?;
-    assert_eq!(rt; output.len(), 13 + 4800 + 1);
-    assert!(rt; output.starts_with("output 600x1\n000000ff000000ff"));
-    assert!(rt; output.ends_with("000000ff000000ff0000ffff\n"));
-    Ok(())
+fn a_copy_a_delete_and_a_forget(rt: HostRuntime) {
+    let dump = "surface 2 3x1 xrgb\n000000ff0000ffff000000ff\n";
+    claim(&rt, shows(rt.alloc(), WIDE_SCRIPT, dump));
+    claim(&rt, output_is_shown(rt.alloc()));
 }
 
 /// A bitmap that is kept and shown.
@@ -108,22 +108,19 @@ step = [
     { do = "frame" },
 ]"#;
 
+/// Whether `encode` makes this stream of a script, and `render` shows this of it.
+fn goes_as(alloc: Global, script: &str, stream: &[u8], text: &str) -> Result<bool, NoMemory> {
+    let done = Status::Done;
+    Ok(
+        answers(alloc, &["encode"], script.as_bytes(), done, stream, "")?
+            && answers(alloc, &["render"], stream, done, text.as_bytes(), "")?,
+    )
+}
+
 /// The picture's alpha stays on a surface that keeps it.
 #[test]
-fn bitmaps_and_pictures(rt: HostRuntime) -> Result<(), Fail> {
-    let table: [(&str, &[u8], &str); 2] = [
-        (KEPT_SCRIPT, &KEPT, BLACK),
-        (
-            PAINTED_SCRIPT,
-            &PAINTED,
-            "surface 1 3x1 argb\n000000000102030405060708\n",
-        ),
-    ];
-    for (script, stream, text) in table {
-        let encoded = run_on(rt.alloc(), &["encode"], script.as_bytes(), &[], &[])?;
-        assert_eq!(rt; encoded.out.held(), stream);
-        let rendered = run_on(rt.alloc(), &["render"], stream, &[], &[])?;
-        assert_eq!(rt; rendered.out.held(), text.as_bytes());
-    }
-    Ok(())
+fn bitmaps_and_pictures(rt: HostRuntime) {
+    let painted = "surface 1 3x1 argb\n000000000102030405060708\n";
+    claim(&rt, goes_as(rt.alloc(), KEPT_SCRIPT, &KEPT, BLACK));
+    claim(&rt, goes_as(rt.alloc(), PAINTED_SCRIPT, &PAINTED, painted));
 }

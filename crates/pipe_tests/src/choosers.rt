@@ -1,9 +1,11 @@
 //! Choosers of paints that name no kind.
-use crate::examples::{run_by, run_on};
+use crate::claiming::claim;
+use crate::examples::{has_come_to, nobody, run_by, run_on};
+use gfx_base::NoMemory;
 use gfx_chooser::{ByArea, ByColours, Chooser, Once};
 use gfx_script::Kind;
 use gfxpipe::Status;
-use std::test::Fail;
+use std::alloc::Global;
 
 /// Three paints that name no kind.
 const THREE_SCRIPT: &str =
@@ -66,61 +68,103 @@ step = [
 /// The room of these outputs.
 const ROOM: usize = 65_536;
 
-#[test]
-fn each_answers_once(rt: HostRuntime) -> Result<(), Fail> {
-    let alloc = rt.alloc();
-    let mut choosers = Vec::new(alloc);
-    for kind in [Kind::Raw, Kind::Bands] {
-        choosers.push(Once { kind, left: true })?;
+/// Whether these two kinds are sent, and no chooser is left then.
+fn answer_once(alloc: Global, choosers: &mut Vec<Once>) -> Result<bool, NoMemory> {
+    for kind in &[Kind::Raw, Kind::Bands] {
+        choosers.push(Once {
+            kind: *kind,
+            left: true,
+        })?;
     }
     let script = THREE_SCRIPT.as_bytes();
-    let ran = run_by(alloc, &["encode"], &mut choosers, ROOM, script, &[], &[])?;
-    assert_eq!(rt; ran.status, Status::Done);
-    assert_eq!(rt; ran.out.held(), THREE.as_slice());
-    assert!(rt; choosers.is_empty());
-    Ok(())
+    let ran = run_by(alloc, &["encode"], choosers, ROOM, script, &[], &[])?;
+    Ok(has_come_to(&ran, Status::Done, &THREE, "") && choosers.is_empty())
 }
 
 #[test]
-fn few_colours_and_large_areas(rt: HostRuntime) -> Result<(), Fail> {
-    let alloc = rt.alloc();
-    let mut choosers: Vec<Box<dyn Chooser>> = Vec::new(alloc);
+fn each_answers_once(rt: HostRuntime) {
+    let mut choosers = nobody(rt.alloc());
+    let right = answer_once(rt.alloc(), &mut choosers);
+    drop(choosers);
+    claim(&rt, right);
+}
+
+/// Choosers that are asked for several paints.
+type Choosers = Vec<Box<dyn Chooser>>;
+
+/// Puts a chooser by colours and one by area behind others.
+fn push_both(alloc: Global, choosers: &mut Choosers) -> Result<(), NoMemory> {
     choosers.push(Box::new(alloc, ByColours { most: 16 })?)?;
     choosers.push(Box::new(alloc, ByArea { least: 16_384 })?)?;
-    let script = SIZES_SCRIPT.as_bytes();
-    let told = run_by(alloc, &["session"], &mut choosers, ROOM, script, &[], &[])?;
-    assert_eq!(rt; told.out.held(), SIZES_LINE.as_bytes());
-    assert_eq!(rt; choosers.len(), 2);
     Ok(())
 }
 
+/// Whether they choose as is due, and both are left.
+fn choose(alloc: Global, choosers: &mut Choosers) -> Result<bool, NoMemory> {
+    push_both(alloc, choosers)?;
+    let script = SIZES_SCRIPT.as_bytes();
+    let told = run_by(alloc, &["session"], choosers, ROOM, script, &[], &[])?;
+    Ok(told.out.held() == SIZES_LINE.as_bytes() && choosers.len() == 2)
+}
+
 #[test]
-fn a_frame_that_is_not_planned_asks_nobody(rt: HostRuntime) -> Result<(), Fail> {
-    let alloc = rt.alloc();
-    let mut choosers = Vec::new(alloc);
+fn few_colours_and_large_areas(rt: HostRuntime) {
+    let mut choosers: Choosers = Vec::new(rt.alloc());
+    let right = choose(rt.alloc(), &mut choosers);
+    drop(choosers);
+    claim(&rt, right);
+}
+
+/// Whether a chooser is left where the first frame can't be written.
+fn is_left(alloc: Global, choosers: &mut Vec<Once>) -> Result<bool, NoMemory> {
     choosers.push(Once {
         kind: Kind::Raw,
         left: true,
     })?;
     let script = SECOND_SCRIPT.as_bytes();
-    let ran = run_by(alloc, &["encode"], &mut choosers, ROOM, script, &[], &[1])?;
-    assert_eq!(rt; ran.status, Status::WriteFault);
-    assert_eq!(rt; choosers.len(), 1);
-    Ok(())
+    let ran = run_by(alloc, &["encode"], choosers, ROOM, script, &[], &[1])?;
+    Ok(ran.status == Status::WriteFault && choosers.len() == 1)
+}
+
+#[test]
+fn a_frame_that_is_not_planned_asks_nobody(rt: HostRuntime) {
+    let mut choosers = nobody(rt.alloc());
+    let right = is_left(rt.alloc(), &mut choosers);
+    drop(choosers);
+    claim(&rt, right);
+}
+
+/// Whether an audit of a stream is done and ends with this line.
+fn tells(alloc: Global, stream: &[u8], line: &str) -> Result<bool, NoMemory> {
+    let told = run_on(alloc, &["audit"], stream, &[], &[])?;
+    Ok(told.status == Status::Done && told.out.held().ends_with(line.as_bytes()))
+}
+
+/// The same of the stream of a script whose paint goes as this kind.
+fn is_told(
+    alloc: Global,
+    choosers: &mut Vec<Once>,
+    kind: Kind,
+    line: &str,
+) -> Result<bool, NoMemory> {
+    choosers.push(Once { kind, left: true })?;
+    let script = SECOND_SCRIPT.as_bytes();
+    let sent = run_by(alloc, &["encode"], choosers, ROOM, script, &[], &[])?;
+    tells(alloc, sent.out.held(), line)
+}
+
+/// The same with a new list of choosers.
+fn tells_chosen(alloc: Global, kind: Kind, line: &str) -> Result<bool, NoMemory> {
+    let mut choosers = nobody(alloc);
+    is_told(alloc, &mut choosers, kind, line)
 }
 
 /// A paint in passes leaves a tile, a raw one none.
 #[test]
-fn an_audit_tells_what_was_chosen(rt: HostRuntime) -> Result<(), Fail> {
-    let alloc = rt.alloc();
-    for (kind, line) in [(Kind::Raw, "tiles 0\n"), (Kind::Progressive, "tiles 1\n")] {
-        let mut choosers = Vec::new(alloc);
-        choosers.push(Once { kind, left: true })?;
-        let script = SECOND_SCRIPT.as_bytes();
-        let sent = run_by(alloc, &["encode"], &mut choosers, ROOM, script, &[], &[])?;
-        let told = run_on(alloc, &["audit"], sent.out.held(), &[], &[])?;
-        assert_eq!(rt; told.status, Status::Done);
-        assert!(rt; told.out.held().ends_with(line.as_bytes()));
-    }
-    Ok(())
+fn an_audit_tells_what_was_chosen(rt: HostRuntime) {
+    claim(&rt, tells_chosen(rt.alloc(), Kind::Raw, "tiles 0\n"));
+    claim(
+        &rt,
+        tells_chosen(rt.alloc(), Kind::Progressive, "tiles 1\n"),
+    );
 }

@@ -1,8 +1,10 @@
 //! Paints by ClearCodec, through every command: worked examples, and a session in which a paint is left out that
 //! would have changed what the client holds.
-use crate::examples::{FILL, RED, run_on};
+use crate::claiming::claim;
+use crate::examples::{FILL, RED, answers, has_at};
+use gfx_base::NoMemory;
 use gfxpipe::Status;
-use std::test::Fail;
+use std::alloc::Global;
 
 /// One red pixel, as a run.
 const RESIDUAL_SCRIPT: &str =
@@ -89,50 +91,79 @@ const CASES: [Case; 3] = [
     },
 ];
 
-#[test]
-fn scripts_and_their_answers(rt: HostRuntime) -> Result<(), Fail> {
+/// Whether each script is answered so.
+fn all_are_answered(alloc: Global) -> Result<bool, NoMemory> {
     for case in &CASES {
-        let ran = run_on(rt.alloc(), &[case.word], case.script.as_bytes(), &[], &[])?;
-        assert_eq!(rt; ran.status, case.status);
-        assert_eq!(rt; ran.out.held(), case.out.as_bytes());
-        assert_eq!(rt; ran.err.held(), case.err.as_bytes());
+        let (script, out) = (case.script.as_bytes(), case.out.as_bytes());
+        if !answers(alloc, &[case.word], script, case.status, out, case.err)? {
+            return Ok(false);
+        }
     }
-    Ok(())
+    Ok(true)
 }
 
-/// The data of paints, at their places in the streams of their scripts.
 #[test]
-fn streams_of_scripts(rt: HostRuntime) -> Result<(), Fail> {
-    let residual: [u8; 18] = [0, 0, 4, 0, 0, 0, 0, 0, 0, 0, 0, 0, 0, 0, 0, 0, 0xff, 1];
-    let bands: [u8; 16] = [0, 0, 0, 0, 0, 0, 1, 0, 0xff, 0xff, 0xff, 1, 2, 0, 0, 0];
-    let hit: [u8; 13] = [0, 0, 0, 0, 0, 0, 1, 0, 0xff, 0xff, 0xff, 0, 0x80];
-    let table: [(&str, usize, &[u8]); 3] = [
-        (RESIDUAL_SCRIPT, 74, &residual),
-        (BANDS_SCRIPT, 88, &bands),
-        (BANDS_SCRIPT, 149, &hit),
-    ];
-    for (script, at, data) in table {
-        let ran = run_on(rt.alloc(), &["encode"], script.as_bytes(), &[], &[])?;
-        assert_eq!(rt; ran.status, Status::Done);
-        assert_eq!(rt; ran.out.held().get(at..at + data.len()), Some(data));
+fn scripts_and_their_answers(rt: HostRuntime) {
+    claim(&rt, all_are_answered(rt.alloc()));
+}
+
+/// Scripts, and data of their paints at their places in the streams.
+const DATA: [(&str, usize, &[u8]); 3] = [
+    (
+        RESIDUAL_SCRIPT,
+        74,
+        &[0, 0, 4, 0, 0, 0, 0, 0, 0, 0, 0, 0, 0, 0, 0, 0, 0xff, 1],
+    ),
+    (
+        BANDS_SCRIPT,
+        88,
+        &[0, 0, 0, 0, 0, 0, 1, 0, 0xff, 0xff, 0xff, 1, 2, 0, 0, 0],
+    ),
+    (
+        BANDS_SCRIPT,
+        149,
+        &[0, 0, 0, 0, 0, 0, 1, 0, 0xff, 0xff, 0xff, 0, 0x80],
+    ),
+];
+
+/// Whether all data stand there.
+fn all_data_stand(alloc: Global) -> Result<bool, NoMemory> {
+    for (script, at, data) in &DATA {
+        if !has_at(alloc, script, *at, data)? {
+            return Ok(false);
+        }
     }
-    Ok(())
+    Ok(true)
+}
+
+#[test]
+fn streams_of_scripts(rt: HostRuntime) {
+    claim(&rt, all_data_stand(rt.alloc()));
+}
+
+/// A run of three pixels for a rectangle of two.
+const LONG_RUN: [u8; 49] = [
+    0x2d, 0, 0, 0, 0xe0, 4, 1, 0, 0, 0, 0x2b, 0, 0, 0, 1, 0, 8, 0, 0x20, 0, 0, 0, 0, 2, 0, 1, 0,
+    0x12, 0, 0, 0, 0, 0, 4, 0, 0, 0, 0, 0, 0, 0, 0, 0, 0, 0, 0, 0, 0xff, 3,
+];
+
+/// The red surface, and that run behind it.
+fn with_long_run(alloc: Global) -> Result<Vec<u8>, NoMemory> {
+    let mut bytes = Vec::new(alloc);
+    bytes.extend_from_slice(&FILL[..73])?;
+    bytes.extend_from_slice(&LONG_RUN)?;
+    Ok(bytes)
+}
+
+/// Whether it is refused, and the surface is red.
+fn long_run_is_refused(alloc: Global) -> Result<bool, NoMemory> {
+    let bytes = with_long_run(alloc)?;
+    let (refused, line) = (Status::Refused, "message 4: 27 RunTotal\n");
+    answers(alloc, &["render"], &bytes, refused, RED.as_bytes(), line)
 }
 
 /// A run of three pixels for a rectangle of two is refused, and what was drawn before stays.
 #[test]
-fn a_refused_stream_leaves_the_paint_before(rt: HostRuntime) -> Result<(), Fail> {
-    let stream: [u8; 45] = [
-        0x2d, 0, 0, 0, 0xe0, 4, 1, 0, 0, 0, 0x2b, 0, 0, 0, 1, 0, 8, 0, 0x20, 0, 0, 0, 0, 2, 0, 1,
-        0, 0x12, 0, 0, 0, 0, 0, 4, 0, 0, 0, 0, 0, 0, 0, 0, 0, 0, 0,
-    ];
-    let mut bytes = Vec::new(rt.alloc());
-    bytes.extend_from_slice(&FILL[..73])?;
-    bytes.extend_from_slice(&stream)?;
-    bytes.extend_from_slice(&[0, 0, 0xff, 3])?;
-    let ran = run_on(rt.alloc(), &["render"], &bytes, &[], &[])?;
-    assert_eq!(rt; ran.status, Status::Refused);
-    assert_eq!(rt; ran.out.held(), RED.as_bytes());
-    assert_eq!(rt; ran.err.held(), b"message 4: 27 RunTotal\n".as_slice());
-    Ok(())
+fn a_refused_stream_leaves_the_paint_before(rt: HostRuntime) {
+    claim(&rt, long_run_is_refused(rt.alloc()));
 }

@@ -3,7 +3,6 @@ use gfx_base::{NoMemory, SliceSource, VecSink};
 use gfx_chooser::{Chooser, Once};
 use gfxpipe::{Status, run};
 use std::alloc::Global;
-use std::test::Fail;
 
 /// One red surface in one frame.
 pub const FILL: [u8; 91] = [
@@ -82,20 +81,93 @@ pub(crate) fn run_by<'a, C: Chooser>(
     })
 }
 
-/// What `encode` makes of a script, where it is done.
-pub(crate) fn encoded(alloc: Global, script: &str) -> Result<Vec<u8>, Fail> {
+/// Whether a run has ended so, printed this and said this.
+pub(crate) fn has_come_to(ran: &Ran<'_>, status: Status, out: &[u8], err: &str) -> bool {
+    ran.status == status && ran.out.held() == out && ran.err.held() == err.as_bytes()
+}
+
+/// Whether a run has ended so, printed the first so many bytes of these and said this.
+pub(crate) fn has_begun(
+    ran: &Ran<'_>,
+    status: Status,
+    due: &[u8],
+    length: usize,
+    err: &str,
+) -> bool {
+    let held = ran.out.held();
+    ran.status == status
+        && held.len() == length
+        && due.starts_with(held)
+        && ran.err.held() == err.as_bytes()
+}
+
+/// Whether a command on these bytes ends so, prints this and says this.
+pub(crate) fn answers(
+    alloc: Global,
+    words: &[&str],
+    bytes: &[u8],
+    status: Status,
+    out: &[u8],
+    err: &str,
+) -> Result<bool, NoMemory> {
+    let ran = run_on(alloc, words, bytes, &[], &[])?;
+    Ok(has_come_to(&ran, status, out, err))
+}
+
+/// Whether a command on these bytes ends so where this write fails: it has printed the first so many bytes of these.
+pub(crate) fn write_fails(
+    alloc: Global,
+    words: &[&str],
+    bytes: &[u8],
+    write: u64,
+    due: &[u8],
+    length: usize,
+) -> Result<bool, NoMemory> {
+    let writes = [write];
+    let ran = run_on(alloc, words, bytes, &[], &writes)?;
+    let line = "output: write failed\n";
+    Ok(has_begun(&ran, Status::WriteFault, due, length, line))
+}
+
+/// Whether `encode` is done with a script, and its stream has these bytes at this place.
+pub(crate) fn has_at(
+    alloc: Global,
+    script: &str,
+    at: usize,
+    data: &[u8],
+) -> Result<bool, NoMemory> {
     let ran = run_on(alloc, &["encode"], script.as_bytes(), &[], &[])?;
-    if ran.status != Status::Done {
-        return Err(Fail::from("not encoded"));
+    let stands = match ran.out.held().get(at..) {
+        Some(rest) => rest.starts_with(data),
+        None => false,
+    };
+    Ok(ran.status == Status::Done && stands)
+}
+
+/// Whether `encode` is done with a script, and its stream ends with these bytes.
+pub(crate) fn ends_with(alloc: Global, script: &str, end: &[u8]) -> Result<bool, NoMemory> {
+    let ran = run_on(alloc, &["encode"], script.as_bytes(), &[], &[])?;
+    Ok(ran.status == Status::Done && ran.out.held().ends_with(end))
+}
+
+/// Whether `encode` is done with a script, and a command on its stream is done and prints this.
+pub(crate) fn prints(
+    alloc: Global,
+    script: &str,
+    words: &[&str],
+    out: &str,
+) -> Result<bool, NoMemory> {
+    let ran = run_on(alloc, &["encode"], script.as_bytes(), &[], &[])?;
+    let stream = ran.out.held();
+    let printed = answers(alloc, words, stream, Status::Done, out.as_bytes(), "");
+    if ran.status == Status::Done {
+        printed
+    } else {
+        Ok(false)
     }
-    let mut bytes = Vec::new(alloc);
-    bytes.extend_from_slice(ran.out.held())?;
-    Ok(bytes)
 }
 
 /// Whether `render` shows this of what `encode` makes of a script.
-pub(crate) fn shows(alloc: Global, script: &str, dump: &str) -> Result<bool, Fail> {
-    let stream = encoded(alloc, script)?;
-    let ran = run_on(alloc, &["render"], stream.as_slice(), &[], &[])?;
-    Ok(ran.status == Status::Done && ran.out.held() == dump.as_bytes())
+pub(crate) fn shows(alloc: Global, script: &str, dump: &str) -> Result<bool, NoMemory> {
+    prints(alloc, script, &["render"], dump)
 }

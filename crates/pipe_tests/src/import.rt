@@ -1,8 +1,10 @@
 //! The command `import`: sessions that begin with kept bitmaps, and inputs that are refused. The lines are those of an
 //! independent program.
-use crate::examples::run_on;
+use crate::claiming::claim;
+use crate::examples::{answers, has_come_to, run_on, write_fails};
+use gfx_base::NoMemory;
 use gfxpipe::Status;
-use std::test::Fail;
+use std::alloc::Global;
 
 /// Twice a file that keeps one red pixel under key 5, and a script that shows it.
 const SESSION: &[u8] =
@@ -86,35 +88,38 @@ const CASES: [Case; 8] = [
     },
 ];
 
-#[test]
-fn sessions_begin_with_what_is_imported(rt: HostRuntime) -> Result<(), Fail> {
+/// Whether each input is answered so.
+fn all_are_answered(alloc: Global) -> Result<bool, NoMemory> {
     for case in &CASES {
-        let ran = run_on(rt.alloc(), &["import"], case.input, &[], &[])?;
-        assert_eq!(rt; ran.status, case.status);
-        assert_eq!(rt; ran.out.held(), case.out.as_bytes());
-        assert_eq!(rt; ran.err.held(), case.err.as_bytes());
+        let out = case.out.as_bytes();
+        if !answers(alloc, &["import"], case.input, case.status, out, case.err)? {
+            return Ok(false);
+        }
     }
-    Ok(())
+    Ok(true)
+}
+
+#[test]
+fn sessions_begin_with_what_is_imported(rt: HostRuntime) {
+    claim(&rt, all_are_answered(rt.alloc()));
+}
+
+/// Whether this read that fails ends all, and nothing is printed.
+fn read_fails(alloc: Global, read: u64) -> Result<bool, NoMemory> {
+    let reads = [read];
+    let ran = run_on(alloc, &["import"], SESSION, &reads, &[])?;
+    Ok(has_come_to(&ran, Status::ReadFault, &[], "input: read failed\n"))
 }
 
 /// The second read finds that nothing is left.
 #[test]
-fn each_read_of_import_fails(rt: HostRuntime) -> Result<(), Fail> {
-    for read in [1, 2] {
-        let reads = [read];
-        let ran = run_on(rt.alloc(), &["import"], SESSION, &reads, &[])?;
-        assert_eq!(rt; ran.status, Status::ReadFault);
-        assert!(rt; ran.out.held().is_empty());
-        assert_eq!(rt; ran.err.held(), b"input: read failed\n".as_slice());
-    }
-    Ok(())
+fn each_read_of_import_fails(rt: HostRuntime) {
+    claim(&rt, read_fails(rt.alloc(), 1));
+    claim(&rt, read_fails(rt.alloc(), 2));
 }
 
 #[test]
-fn a_write_of_import_fails(rt: HostRuntime) -> Result<(), Fail> {
-    let ran = run_on(rt.alloc(), &["import"], SESSION, &[], &[1])?;
-    assert_eq!(rt; ran.status, Status::WriteFault);
-    assert!(rt; ran.out.held().is_empty());
-    assert_eq!(rt; ran.err.held(), b"output: write failed\n".as_slice());
-    Ok(())
+fn a_write_of_import_fails(rt: HostRuntime) {
+    let fails = write_fails(rt.alloc(), &["import"], SESSION, 1, &[], 0);
+    claim(&rt, fails);
 }

@@ -10,6 +10,8 @@ mod both;
 #[cfg(test)]
 mod choosers;
 #[cfg(test)]
+mod claiming;
+#[cfg(test)]
 mod clear;
 #[cfg(test)]
 mod encode;

@@ -1,14 +1,8 @@
 //! Paints in passes, by RemoteFX Progressive: what `encode` sends of them, what `render` shows of that, and a session.
 //! The answers are those of an independent program.
-use crate::examples::{encoded, run_on, shows};
+use crate::claiming::claim;
+use crate::examples::{answers, ends_with, shows};
 use gfxpipe::Status;
-use std::alloc::Global;
-use std::test::Fail;
-
-/// Whether the stream of a script ends with these bytes.
-fn ends_with(alloc: Global, script: &str, end: &[u8]) -> Result<bool, Fail> {
-    Ok(encoded(alloc, script)?.as_slice().ends_with(end))
-}
 
 const GREY_SCRIPT: &str =
     r#"picture = [{ name = "grey", width = 2, height = 1, pattern = "solid", colour = "808080ff" }]
@@ -29,9 +23,8 @@ const GREY_PAINT: &[u8] =
 \xc2\xcc\x06\0\0\0\x0e\0\0\0\xe0\x04\x0c\0\0\0\x0c\0\0\0\x01\0\0\0";
 
 #[test]
-fn a_paint_is_one_message_of_a_first_tile(rt: HostRuntime) -> Result<(), Fail> {
-    assert!(rt; ends_with(rt.alloc(), GREY_SCRIPT, GREY_PAINT)?);
-    Ok(())
+fn a_paint_is_one_message_of_a_first_tile(rt: HostRuntime) {
+    claim(&rt, ends_with(rt.alloc(), GREY_SCRIPT, GREY_PAINT));
 }
 
 const WHITE_SCRIPT: &str =
@@ -54,12 +47,11 @@ step = [
 ]"#;
 
 #[test]
-fn white_is_rough_before_it_is_improved(rt: HostRuntime) -> Result<(), Fail> {
+fn white_is_rough_before_it_is_improved(rt: HostRuntime) {
     let rough = "surface 1 2x1 xrgb\nf0f0f0fff0f0f0ff\n";
     let white = "surface 1 2x1 xrgb\nffffffffffffffff\n";
-    let both = shows(rt.alloc(), WHITE_SCRIPT, rough)? && shows(rt.alloc(), WHITER_SCRIPT, white)?;
-    assert!(rt; both);
-    Ok(())
+    claim(&rt, shows(rt.alloc(), WHITE_SCRIPT, rough));
+    claim(&rt, shows(rt.alloc(), WHITER_SCRIPT, white));
 }
 
 /// A picture painted again over itself, once it is at its last level: as differences.
@@ -100,12 +92,14 @@ const PLAIN_TILE: &[u8] =
 \xc2\xcc\x06\0\0\0\x0e\0\0\0\xe0\x04\x0c\0\0\0\x0c\0\0\0\x01\0\0\0";
 
 #[test]
-fn a_tile_at_its_last_level_is_gone_on_from(rt: HostRuntime) -> Result<(), Fail> {
+fn a_tile_at_its_last_level_is_gone_on_from(rt: HostRuntime) {
     let grey = "surface 1 2x1 xrgb\n808080ff808080ff\n";
-    let difference = ends_with(rt.alloc(), DIFFERENCE_SCRIPT, DIFFERENCE_TILE)?;
-    let plain = ends_with(rt.alloc(), AGAIN_SCRIPT, PLAIN_TILE)?;
-    assert!(rt; difference && plain && shows(rt.alloc(), DIFFERENCE_SCRIPT, grey)?);
-    Ok(())
+    claim(
+        &rt,
+        ends_with(rt.alloc(), DIFFERENCE_SCRIPT, DIFFERENCE_TILE),
+    );
+    claim(&rt, ends_with(rt.alloc(), AGAIN_SCRIPT, PLAIN_TILE));
+    claim(&rt, shows(rt.alloc(), DIFFERENCE_SCRIPT, grey));
 }
 
 /// A desktop of 1,920 by 1,080 in passes, a text by bands, and three improvements.
@@ -148,14 +142,8 @@ const DESKTOP: &str =
     ack 3 step 11 client 38324e8103e0ea0170cfc0099af8e24b343faff5871b117b300b4d69433ddb54 server 38324e8103e0ea0170cfc0099af8e24b343faff5871b117b300b4d69433ddb54\n";
 
 #[test]
-fn a_desktop_in_passes_is_acknowledged(rt: HostRuntime) -> Result<(), Fail> {
-    let ran = run_on(
-        rt.alloc(),
-        &["session"],
-        DESKTOP_SCRIPT.as_bytes(),
-        &[],
-        &[],
-    )?;
-    assert!(rt; ran.status == Status::Done && ran.out.held() == DESKTOP.as_bytes());
-    Ok(())
+fn a_desktop_in_passes_is_acknowledged(rt: HostRuntime) {
+    let (script, lines) = (DESKTOP_SCRIPT.as_bytes(), DESKTOP.as_bytes());
+    let told = answers(rt.alloc(), &["session"], script, Status::Done, lines, "");
+    claim(&rt, told);
 }

@@ -1,9 +1,9 @@
 //! Tiles of RemoteFX Progressive, drawn by `render`; the answers are those of an independent program.
-use crate::examples::{FILL, RED, run_on};
+use crate::claiming::claim;
+use crate::examples::{FILL, RED, answers};
 use gfx_base::NoMemory;
 use gfxpipe::Status;
 use std::alloc::Global;
-use std::test::Fail;
 
 /// Two grey pixels.
 const GREY: &str = "surface 1 2x1 xrgb\n808080ff808080ff\n";
@@ -52,41 +52,65 @@ fn stream(alloc: Global, messages: &[&[u8]]) -> Result<Vec<u8>, NoMemory> {
     Ok(bytes)
 }
 
-#[test]
-fn tiles_are_drawn_whole_or_not_at_all(rt: HostRuntime) -> Result<(), Fail> {
-    let table: [(&[&[u8]], Status, &str, &str); 5] = [
-        (&[GREY_TILE, UPGRADE], Status::Done, GREY, ""),
-        (
-            &[HALF_OUTSIDE],
-            Status::Refused,
-            RED,
-            "message 4: 41 TileOutside\n",
-        ),
-        (
-            &[UPGRADE],
-            Status::Refused,
-            RED,
-            "message 4: 45 NoFirstPass\n",
-        ),
-        (
-            &[GREY_TILE, UPGRADE_ELSEWHERE],
-            Status::Refused,
-            GREY,
-            "message 5: 45 NoFirstPass\n",
-        ),
-        (
-            &[GREY_TILE, DELETE_CONTEXT, UPGRADE],
-            Status::Refused,
-            GREY,
-            "message 6: 45 NoFirstPass\n",
-        ),
-    ];
-    for (messages, status, out, err) in table {
-        let bytes = stream(rt.alloc(), messages)?;
-        let ran = run_on(rt.alloc(), &["render"], &bytes, &[], &[])?;
-        assert_eq!(rt; ran.status, status);
-        assert_eq!(rt; ran.out.held(), out.as_bytes());
-        assert_eq!(rt; ran.err.held(), err.as_bytes());
+/// Messages behind the red surface, how `render` ends with them, what it shows, and what it says.
+struct Case {
+    messages: &'static [&'static [u8]],
+    status: Status,
+    out: &'static str,
+    err: &'static str,
+}
+
+const CASES: [Case; 5] = [
+    Case {
+        messages: &[GREY_TILE, UPGRADE],
+        status: Status::Done,
+        out: GREY,
+        err: "",
+    },
+    Case {
+        messages: &[HALF_OUTSIDE],
+        status: Status::Refused,
+        out: RED,
+        err: "message 4: 41 TileOutside\n",
+    },
+    Case {
+        messages: &[UPGRADE],
+        status: Status::Refused,
+        out: RED,
+        err: "message 4: 45 NoFirstPass\n",
+    },
+    Case {
+        messages: &[GREY_TILE, UPGRADE_ELSEWHERE],
+        status: Status::Refused,
+        out: GREY,
+        err: "message 5: 45 NoFirstPass\n",
+    },
+    Case {
+        messages: &[GREY_TILE, DELETE_CONTEXT, UPGRADE],
+        status: Status::Refused,
+        out: GREY,
+        err: "message 6: 45 NoFirstPass\n",
+    },
+];
+
+/// Whether `render` answers a case so.
+fn is_drawn(alloc: Global, case: &Case) -> Result<bool, NoMemory> {
+    let bytes = stream(alloc, case.messages)?;
+    let out = case.out.as_bytes();
+    answers(alloc, &["render"], &bytes, case.status, out, case.err)
+}
+
+/// Whether it answers each so.
+fn all_are_drawn(alloc: Global) -> Result<bool, NoMemory> {
+    for case in &CASES {
+        if !is_drawn(alloc, case)? {
+            return Ok(false);
+        }
     }
-    Ok(())
+    Ok(true)
+}
+
+#[test]
+fn tiles_are_drawn_whole_or_not_at_all(rt: HostRuntime) {
+    claim(&rt, all_are_drawn(rt.alloc()));
 }

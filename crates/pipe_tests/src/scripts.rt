@@ -1,9 +1,9 @@
 //! Faults of scripts, and small caches that overflow.
-use crate::examples::{nobody, run_on};
-use gfx_base::{SliceSource, VecSink};
-use gfxpipe::{Status, run};
+use crate::claiming::claim;
+use crate::examples::{answers, nobody, run_by, run_on};
+use gfx_base::NoMemory;
+use gfxpipe::Status;
 use std::alloc::Global;
-use std::test::Fail;
 
 /// Scripts with one fault each, and the line of it as a reference implementation prints it.
 const FAULTS: [(&str, &str); 21] = [
@@ -72,39 +72,63 @@ const FAULTS: [(&str, &str); 21] = [
     ),
 ];
 
-#[test]
-fn the_first_fault_is_told(rt: HostRuntime) -> Result<(), Fail> {
-    for (script, line) in FAULTS {
-        let ran = run_on(rt.alloc(), &["encode"], script.as_bytes(), &[], &[])?;
-        assert_eq!(rt; ran.status, Status::Refused);
-        assert_eq!(rt; ran.err.held(), line.as_bytes());
-        assert_eq!(rt; ran.out.held().len(), 0);
+/// The first script whose fault is told otherwise, if there is one.
+fn first_wrong(alloc: Global) -> Result<Option<&'static str>, NoMemory> {
+    for (script, line) in &FAULTS {
+        let bytes = script.as_bytes();
+        if !answers(alloc, &["encode"], bytes, Status::Refused, &[], line)? {
+            return Ok(Some(*script));
+        }
     }
+    Ok(None)
+}
+
+#[test]
+fn the_first_fault_is_told(rt: HostRuntime) {
+    assert_eq!(rt; first_wrong(rt.alloc()), Ok(None));
+}
+
+/// The script of one fill, around its rectangles.
+const FILL_FRONT: &str =
+    "step = [{ do = \"surface\", id = 1, width = 1, height = 1 }, { do = \"fill\", id = 1, colour = \"00000000\", rects = [";
+
+const FILL_BACK: &str = "] }, { do = \"frame\" }]";
+
+/// Puts a fill of so many empty rectangles behind a script.
+fn push_rects(script: &mut String, count: usize) -> Result<(), NoMemory> {
+    script.push_str(FILL_FRONT)?;
+    for _ in 0..count {
+        script.push_str("[0,0,0,0],")?;
+    }
+    script.push_str(FILL_BACK)?;
     Ok(())
 }
 
 /// A script of one fill of so many empty rectangles.
-fn many_rects(alloc: Global, count: usize) -> Result<String, Fail> {
-    let mut script = String::from_str(
-        alloc,
-        "step = [{ do = \"surface\", id = 1, width = 1, height = 1 }, { do = \"fill\", id = 1, colour = \"00000000\", rects = [",
-    )?;
-    for _ in 0..count {
-        script.push_str("[0,0,0,0],")?;
-    }
-    script.push_str("] }, { do = \"frame\" }]")?;
+fn many_rects(alloc: Global, count: usize) -> Result<String, NoMemory> {
+    let mut script = String::new(alloc);
+    push_rects(&mut script, count)?;
     Ok(script)
 }
 
+/// Whether the most rectangles aren't refused. Their stream is longer than the room for it.
+fn most_are_taken(alloc: Global) -> Result<bool, NoMemory> {
+    let most = many_rects(alloc, 1024)?;
+    let ran = run_on(alloc, &["encode"], most.as_bytes(), &[], &[])?;
+    Ok(ran.status != Status::Refused)
+}
+
+/// Whether one more is refused.
+fn more_are_refused(alloc: Global) -> Result<bool, NoMemory> {
+    let more = many_rects(alloc, 1025)?;
+    let (refused, line) = (Status::Refused, "script: step 2: Range\n");
+    answers(alloc, &["encode"], more.as_bytes(), refused, &[], line)
+}
+
 #[test]
-fn rectangles_are_1024_at_most(rt: HostRuntime) -> Result<(), Fail> {
-    let most = many_rects(rt.alloc(), 1024)?;
-    let ran = run_on(rt.alloc(), &["encode"], most.as_bytes(), &[], &[])?;
-    assert!(rt; ran.status != Status::Refused);
-    let more = many_rects(rt.alloc(), 1025)?;
-    let ran = run_on(rt.alloc(), &["encode"], more.as_bytes(), &[], &[])?;
-    assert_eq!(rt; ran.err.held(), b"script: step 2: Range\n".as_slice());
-    Ok(())
+fn rectangles_are_1024_at_most(rt: HostRuntime) {
+    claim(&rt, most_are_taken(rt.alloc()));
+    claim(&rt, more_are_refused(rt.alloc()));
 }
 
 /// What keeping one pixel under key 2 sends where slot 1 goes for it, and the end of the frame.
@@ -120,6 +144,9 @@ const KEPT_IN_SLOT_1: [u8; 68] = [
 
 const SMALL_CLIENT: &str = "client = [{ version = \"10\", small = true }]\n";
 
+/// The room of the streams of such clients' scripts.
+const ROOM: usize = 200_000;
+
 /// The largest bitmap that a small cache holds, and one more.
 const BYTES_SCRIPT: &str = r#"step = [
     { do = "surface", id = 1, width = 2048, height = 2048 },
@@ -128,43 +155,49 @@ const BYTES_SCRIPT: &str = r#"step = [
     { do = "frame" },
 ]"#;
 
-/// A script that fills all slots of a small cache, and keeps one bitmap more.
-fn slots_script(alloc: Global) -> Result<String, Fail> {
-    let mut script = String::from_str(
-        alloc,
-        "step = [{ do = \"surface\", id = 1, width = 1, height = 1 },",
-    )?;
-    for number in 0..4097u16 {
-        let key = if number < 4096 { number + 3 } else { 2 };
-        script.push_str("{ do = \"keep\", id = 1, rect = [0, 0, 1, 1], key = ")?;
-        script.push_str(itoa::Buffer::new().format(key))?;
-        script.push_str(" },")?;
+/// Puts a step behind a script that keeps one pixel under a key.
+fn push_keep(script: &mut String, key: u16) -> Result<(), NoMemory> {
+    script.push_str("{ do = \"keep\", id = 1, rect = [0, 0, 1, 1], key = ")?;
+    script.push_str(itoa::Buffer::new().format(key))?;
+    script.push_str(" },")?;
+    Ok(())
+}
+
+/// Puts steps behind a script that fill all slots of a small cache, and keep one bitmap more.
+fn push_slots(script: &mut String) -> Result<(), NoMemory> {
+    script.push_str("step = [{ do = \"surface\", id = 1, width = 1, height = 1 },")?;
+    for number in 0..4096u16 {
+        push_keep(script, number + 3)?;
     }
+    push_keep(script, 2)?;
     script.push_str("{ do = \"frame\" }]")?;
-    Ok(script)
+    Ok(())
+}
+
+/// Whether slot 1 goes for the last bitmap of a script.
+fn first_is_dropped(alloc: Global, script: &str) -> Result<bool, NoMemory> {
+    let mut choosers = nobody(alloc);
+    let bytes = script.as_bytes();
+    let ran = run_by(alloc, &["encode"], &mut choosers, ROOM, bytes, &[], &[])?;
+    Ok(ran.status == Status::Done && ran.out.held().ends_with(&KEPT_IN_SLOT_1))
+}
+
+/// The same of a small client's script of the largest bitmap and one more.
+fn bytes_are_dropped(alloc: Global) -> Result<bool, NoMemory> {
+    let mut script = String::from_str(alloc, SMALL_CLIENT)?;
+    script.push_str(BYTES_SCRIPT)?;
+    first_is_dropped(alloc, script.as_str())
+}
+
+/// The same of one that fills all slots.
+fn slots_are_dropped(alloc: Global) -> Result<bool, NoMemory> {
+    let mut script = String::from_str(alloc, SMALL_CLIENT)?;
+    push_slots(&mut script)?;
+    first_is_dropped(alloc, script.as_str())
 }
 
 #[test]
-fn a_full_small_cache_drops_its_first_bitmap(rt: HostRuntime) -> Result<(), Fail> {
-    let alloc = rt.alloc();
-    let slots = slots_script(alloc)?;
-    for steps in [BYTES_SCRIPT, slots.as_str()] {
-        let mut script = String::from_str(alloc, SMALL_CLIENT)?;
-        script.push_str(steps)?;
-        let mut input = SliceSource::new(script.as_bytes(), &[]);
-        let mut out = VecSink::new(alloc, 200_000, &[])?;
-        let mut err = VecSink::new(alloc, 64, &[])?;
-        let status = run(
-            alloc,
-            &["encode"],
-            &mut nobody(alloc),
-            &mut input,
-            &mut out,
-            &mut err,
-        )
-        .into_status();
-        assert_eq!(rt; status, Status::Done);
-        assert!(rt; out.held().ends_with(&KEPT_IN_SLOT_1));
-    }
-    Ok(())
+fn a_full_small_cache_drops_its_first_bitmap(rt: HostRuntime) {
+    claim(&rt, bytes_are_dropped(rt.alloc()));
+    claim(&rt, slots_are_dropped(rt.alloc()));
 }

@@ -1,7 +1,9 @@
 //! The command `session`: scripts with turns, and the lines of the frames that were acknowledged.
-use crate::examples::{FILL_SCRIPT, run_on};
+use crate::claiming::claim;
+use crate::examples::{FILL_SCRIPT, answers, write_fails};
+use gfx_base::NoMemory;
 use gfxpipe::Status;
-use std::test::Fail;
+use std::alloc::Global;
 
 /// A surface, the same in red, and the same in green, each in a frame of its own. One frame may be in
 /// flight. The server hears which versions the client offers, and has four turns: the last three queue the
@@ -138,33 +140,31 @@ const CASES: [Case; 7] = [
     },
 ];
 
-#[test]
-fn acknowledged_frames_are_told(rt: HostRuntime) -> Result<(), Fail> {
+/// Whether each session is answered so.
+fn all_are_answered(alloc: Global) -> Result<bool, NoMemory> {
     for case in &CASES {
-        let ran = run_on(rt.alloc(), &["session"], case.script.as_bytes(), &[], &[])?;
-        assert_eq!(rt; ran.status, case.status);
-        assert_eq!(rt; ran.out.held(), case.out.as_bytes());
-        assert_eq!(rt; ran.err.held(), case.err.as_bytes());
+        let (script, out) = (case.script.as_bytes(), case.out.as_bytes());
+        if !answers(alloc, &["session"], script, case.status, out, case.err)? {
+            return Ok(false);
+        }
     }
-    Ok(())
+    Ok(true)
+}
+
+#[test]
+fn acknowledged_frames_are_told(rt: HostRuntime) {
+    claim(&rt, all_are_answered(rt.alloc()));
+}
+
+/// Whether this write that fails leaves so many bytes of the lines.
+fn leaves(alloc: Global, write: u64, length: usize) -> Result<bool, NoMemory> {
+    let (script, lines) = (JOINED_SCRIPT.as_bytes(), JOINED.as_bytes());
+    write_fails(alloc, &["session"], script, write, lines, length)
 }
 
 /// Each line is one write: what stands before a failed one is whole.
 #[test]
-fn each_write_of_session_fails(rt: HostRuntime) -> Result<(), Fail> {
-    for (write, length) in [(1, 0), (2, 157)] {
-        let writes = [write];
-        let ran = run_on(
-            rt.alloc(),
-            &["session"],
-            JOINED_SCRIPT.as_bytes(),
-            &[],
-            &writes,
-        )?;
-        assert_eq!(rt; ran.status, Status::WriteFault);
-        assert_eq!(rt; ran.out.held().len(), length);
-        assert!(rt; JOINED.as_bytes().starts_with(ran.out.held()));
-        assert_eq!(rt; ran.err.held(), b"output: write failed\n".as_slice());
-    }
-    Ok(())
+fn each_write_of_session_fails(rt: HostRuntime) {
+    claim(&rt, leaves(rt.alloc(), 1, 0));
+    claim(&rt, leaves(rt.alloc(), 2, 157));
 }

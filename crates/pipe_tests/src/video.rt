@@ -1,11 +1,11 @@
 //! Paints by RemoteFX video, through every command: worked examples, tiles across cells by both entropy coders, a thin
 //! client, and that no such paint is left out or covers another step. The answers are those of the definitions by hand,
 //! and of an independent program.
-use crate::examples::{encoded, run_on, shows};
+use crate::claiming::claim;
+use crate::examples::{answers, has_at, run_on, shows};
 use gfx_base::NoMemory;
 use gfxpipe::Status;
 use std::alloc::Global;
-use std::test::Fail;
 
 const GREY_SCRIPT: &str =
     r#"picture = [{ name = "grey", width = 2, height = 1, pattern = "solid", colour = "808080ff" }]
@@ -65,20 +65,49 @@ const SHOWN: [(&str, &str, &str); 2] = [
     ),
 ];
 
-#[test]
-fn grey_as_video_and_to_a_thin_client(rt: HostRuntime) -> Result<(), Fail> {
-    let grey = encoded(rt.alloc(), GREY_SCRIPT)?;
-    let thin = encoded(rt.alloc(), THIN_SCRIPT)?;
-    assert_eq!(rt; grey.as_slice().get(PAINT_AT..), Some(GREY_PAINT));
-    assert!(rt; thin.as_slice().starts_with(grey.as_slice()));
-    assert!(rt; thin.as_slice().ends_with(THIN_END));
-    assert_eq!(rt; thin.len(), grey.len() + THIN_END.len());
-    for (script, dump, line) in SHOWN {
-        let ran = run_on(rt.alloc(), &["session"], script.as_bytes(), &[], &[])?;
-        assert!(rt; shows(rt.alloc(), script, dump)?);
-        assert_eq!(rt; ran.out.held(), line.as_bytes());
+/// Whether a stream of grey is a paint by video, and nothing else behind its beginning.
+fn is_grey(grey: &[u8]) -> bool {
+    grey.get(PAINT_AT..) == Some(GREY_PAINT)
+}
+
+/// Whether the stream to a thin client is that of grey, and its end.
+fn is_grey_and_more(thin: &[u8], grey: &[u8]) -> bool {
+    thin.starts_with(grey) && thin.get(grey.len()..) == Some(THIN_END)
+}
+
+/// The same of the stream that `encode` makes.
+fn goes_on_from(alloc: Global, grey: &[u8]) -> Result<bool, NoMemory> {
+    let thin = run_on(alloc, &["encode"], THIN_SCRIPT.as_bytes(), &[], &[])?;
+    Ok(thin.status == Status::Done && is_grey_and_more(thin.out.held(), grey))
+}
+
+/// Whether both scripts go in these streams.
+fn streams_are_right(alloc: Global) -> Result<bool, NoMemory> {
+    let grey = run_on(alloc, &["encode"], GREY_SCRIPT.as_bytes(), &[], &[])?;
+    let right = grey.status == Status::Done && is_grey(grey.out.held());
+    Ok(goes_on_from(alloc, grey.out.held())? && right)
+}
+
+/// Whether both scripts are shown so, and their sessions have these lines.
+fn both_are_shown(alloc: Global) -> Result<bool, NoMemory> {
+    for (script, dump, line) in &SHOWN {
+        if !shows(alloc, script, dump)? || !has_lines(alloc, script, line)? {
+            return Ok(false);
+        }
     }
-    Ok(())
+    Ok(true)
+}
+
+/// Whether the session of a script is done and has these lines.
+fn has_lines(alloc: Global, script: &str, lines: &str) -> Result<bool, NoMemory> {
+    let (bytes, lines) = (script.as_bytes(), lines.as_bytes());
+    answers(alloc, &["session"], bytes, Status::Done, lines, "")
+}
+
+#[test]
+fn grey_as_video_and_to_a_thin_client(rt: HostRuntime) {
+    claim(&rt, streams_are_right(rt.alloc()));
+    claim(&rt, both_are_shown(rt.alloc()));
 }
 
 /// A script of these parts.
@@ -123,18 +152,21 @@ const SET_BY_RLGR3: &[u8] =
 \x13\xff\xff\xff\xff\xff\xff\xff\xfd\x80\0\x28\0\x07\0\x01\x40\0\x50\0\x70\0\xa0\x03\x84\x5e\0\
 \xe0\x14\x05\x01\x98\xd5\xc8\x3a\x0e\x63\x1b\x9c\x83\xa0\xe6\x63\x73\x90\xe8\x73\x31\xb9\xc8\x74\x39\x98\xdf";
 
+/// Whether the tile set of two tiles stands so by a coder, and what it shows is the same.
+fn lies_across(alloc: Global, coder: &str, set: &[u8]) -> Result<bool, NoMemory> {
+    let script = joined(alloc, &["video.entropy = \"", coder, "\"\n", ACROSS])?;
+    stands_and_shows(alloc, script.as_str(), set)
+}
+
+/// The same of a script.
+fn stands_and_shows(alloc: Global, script: &str, set: &[u8]) -> Result<bool, NoMemory> {
+    Ok(has_at(alloc, script, SET_AT, set)? && shows(alloc, script, ENDS)?)
+}
+
 #[test]
-fn tiles_lie_across_cells_by_either_coder(rt: HostRuntime) -> Result<(), Fail> {
-    for (coder, set) in [("rlgr1", SET_BY_RLGR1), ("rlgr3", SET_BY_RLGR3)] {
-        let script = joined(rt.alloc(), &["video.entropy = \"", coder, "\"\n", ACROSS])?;
-        let stream = encoded(rt.alloc(), script.as_str())?;
-        assert_eq!(rt;
-            stream.as_slice().get(SET_AT..SET_AT + set.len()),
-            Some(set)
-        );
-        assert!(rt; shows(rt.alloc(), script.as_str(), ENDS)?);
-    }
-    Ok(())
+fn tiles_lie_across_cells_by_either_coder(rt: HostRuntime) {
+    claim(&rt, lies_across(rt.alloc(), "rlgr1", SET_BY_RLGR1));
+    claim(&rt, lies_across(rt.alloc(), "rlgr3", SET_BY_RLGR3));
 }
 
 /// The parts of `between`.
@@ -204,22 +236,40 @@ const WAITED: &str =
 
 const THIN_CLIENT: &str = "client = [{ version = \"8.1\", thin = true }]\n";
 
+/// Clients, kinds of paints, how many bytes of the frame are taken, and the lines.
+const TAKEN: [(&str, &str, &str, &str); 4] = [
+    ("", "video", "476", ANSWERED),
+    ("", "video", "475", WAITED),
+    (THIN_CLIENT, "progressive", "476", ANSWERED),
+    (THIN_CLIENT, "progressive", "475", WAITED),
+];
+
+/// Whether the session of such a script has these lines.
+fn is_answered(
+    alloc: Global,
+    client: &str,
+    kind: &str,
+    take: &str,
+    lines: &str,
+) -> Result<bool, NoMemory> {
+    let script = between(alloc, client, kind, take)?;
+    has_lines(alloc, script.as_str(), lines)
+}
+
+/// Whether each has its lines.
+fn all_are_answered(alloc: Global) -> Result<bool, NoMemory> {
+    for (client, kind, take, lines) in &TAKEN {
+        if !is_answered(alloc, client, kind, take, lines)? {
+            return Ok(false);
+        }
+    }
+    Ok(true)
+}
+
 /// The frame has 476 bytes: 22 and 18 round two fills of 30 and two paints of 188.
 #[test]
-fn nothing_is_left_out_beside_video(rt: HostRuntime) -> Result<(), Fail> {
-    let table = [
-        ("", "video", "476", ANSWERED),
-        ("", "video", "475", WAITED),
-        (THIN_CLIENT, "progressive", "476", ANSWERED),
-        (THIN_CLIENT, "progressive", "475", WAITED),
-    ];
-    for (client, kind, take, lines) in table {
-        let script = between(rt.alloc(), client, kind, take)?;
-        let ran = run_on(rt.alloc(), &["session"], script.as_bytes(), &[], &[])?;
-        assert_eq!(rt; ran.status, Status::Done);
-        assert_eq!(rt; ran.out.held(), lines.as_bytes());
-    }
-    Ok(())
+fn nothing_is_left_out_beside_video(rt: HostRuntime) {
+    claim(&rt, all_are_answered(rt.alloc()));
 }
 
 /// The frames' headers of the two paints, and where they stand: messages are numbered from 0.
@@ -227,12 +277,18 @@ const FIRST: &[u8] = b"\xc4\xcc\x0e\0\0\0\x01\0\0\0\0\0\x01\0";
 
 const SECOND: &[u8] = b"\xc4\xcc\x0e\0\0\0\x01\0\x01\0\0\0\x01\0";
 
+/// Whether they stand in the stream of a script.
+fn are_counted(alloc: Global, script: &str) -> Result<bool, NoMemory> {
+    Ok(has_at(alloc, script, 191, FIRST)? && has_at(alloc, script, 409, SECOND)?)
+}
+
+/// The same of a script of two paints by video.
+fn two_are_counted(alloc: Global) -> Result<bool, NoMemory> {
+    let script = between(alloc, "", "video", "1")?;
+    are_counted(alloc, script.as_str())
+}
+
 #[test]
-fn messages_of_video_are_counted(rt: HostRuntime) -> Result<(), Fail> {
-    let script = between(rt.alloc(), "", "video", "1")?;
-    let stream = encoded(rt.alloc(), script.as_str())?;
-    for (at, header) in [(191, FIRST), (409, SECOND)] {
-        assert_eq!(rt; stream.as_slice().get(at..at + header.len()), Some(header));
-    }
-    Ok(())
+fn messages_of_video_are_counted(rt: HostRuntime) {
+    claim(&rt, two_are_counted(rt.alloc()));
 }

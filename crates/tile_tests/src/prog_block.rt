@@ -1,9 +1,10 @@
 //! Blocks of RemoteFX Progressive: the worked examples both ways, and every refusal in its order.
 use gfx_base::{Bytes, Fault, Refusal};
-use gfx_prog_block::{Area, Block, PackedQuant, Tile, TileHead, read_blocks, write_blocks};
+use gfx_prog_block::{
+    Area, Block, Blocks, PackedQuant, Region, RegionLevel, Tile, TileHead, read_blocks,
+    write_blocks,
+};
 use std::alloc::Global;
-use std::process::Abort;
-use std::test::Fail;
 
 // A grey tile, as a server paints it first.
 const GREY: &[u8] = b"\xc0\xcc\x0c\0\0\0\xca\xac\xcc\xca\0\x01\
@@ -45,58 +46,100 @@ fn again(alloc: Global, bytes: &[u8]) -> Option<Bytes> {
     Some(out)
 }
 
+// Bytes, and those that are written back. What a sync block holds is written anew.
+const WRITTEN: [(&[u8], &[u8]); 5] = [
+    (GREY, GREY),
+    (LISTS, LISTS),
+    (EACH, EACH),
+    (b"", b""),
+    (
+        b"\xc0\xcc\x0c\0\0\0\x01\x02\x03\x04\x05\x06",
+        b"\xc0\xcc\x0c\0\0\0\xca\xac\xcc\xca\0\x01",
+    ),
+];
+
+// Whether these bytes are read, and those written back.
+fn is_written(alloc: Global, bytes: &[u8], due: &[u8]) -> bool {
+    match again(alloc, bytes) {
+        Some(out) => out.as_slice() == due,
+        None => false,
+    }
+}
+
+// Whether all are written back so.
+fn all_are_written(alloc: Global) -> bool {
+    for (bytes, due) in &WRITTEN {
+        if !is_written(alloc, bytes, due) {
+            return false;
+        }
+    }
+    true
+}
+
 // What is written back is what was read; what a sync block holds is written anew.
 #[test]
 fn read_and_written(rt: HostRuntime) {
-    for (bytes, due) in [
-        (GREY, GREY),
-        (LISTS, LISTS),
-        (EACH, EACH),
-        (b"", b""),
-        (
-            b"\xc0\xcc\x0c\0\0\0\x01\x02\x03\x04\x05\x06",
-            b"\xc0\xcc\x0c\0\0\0\xca\xac\xcc\xca\0\x01",
-        ),
-    ] {
-        match again(rt.alloc(), bytes) {
-            Some(out) => assert!(rt; out.as_slice() == due),
-            None => assert!(rt; false),
-        }
+    assert!(rt; all_are_written(rt.alloc()));
+}
+
+// The rectangle of the region.
+const AREA: Area = Area {
+    x: 1,
+    y: 2,
+    width: 3,
+    height: 4,
+};
+
+// Whether a quant has these values, and is packed from them again.
+fn is_packed(packed: PackedQuant) -> bool {
+    let quant = packed.quant();
+    quant.values == [7, 8, 9, 4, 5, 6, 1, 2, 3, 0] && PackedQuant::new(&quant) == packed
+}
+
+// Whether the level of a region has this quality, and its last quant these values.
+fn is_leveled(level: RegionLevel) -> bool {
+    level.quality == 7 && level.cr.quant().values == [13, 14, 14, 12, 12, 13, 10, 11, 11, 10]
+}
+
+// Whether a region has the lists that are due, if each has an item.
+fn has_lists(region: &Region<'_>) -> Option<bool> {
+    let rect = region.rects.get(0)? == AREA;
+    let quant = is_packed(region.quants.get(0)?);
+    Some(rect && quant && is_leveled(region.levels.get(0)?))
+}
+
+// The region that blocks begin with, if they do.
+fn region_of<'a, 'b>(blocks: &'b Blocks<'a>) -> Option<&'b Region<'a>> {
+    match blocks.get(0) {
+        Some(Block::Region(region)) => Some(region),
+        _ => None,
     }
+}
+
+// Whether the lists of the region are read so, if they are read.
+fn lists_are_read(alloc: Global) -> Option<bool> {
+    let blocks = read_blocks(alloc, LISTS).ok()?;
+    let lists = match region_of(&blocks) {
+        Some(region) => has_lists(region),
+        None => None,
+    };
+    drop(blocks);
+    lists
 }
 
 // The lists of a region, as an independent program prints them.
 #[test]
-fn lists_of_a_region(rt: HostRuntime) -> Result<(), Fail> {
-    let blocks = read_blocks(rt.alloc(), LISTS).ok().ok_or("refused")?;
-    match blocks.get(0) {
-        Some(Block::Region(region)) => {
-            let area = Area {
-                x: 1,
-                y: 2,
-                width: 3,
-                height: 4,
-            };
-            assert!(rt; region.rects.get(0) == Some(area));
-            let packed = region.quants.get(0).ok_or("no quant")?;
-            let quant = packed.quant();
-            assert!(rt; quant.values == [7, 8, 9, 4, 5, 6, 1, 2, 3, 0]);
-            assert!(rt; PackedQuant::new(&quant) == packed);
-            let level = region.levels.get(0).ok_or("no level")?;
-            assert!(rt; level.quality == 7);
-            assert!(rt; level.cr.quant().values == [13, 14, 14, 12, 12, 13, 10, 11, 11, 10]);
-        }
-        _ => assert!(rt; false),
-    }
-    Ok(())
+fn lists_of_a_region(rt: HostRuntime) {
+    assert_eq!(rt; lists_are_read(rt.alloc()), Some(true));
 }
 
-fn shows(rt: &impl Abort, tile: &Tile<'_>) {
+// Whether a tile has the fields that are due of its kind.
+fn shows(tile: &Tile<'_>) -> bool {
     match tile {
         Tile::Simple { head, flags, pass } => {
-            assert!(rt; (*head, *flags) == (HEAD, 1));
-            assert!(rt; pass.y.as_slice() == b"\x0a".as_slice());
-            assert!(rt; pass.tail.as_slice() == b"\x0d".as_slice());
+            (*head, *flags) == (HEAD, 1)
+                && pass.y.as_slice() == b"\x0a".as_slice()
+                && pass.tail.as_slice() == b"\x0d".as_slice()
         }
         Tile::First {
             head,
@@ -104,99 +147,124 @@ fn shows(rt: &impl Abort, tile: &Tile<'_>) {
             quality,
             pass,
         } => {
-            assert!(rt; (*head, *flags, *quality) == (HEAD, 8, 0xFF));
-            assert!(rt; pass.cb.as_slice() == b"\x0b".as_slice());
-            assert!(rt; pass.cr.as_slice() == b"\x0c\x0d".as_slice());
+            (*head, *flags, *quality) == (HEAD, 8, 0xFF)
+                && pass.cb.as_slice() == b"\x0b".as_slice()
+                && pass.cr.as_slice() == b"\x0c\x0d".as_slice()
         }
         Tile::Upgrade {
             head,
             quality,
             pass,
         } => {
-            assert!(rt; (*head, *quality) == (HEAD, 0));
-            assert!(rt; pass.y_raw.as_slice() == b"\x02\x02".as_slice());
-            assert!(rt; pass.cr_srl.as_slice() == b"\x05\x05\x05\x05\x05".as_slice());
+            (*head, *quality) == (HEAD, 0)
+                && pass.y_raw.as_slice() == b"\x02\x02".as_slice()
+                && pass.cr_srl.as_slice() == b"\x05\x05\x05\x05\x05".as_slice()
         }
     }
 }
 
+// Whether a region has three tiles, each with the fields that are due.
+fn has_tiles(region: &Region<'_>) -> bool {
+    for tile in region.tiles.as_slice() {
+        if !shows(tile) {
+            return false;
+        }
+    }
+    region.flags == 0x80 && region.tiles.len() == 3
+}
+
+// Whether the tiles of the region are read so, if they are read.
+fn tiles_are_read(alloc: Global) -> Option<bool> {
+    let blocks = read_blocks(alloc, EACH).ok()?;
+    let tiles = match region_of(&blocks) {
+        Some(region) => has_tiles(region),
+        None => false,
+    };
+    drop(blocks);
+    Some(tiles)
+}
+
 // The fields of tiles, as an independent program prints them.
 #[test]
-fn tiles_of_each_kind(rt: HostRuntime) -> Result<(), Fail> {
-    let blocks = read_blocks(rt.alloc(), EACH).ok().ok_or("refused")?;
-    match blocks.get(0) {
-        Some(Block::Region(region)) => {
-            assert!(rt; region.flags == 0x80);
-            assert!(rt; region.tiles.len() == 3);
-            for tile in region.tiles.as_slice() {
-                shows(&rt, tile);
-            }
-        }
-        _ => assert!(rt; false),
+fn tiles_of_each_kind(rt: HostRuntime) {
+    assert_eq!(rt; tiles_are_read(rt.alloc()), Some(true));
+}
+
+// Bytes that are no blocks, and the first fault, as an independent program answers it.
+const REFUSED: [(&[u8], Refusal); 18] = [
+    (b"\xc2\xcc\x06\0\0", Refusal::BlockLength),
+    (b"\xc2\xcc\x05\0\0\0", Refusal::BlockLength),
+    (b"\xc2\xcc\x07\0\0\0\xff", Refusal::BlockLength),
+    (b"\xc9\xcc\x09\0\0\0", Refusal::BlockLength),
+    (b"\xc9\xcc\x06\0\0\0", Refusal::BlockUnknown),
+    (b"\xc5\xcc\x06\0\0\0", Refusal::BlockUnknown),
+    (b"\xc3\xcc\x0a\0\0\0\x01\x41\0\0", Refusal::BlockUnknown),
+    (b"\xc3\xcc\x0b\0\0\0\x01\x41\0\0\0", Refusal::BlockLength),
+    (
+        b"\xc4\xcc\x12\0\0\0\x41\0\0\0\0\0\0\0\0\0\0\0",
+        Refusal::BlockUnknown,
+    ),
+    (
+        b"\xc4\xcc\x13\0\0\0\x41\0\0\0\0\0\0\0\0\0\0\0\xff",
+        Refusal::BlockLength,
+    ),
+    // A tile is due, and there is none, a beginning of one, another block, or one of a wrong length.
+    (
+        b"\xc4\xcc\x12\0\0\0\x40\0\0\0\0\0\x01\0\0\0\0\0",
+        Refusal::TileCount,
+    ),
+    (
+        b"\xc4\xcc\x13\0\0\0\x40\0\0\0\0\0\x01\0\x01\0\0\0\xcc",
+        Refusal::BlockLength,
+    ),
+    (
+        b"\xc4\xcc\x18\0\0\0\x40\0\0\0\0\0\x01\0\x06\0\0\0\xc2\xcc\x06\0\0\0",
+        Refusal::BlockUnknown,
+    ),
+    (
+        b"\xc4\xcc\x18\0\0\0\x40\0\0\0\0\0\x01\0\x06\0\0\0\xc6\xcc\x06\0\0\0",
+        Refusal::BlockLength,
+    ),
+    (
+        b"\xc4\xcc\x18\0\0\0\x40\0\0\0\0\0\x01\0\x06\0\0\0\xc6\xcc\x07\0\0\0",
+        Refusal::BlockLength,
+    ),
+    // No tile is due any more.
+    (
+        b"\xc4\xcc\x18\0\0\0\x40\0\0\0\0\0\0\0\x06\0\0\0\xc2\xcc\x06\0\0\0",
+        Refusal::TileCount,
+    ),
+    // What comes first in the bytes is refused, whatever follows.
+    (
+        b"\xc2\xcc\x06\0\0\0\xc9\xcc\x06\0\0\0\xc2",
+        Refusal::BlockUnknown,
+    ),
+    (
+        b"\xc2\xcc\x06\0\0\0\xc9\xcc\x08\0\0\0\xc2",
+        Refusal::BlockLength,
+    ),
+];
+
+// Whether bytes are refused so.
+fn is_refused(alloc: Global, bytes: &[u8], refusal: Refusal) -> bool {
+    match read_blocks(alloc, bytes) {
+        Ok(_) => false,
+        Err(fault) => fault == Fault::Refused(refusal),
     }
-    Ok(())
+}
+
+// The refusal that is due of the first bytes that are answered otherwise, if there are any.
+fn first_wrong(alloc: Global) -> Option<Refusal> {
+    for (bytes, refusal) in &REFUSED {
+        if !is_refused(alloc, bytes, *refusal) {
+            return Some(*refusal);
+        }
+    }
+    None
 }
 
 // The first fault, as an independent program answers it.
 #[test]
 fn refusals(rt: HostRuntime) {
-    let table: [(&[u8], Refusal); 18] = [
-        (b"\xc2\xcc\x06\0\0", Refusal::BlockLength),
-        (b"\xc2\xcc\x05\0\0\0", Refusal::BlockLength),
-        (b"\xc2\xcc\x07\0\0\0\xff", Refusal::BlockLength),
-        (b"\xc9\xcc\x09\0\0\0", Refusal::BlockLength),
-        (b"\xc9\xcc\x06\0\0\0", Refusal::BlockUnknown),
-        (b"\xc5\xcc\x06\0\0\0", Refusal::BlockUnknown),
-        (b"\xc3\xcc\x0a\0\0\0\x01\x41\0\0", Refusal::BlockUnknown),
-        (b"\xc3\xcc\x0b\0\0\0\x01\x41\0\0\0", Refusal::BlockLength),
-        (
-            b"\xc4\xcc\x12\0\0\0\x41\0\0\0\0\0\0\0\0\0\0\0",
-            Refusal::BlockUnknown,
-        ),
-        (
-            b"\xc4\xcc\x13\0\0\0\x41\0\0\0\0\0\0\0\0\0\0\0\xff",
-            Refusal::BlockLength,
-        ),
-        // A tile is due, and there is none, a beginning of one, another block, or one of a wrong length.
-        (
-            b"\xc4\xcc\x12\0\0\0\x40\0\0\0\0\0\x01\0\0\0\0\0",
-            Refusal::TileCount,
-        ),
-        (
-            b"\xc4\xcc\x13\0\0\0\x40\0\0\0\0\0\x01\0\x01\0\0\0\xcc",
-            Refusal::BlockLength,
-        ),
-        (
-            b"\xc4\xcc\x18\0\0\0\x40\0\0\0\0\0\x01\0\x06\0\0\0\xc2\xcc\x06\0\0\0",
-            Refusal::BlockUnknown,
-        ),
-        (
-            b"\xc4\xcc\x18\0\0\0\x40\0\0\0\0\0\x01\0\x06\0\0\0\xc6\xcc\x06\0\0\0",
-            Refusal::BlockLength,
-        ),
-        (
-            b"\xc4\xcc\x18\0\0\0\x40\0\0\0\0\0\x01\0\x06\0\0\0\xc6\xcc\x07\0\0\0",
-            Refusal::BlockLength,
-        ),
-        // No tile is due any more.
-        (
-            b"\xc4\xcc\x18\0\0\0\x40\0\0\0\0\0\0\0\x06\0\0\0\xc2\xcc\x06\0\0\0",
-            Refusal::TileCount,
-        ),
-        // What comes first in the bytes is refused, whatever follows.
-        (
-            b"\xc2\xcc\x06\0\0\0\xc9\xcc\x06\0\0\0\xc2",
-            Refusal::BlockUnknown,
-        ),
-        (
-            b"\xc2\xcc\x06\0\0\0\xc9\xcc\x08\0\0\0\xc2",
-            Refusal::BlockLength,
-        ),
-    ];
-    for (bytes, refusal) in table {
-        match read_blocks(rt.alloc(), bytes) {
-            Ok(_) => assert!(rt; false),
-            Err(fault) => assert!(rt; fault == Fault::Refused(refusal)),
-        }
-    }
+    assert_eq!(rt; first_wrong(rt.alloc()), None);
 }

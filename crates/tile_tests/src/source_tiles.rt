@@ -2,14 +2,13 @@
 ghost use Rattle.std.specs.Prelude.{◌≡◌, ◌≤◌, IfSome, IsTrue, length};
 ghost use Rattle.gfx_tile_state.specs.Shape.{are_positions};
 
-use gfx_base::{Pixel, Refusal};
+use gfx_base::{Bytes, Pixel, Refusal};
 use gfx_dwt::Transform;
 use gfx_quant::{Component, Level, Levels, Quant, Setting};
 use gfx_rlgr::encode;
 use gfx_tile_make::{Pass, SourceTile};
 use gfx_tile_state::{PassShape, Scratch, TileState};
 use std::alloc::Global;
-use std::test::Fail;
 
 const COMPONENTS: [Component; 3] = [Component::Y, Component::Cb, Component::Cr];
 
@@ -165,6 +164,42 @@ fn upgraded(
     }
 }
 
+// Lets go of a record, which is proved once here.
+fn let_go(tile: TileState) {
+    drop(tile);
+}
+
+// Lets go of a source, which is proved once here.
+fn let_go_of_source(source: SourceTile) {
+    drop(source);
+}
+
+// Nothing is sent yet.
+const NO_SUM: Sum = Sum { count: 0, total: 0 };
+
+// The code of a component's first pass.
+fn first_code(alloc: Global, source: &SourceTile, component: Component) -> Option<Bytes> {
+    let mut values = [0; 4096];
+    source.first_values(component, &mut values);
+    encode(alloc, &values).ok()
+}
+
+// Sends a component's first pass to a record, puts it to a sum, and answers whether it is taken.
+fn begin_one(
+    alloc: Global,
+    source: &SourceTile,
+    tile: &mut TileState,
+    component: Component,
+    shape: &PassShape,
+    sum: &mut Sum,
+) -> bool {
+    let Some(bytes) = first_code(alloc, source, component) else {
+        return false;
+    };
+    sum.take(bytes.as_slice());
+    taken(source, tile, component, bytes.as_slice(), shape) == Ok(())
+}
+
 // Sends the first level to a record, and sums up what was sent.
 fn begin(
     alloc: Global,
@@ -172,15 +207,34 @@ fn begin(
     tile: &mut TileState,
     shape: &PassShape,
 ) -> Option<(u64, u64)> {
-    let mut sum = Sum { count: 0, total: 0 };
-    for component in COMPONENTS {
-        let mut values = [0; 4096];
-        source.first_values(component, &mut values);
-        let bytes = encode(alloc, &values).ok()?;
-        sum.take(bytes.as_slice());
-        taken(source, tile, component, bytes.as_slice(), shape).ok()?;
+    let mut sum = NO_SUM;
+    for component in &COMPONENTS {
+        if !begin_one(alloc, source, tile, *component, shape, &mut sum) {
+            return None;
+        }
     }
     Some((sum.count, sum.total))
+}
+
+// Raises a component of a record to a level, puts what was sent to a sum, and answers whether it is taken.
+fn raise_one(
+    alloc: Global,
+    source: &SourceTile,
+    tile: &mut TileState,
+    component: Component,
+    level: u8,
+    shape: &PassShape,
+    sum: &mut Sum,
+) -> bool
+    requires first { 1 ≤ level }
+    requires listed { level ≤ length source.now.setting.levels }
+{
+    let Ok(pass) = source.pass_values(alloc, component, level) else {
+        return false;
+    };
+    sum.take(pass.srl.as_slice());
+    sum.take(pass.raw.as_slice());
+    upgraded(tile, component, &pass, shape) == Ok(())
 }
 
 // Raises a record to a level, and sums up what was sent.
@@ -194,12 +248,11 @@ fn raise(
     requires first { 1 ≤ level }
     requires listed { level ≤ length source.now.setting.levels }
 {
-    let mut sum = Sum { count: 0, total: 0 };
-    for component in COMPONENTS {
-        let pass = source.pass_values(alloc, component, level).ok()?;
-        sum.take(pass.srl.as_slice());
-        sum.take(pass.raw.as_slice());
-        upgraded(tile, component, &pass, shape).ok()?;
+    let mut sum = NO_SUM;
+    for component in &COMPONENTS {
+        if !raise_one(alloc, source, tile, *component, level, shape, &mut sum) {
+            return None;
+        }
     }
     Some((sum.count, sum.total))
 }
@@ -272,6 +325,16 @@ const SECOND: [Due; 2] = [
     (0, 10_185, 96_151_014, [0, 0, 62], 62_414_197),
 ];
 
+// Whether a source gives what is due at each level, and a new record shows it, if there is memory for one.
+fn shows_new(alloc: Global, source: &SourceTile, setting: &Setting, due: &[Due]) -> Option<bool>
+    requires { source.now.setting ≡ setting.now }
+{
+    let mut tile = TileState::new(alloc).ok()?;
+    let right = shows(alloc, source, setting, &mut tile, due);
+    let_go(tile);
+    Some(right)
+}
+
 // A tile of these pixels through these levels.
 fn all_shows(
     alloc: Global,
@@ -280,8 +343,9 @@ fn all_shows(
     due: &[Due],
 ) -> Option<bool> {
     let source = source_of(alloc, pixels, setting)?;
-    let mut tile = TileState::new(alloc).ok()?;
-    Some(shows(alloc, &source, setting, &mut tile, due))
+    let right = shows_new(alloc, &source, setting, due);
+    let_go_of_source(source);
+    right
 }
 
 // Through seven levels, one of which changes nothing, with LL3 of both signs.
@@ -325,25 +389,60 @@ fn grey(rt: HostRuntime) {
     );
 }
 
-// A tile of a ramp over one of noise at its last level.
-fn ramp_goes_on(alloc: Global, tile: &mut TileState) -> Option<[bool; 4]> {
+// A source over another one at its last level: whether a record shows that, and then this as a difference.
+fn goes_on(
+    alloc: Global,
+    first: &SourceTile,
+    second: &mut SourceTile,
+    setting: &Setting,
+    tile: &mut TileState,
+) -> [bool; 4]
+    requires first { first.now.setting ≡ setting.now }
+    requires second { second.old.setting ≡ setting.now }
+{
+    let before = shows(alloc, first, setting, tile, &FIRST);
+    let alone = second.is_difference();
+    if !second.against(first) {
+        return [false; 4];
+    }
+    let behind = shows(alloc, second, setting, tile, &SECOND);
+    [before, alone, second.is_difference(), behind]
+}
+
+// A ramp as the second of them.
+fn ramp_goes_on(
+    alloc: Global,
+    first: &SourceTile,
+    setting: &Setting,
+    tile: &mut TileState,
+) -> Option<[bool; 4]>
+    requires { first.now.setting ≡ setting.now }
+{
+    let mut second = source_of(alloc, &ramp(), setting)?;
+    let answers = goes_on(alloc, first, &mut second, setting, tile);
+    let_go_of_source(second);
+    Some(answers)
+}
+
+// Noise as the first.
+fn noise_goes_on(alloc: Global, tile: &mut TileState) -> Option<[bool; 4]> {
     let setting = setting(Transform::Reduced, &[4]);
     let first = source_of(alloc, &noise(), &setting)?;
-    let mut second = source_of(alloc, &ramp(), &setting)?;
-    let before = shows(alloc, &first, &setting, tile, &FIRST);
-    let alone = second.is_difference();
-    if !second.against(&first) {
-        return None;
-    }
-    let behind = shows(alloc, &second, &setting, tile, &SECOND);
-    Some([before, alone, second.is_difference(), behind])
+    let answers = ramp_goes_on(alloc, &first, &setting, tile);
+    let_go_of_source(first);
+    answers
+}
+
+// The same in a new record.
+fn differs(alloc: Global) -> Option<[bool; 4]> {
+    let mut tile = TileState::new(alloc).ok()?;
+    let answers = noise_goes_on(alloc, &mut tile);
+    let_go(tile);
+    answers
 }
 
 // A difference tile over a record of the last level.
 #[test]
-fn difference(rt: HostRuntime) -> Result<(), Fail> {
-    let mut tile = TileState::new(rt.alloc()).ok().ok_or("no memory")?;
-    let answers = ramp_goes_on(rt.alloc(), &mut tile);
-    assert_eq!(rt; answers, Some([true, false, true, true]));
-    Ok(())
+fn difference(rt: HostRuntime) {
+    assert_eq!(rt; differs(rt.alloc()), Some([true, false, true, true]));
 }

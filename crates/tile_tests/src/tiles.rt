@@ -3,8 +3,7 @@ use gfx_base::{Pixel, Refusal};
 use gfx_dwt::Transform;
 use gfx_quant::Component;
 use gfx_tile_state::{PassShape, Scratch, TileState};
-use std::process::Abort;
-use std::test::Fail;
+use std::alloc::Global;
 
 // The first pass of Y, at level 6.
 const FIRST: [u8; 14] = [
@@ -89,79 +88,95 @@ fn shown(tile: &TileState) -> ([u8; 3], u64) {
     ([pixels[0].b, pixels[65].b, pixels[4095].b], total)
 }
 
+// Lets go of a record, which is proved once here.
+fn let_go(tile: TileState) {
+    drop(tile);
+}
+
+// Whether a record takes the first passes of all components.
+fn takes_first(tile: &mut TileState) -> bool {
+    let shape = shape(6);
+    let mut scratch = Scratch::new();
+    let y = tile.first(Component::Y, &FIRST, &shape, &mut scratch);
+    let cb = tile.first(Component::Cb, &[], &shape, &mut scratch);
+    let cr = tile.first(Component::Cr, &[], &shape, &mut scratch);
+    (y, cb, cr) == (Ok(()), Ok(()), Ok(()))
+}
+
+// What is shown then.
+const FIRST_SHOWN: ([u8; 3], u64) = ([0, 54, 128], 196_121_601);
+
+// The passes of Y at the levels below it, and what is shown behind each.
+const PASSES: [(&[u8], &[u8], ([u8; 3], u64)); 6] = [
+    (
+        &[0x8C, 0x00, 0x00, 0x3F, 0xF4],
+        &[0x70, 0x00, 0x08],
+        ([0, 87, 128], 197_356_818),
+    ),
+    (
+        &[0x00, 0x00, 0x80, 0xA0, 0x00],
+        &[0x44, 0x00, 0x01],
+        ([32, 89, 128], 197_828_157),
+    ),
+    (
+        &[0x00, 0x00, 0x21, 0xA8, 0x00],
+        &[0xC2, 0x00, 0x00, 0x80],
+        ([32, 100, 128], 198_054_024),
+    ),
+    (
+        &[0x00, 0x00, 0x1D, 0xFE],
+        &[0xC3, 0x80, 0x00, 0x40],
+        ([28, 105, 128], 198_155_214),
+    ),
+    (
+        &[0x60, 0x00, 0x00, 0xB4, 0xA0],
+        &[0x40, 0x80, 0x00, 0x20],
+        ([30, 106, 128], 198_195_138),
+    ),
+    (
+        &[0xA0, 0x00, 0x00, 0x00],
+        &[0xFA, 0x70, 0x00, 0x08],
+        ([32, 107, 128], 198_227_313),
+    ),
+];
+
+// Whether a record takes the passes of a level, of which those of Cb and Cr are empty.
+fn is_raised(tile: &mut TileState, level: u8, srl: &[u8], raw: &[u8]) -> bool {
+    let shape = shape(level);
+    let y = upgraded(tile, Component::Y, srl, raw, &shape);
+    let cb = upgraded(tile, Component::Cb, &[], &[], &shape);
+    let cr = upgraded(tile, Component::Cr, &[], &[], &shape);
+    (y, cb, cr) == (Ok(()), Ok(()), Ok(()))
+}
+
+// The first level that a record doesn't take or show, if there is one.
+fn first_wrong(tile: &mut TileState) -> Option<u8> {
+    let mut level = 6u8;
+    if !takes_first(tile) || shown(tile) != FIRST_SHOWN {
+        return Some(level);
+    }
+    for (srl, raw, due) in &PASSES {
+        level = level.saturating_sub(1);
+        if !is_raised(tile, level, srl, raw) || shown(tile) != *due {
+            return Some(level);
+        }
+    }
+    None
+}
+
+// The same of a new record, if there is memory for it.
+fn first_wrong_of_new(alloc: Global) -> Option<Option<u8>> {
+    let mut tile = TileState::new(alloc).ok()?;
+    let wrong = first_wrong(&mut tile);
+    let_go(tile);
+    Some(wrong)
+}
+
 // Values of all sizes and both signs: those of a band that become other than zero at a level, those
 // that grow, and LL3 of both signs, whose numbers have no sign.
 #[test]
-fn seven_levels(rt: HostRuntime) -> Result<(), Fail> {
-    let mut tile = TileState::new(rt.alloc()).ok().ok_or("no memory")?;
-    let mut scratch = Scratch::new();
-    assert_eq!(rt;
-        tile.first(Component::Y, &FIRST, &shape(6), &mut scratch),
-        Ok(())
-    );
-    assert_eq!(rt;
-        tile.first(Component::Cb, &[], &shape(6), &mut scratch),
-        Ok(())
-    );
-    assert_eq!(rt;
-        tile.first(Component::Cr, &[], &shape(6), &mut scratch),
-        Ok(())
-    );
-    assert_eq!(rt; shown(&tile), ([0, 54, 128], 196_121_601));
-    let passes: [(&[u8], &[u8], [u8; 3], u64); 6] = [
-        (
-            &[0x8C, 0x00, 0x00, 0x3F, 0xF4],
-            &[0x70, 0x00, 0x08],
-            [0, 87, 128],
-            197_356_818,
-        ),
-        (
-            &[0x00, 0x00, 0x80, 0xA0, 0x00],
-            &[0x44, 0x00, 0x01],
-            [32, 89, 128],
-            197_828_157,
-        ),
-        (
-            &[0x00, 0x00, 0x21, 0xA8, 0x00],
-            &[0xC2, 0x00, 0x00, 0x80],
-            [32, 100, 128],
-            198_054_024,
-        ),
-        (
-            &[0x00, 0x00, 0x1D, 0xFE],
-            &[0xC3, 0x80, 0x00, 0x40],
-            [28, 105, 128],
-            198_155_214,
-        ),
-        (
-            &[0x60, 0x00, 0x00, 0xB4, 0xA0],
-            &[0x40, 0x80, 0x00, 0x20],
-            [30, 106, 128],
-            198_195_138,
-        ),
-        (
-            &[0xA0, 0x00, 0x00, 0x00],
-            &[0xFA, 0x70, 0x00, 0x08],
-            [32, 107, 128],
-            198_227_313,
-        ),
-    ];
-    let mut level = 6u8;
-    for (srl, raw, pixels, total) in passes {
-        level = level.saturating_sub(1);
-        let shape = shape(level);
-        assert_eq!(rt; upgraded(&mut tile, Component::Y, srl, raw, &shape), Ok(()));
-        assert_eq!(rt;
-            upgraded(&mut tile, Component::Cb, &[], &[], &shape),
-            Ok(())
-        );
-        assert_eq!(rt;
-            upgraded(&mut tile, Component::Cr, &[], &[], &shape),
-            Ok(())
-        );
-        assert_eq!(rt; shown(&tile), (pixels, total));
-    }
-    Ok(())
+fn seven_levels(rt: HostRuntime) {
+    assert_eq!(rt; first_wrong_of_new(rt.alloc()), Some(None));
 }
 
 fn upgraded_from(
@@ -178,83 +193,112 @@ fn upgraded_from(
     }
 }
 
-// The next level, made in another record: that one shows it, and the first one shows what it did.
-#[test]
-fn a_level_in_another_record(rt: HostRuntime) -> Result<(), Fail> {
-    let mut tile = TileState::new(rt.alloc()).ok().ok_or("no memory")?;
-    let mut scratch = Scratch::new();
-    assert_eq!(rt;
-        tile.first(Component::Y, &FIRST, &shape(6), &mut scratch),
-        Ok(())
-    );
-    assert_eq!(rt;
-        tile.first(Component::Cb, &[], &shape(6), &mut scratch),
-        Ok(())
-    );
-    assert_eq!(rt;
-        tile.first(Component::Cr, &[], &shape(6), &mut scratch),
-        Ok(())
-    );
-    let before = ([0, 54, 128], 196_121_601);
-    let mut next = tile.copy().ok().ok_or("no memory")?;
-    assert_eq!(rt; shown(&next), before);
-    let (srl, raw) = ([0x8C, 0x00, 0x00, 0x3F, 0xF4], [0x70, 0x00, 0x08]);
-    assert_eq!(rt;
-        upgraded_from(&mut next, &tile, Component::Y, &srl, &raw, &shape(5)),
-        Ok(())
-    );
-    assert_eq!(rt;
-        upgraded_from(&mut next, &tile, Component::Cb, &[], &[], &shape(5)),
-        Ok(())
-    );
-    assert_eq!(rt;
-        upgraded_from(&mut next, &tile, Component::Cr, &[], &[], &shape(5)),
-        Ok(())
-    );
-    assert_eq!(rt; shown(&next), ([0, 87, 128], 197_356_818));
-    assert_eq!(rt; shown(&tile), before);
-    Ok(())
+// Whether another record takes the next level of a record.
+fn is_raised_from(next: &mut TileState, tile: &TileState) -> bool {
+    let shape = shape(5);
+    let (srl, raw, _) = PASSES[0];
+    let y = upgraded_from(next, tile, Component::Y, srl, raw, &shape);
+    let cb = upgraded_from(next, tile, Component::Cb, &[], &[], &shape);
+    let cr = upgraded_from(next, tile, Component::Cr, &[], &[], &shape);
+    (y, cb, cr) == (Ok(()), Ok(()), Ok(()))
 }
 
-// A tile of grey, and the answers to what may not follow.
+// Whether it shows what the first one does before, and that level behind it.
+fn goes_on(next: &mut TileState, tile: &TileState) -> bool {
+    let (_, _, due) = PASSES[0];
+    shown(next) == FIRST_SHOWN && is_raised_from(next, tile) && shown(next) == due
+}
+
+// Whether a copy of a record goes on from it.
+fn copy_goes_on(tile: &TileState) -> Option<bool> {
+    let mut next = tile.copy().ok()?;
+    let right = goes_on(&mut next, tile);
+    let_go(next);
+    Some(right)
+}
+
+// The same of a new record, if there is memory, and it shows then what it did.
+fn goes_on_elsewhere(alloc: Global) -> Option<bool> {
+    let mut tile = TileState::new(alloc).ok()?;
+    let first = takes_first(&mut tile);
+    let right = copy_goes_on(&tile);
+    let same = shown(&tile) == FIRST_SHOWN;
+    let_go(tile);
+    Some(first && right? && same)
+}
+
+// The next level, made in another record: that one shows it, and the first one shows what it did.
 #[test]
-fn grey_and_refusals(rt: HostRuntime) -> Result<(), Fail> {
-    let mut tile = TileState::new(rt.alloc()).ok().ok_or("no memory")?;
-    let mut scratch = Scratch::new();
-    let grey = [0; 3];
-    assert_eq!(rt; tile.may_add(Transform::Reduced), Ok(()));
-    assert_eq!(rt; tile.may_upgrade(&shape(0)), Err(Refusal::QualityWorse));
-    assert_eq!(rt;
-        tile.first(Component::Y, &grey, &shape(4), &mut scratch),
-        Ok(())
-    );
-    assert_eq!(rt; shown(&tile).0, [128, 128, 128]);
-    assert_eq!(rt; tile.may_add(Transform::Plain), Ok(()));
-    assert_eq!(rt;
-        tile.may_add(Transform::Reduced),
-        Err(Refusal::TransformChanged)
-    );
-    assert_eq!(rt; tile.may_upgrade(&shape(4)), Err(Refusal::QualityWorse));
-    assert_eq!(rt;
-        tile.first(Component::Cb, &grey, &shape(4), &mut scratch),
-        Ok(())
-    );
-    assert_eq!(rt;
-        tile.first(Component::Cr, &grey, &shape(4), &mut scratch),
-        Ok(())
-    );
-    assert_eq!(rt; tile.may_upgrade(&shape(4)), Ok(()));
-    assert_eq!(rt; tile.may_upgrade(&shape(5)), Err(Refusal::QualityWorse));
-    let reduced = PassShape {
+fn a_level_in_another_record(rt: HostRuntime) {
+    assert_eq!(rt; goes_on_elsewhere(rt.alloc()), Some(true));
+}
+
+// A first pass of zeros.
+const ZEROS: [u8; 3] = [0; 3];
+
+// Whether a new record takes a first pass of any transform, and no upgrade.
+fn new_is_answered(tile: &TileState) -> bool {
+    tile.may_add(Transform::Reduced) == Ok(())
+        && tile.may_upgrade(&shape(0)) == Err(Refusal::QualityWorse)
+}
+
+// Whether a record of one component is grey, and goes on by its transform alone, with no upgrade.
+fn one_is_answered(tile: &TileState) -> bool {
+    shown(tile).0 == [128, 128, 128]
+        && tile.may_add(Transform::Plain) == Ok(())
+        && tile.may_add(Transform::Reduced) == Err(Refusal::TransformChanged)
+        && tile.may_upgrade(&shape(4)) == Err(Refusal::QualityWorse)
+}
+
+// A shape of another transform.
+fn reduced() -> PassShape {
+    PassShape {
         transform: Transform::Reduced,
         y: [30; 10],
         cb: [6; 10],
         cr: [6; 10],
-    };
-    assert_eq!(rt; tile.may_upgrade(&reduced), Err(Refusal::TransformChanged));
-    assert_eq!(rt;
-        tile.first(Component::Y, &[0x80], &reduced, &mut scratch),
-        Err(Refusal::CoefficientRange)
-    );
-    Ok(())
+    }
+}
+
+// Whether a record of all components takes upgrades by its transform, of no less quality.
+fn all_is_answered(tile: &TileState) -> bool {
+    tile.may_upgrade(&shape(4)) == Ok(())
+        && tile.may_upgrade(&shape(5)) == Err(Refusal::QualityWorse)
+        && tile.may_upgrade(&reduced()) == Err(Refusal::TransformChanged)
+}
+
+// Whether a record takes a first pass of zeros.
+fn takes_zeros(tile: &mut TileState, component: Component) -> bool {
+    tile.first(component, &ZEROS, &shape(4), &mut Scratch::new()) == Ok(())
+}
+
+// Whether it refuses a value that is too large at another shape.
+fn refuses_range(tile: &mut TileState) -> bool {
+    let answer = tile.first(Component::Y, &[0x80], &reduced(), &mut Scratch::new());
+    answer == Err(Refusal::CoefficientRange)
+}
+
+// Whether a new record answers so before each of its passes, and behind them.
+fn are_answered(tile: &mut TileState) -> bool {
+    new_is_answered(tile)
+        && takes_zeros(tile, Component::Y)
+        && one_is_answered(tile)
+        && takes_zeros(tile, Component::Cb)
+        && takes_zeros(tile, Component::Cr)
+        && all_is_answered(tile)
+        && refuses_range(tile)
+}
+
+// The same, if there is memory for a record.
+fn new_answers(alloc: Global) -> Option<bool> {
+    let mut tile = TileState::new(alloc).ok()?;
+    let right = are_answered(&mut tile);
+    let_go(tile);
+    Some(right)
+}
+
+// A tile of grey, and the answers to what may not follow.
+#[test]
+fn grey_and_refusals(rt: HostRuntime) {
+    assert_eq!(rt; new_answers(rt.alloc()), Some(true));
 }

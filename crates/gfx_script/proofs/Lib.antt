@@ -5,3 +5,10 @@ pub mod Starts
 pub mod Imports
 pub mod OwnKinds
 pub mod Limits
+pub mod MoreSteps
+pub mod Ranged
+pub mod Drafting
+pub mod HeadLemmas
+pub mod ChosenOffers
+pub mod Builds
+pub mod RowPixels

@@ -11,4 +11,9 @@ pub mod Codes
 pub mod Kinds
 pub mod Script
 pub mod Writes
+pub mod Drafts
+pub mod Heads
+pub mod Building
+pub mod Rows
+pub mod PartCodes
 pub mod Inside

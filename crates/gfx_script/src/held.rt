@@ -1,9 +1,10 @@
 //! What the steps so far have left, as far as later ones are checked against it.
 
-ghost use Rattle.std.specs.Prelude.{◌≡◌, IsTrue, IfOk, OnOk, slice_get};
+ghost use Rattle.std.specs.Prelude.{◌≡◌, IsTrue, IfOk, OnErr, OnOk, length, slice_get};
 ghost use Rattle.std.specs.FinMap as map;
 ghost use Rattle.gfx_base.specs.Geometry.{sized};
 ghost use Rattle.gfx_script.specs.Checks.{held_first, held_from, sides_of_all, may_add, with_surface, without_surface, surface_made, surface_deleted, surface_mapped, rects_filled, rect_copied, rect_kept, key_shown, key_forgotten, is_glyph, takes_glyph, picture_painted, held_after};
+ghost use Rattle.gfx_script.specs.Drafts.{with_sides, without_last_sides};
 ghost use Rattle.gfx_script.specs.Starting.{IsStart, stock_with};
 ghost use Rattle.gfx_base.specs.Outcome.{Gives, Says};
 
@@ -79,10 +80,11 @@ impl Held {
         })
     }
 
-    /// Goes on to what is held after a step. After an error nothing is said of it any more.
+    /// Goes on to what is held after a step. An error leaves all as it was.
     #[tactic(auto, unfolding(crate::specs::Checks::held_after))]
     pub fn take(&mut self, alloc: Global, step: &Step) -> Result<(), Flaw>
-        ensures { Gives (λ _. self.new) result (held_after self.old step.now) }
+        ensures exact { Gives (λ _. self.new) result (held_after self.old step.now) }
+        ensures unchanged { OnErr result (self.new ≡ self.old) }
     {
         match step {
             Step::Surface {
@@ -117,7 +119,8 @@ impl Held {
 
     #[tactic(auto, unfolding(crate::specs::Checks::surface_made, gfx_base::specs::Results::and_then))]
     fn make_surface(&mut self, id: u16, width: u16, height: u16) -> Result<(), Flaw>
-        ensures { Gives (λ _. self.new) result (surface_made self.old id width height) }
+        ensures exact { Gives (λ _. self.new) result (surface_made self.old id width height) }
+        ensures unchanged { OnErr result (self.new ≡ self.old) }
     {
         if self.contains(id) {
             return Err(Flaw::Refused(ScriptKind::SurfacePresent));
@@ -131,7 +134,8 @@ impl Held {
 
     #[tactic(auto, unfolding(crate::specs::Checks::surface_deleted, gfx_base::specs::Results::and_then))]
     fn delete_surface(&mut self, id: u16) -> Result<(), ScriptKind>
-        ensures { Says (λ _. self.new) result (surface_deleted self.old id) }
+        ensures exact { Says (λ _. self.new) result (surface_deleted self.old id) }
+        ensures unchanged { OnErr result (self.new ≡ self.old) }
     {
         let Some(sides) = self.sides_of(id) else {
             return Err(ScriptKind::SurfaceAbsent);
@@ -188,7 +192,8 @@ impl Held {
     /// Keeps a rectangle that lies on its surface as the bitmap of a key.
     #[tactic(auto, unfolding(crate::specs::Checks::rect_kept, gfx_base::specs::Results::and_then))]
     fn keep_rect(&mut self, alloc: Global, id: u16, key: u64, rect: Rect) -> Result<(), Flaw>
-        ensures { Gives (λ _. self.new) result (rect_kept self.old id key rect) }
+        ensures exact { Gives (λ _. self.new) result (rect_kept self.old id key rect) }
+        ensures unchanged { OnErr result (self.new ≡ self.old) }
     {
         let Some(sides) = self.sides_of(id) else {
             return Err(Flaw::Refused(ScriptKind::SurfaceAbsent));
@@ -202,7 +207,8 @@ impl Held {
     /// Says the bitmap of a key at points that it fits at.
     #[tactic(auto, unfolding(crate::specs::Checks::key_shown, gfx_base::specs::Results::and_then))]
     fn show_key(&mut self, key: u64, to: u16, points: &[Point]) -> Result<(), ScriptKind>
-        ensures { Says (λ _. self.new) result (key_shown self.old key to points.now) }
+        ensures exact { Says (λ _. self.new) result (key_shown self.old key to points.now) }
+        ensures unchanged { OnErr result (self.new ≡ self.old) }
     {
         let bitmap = self.stock.sides_of(key)?;
         let Some(target) = self.sides_of(to) else {
@@ -218,7 +224,8 @@ impl Held {
     /// Lets a key go.
     #[tactic(auto, unfolding(crate::specs::Checks::key_forgotten, gfx_base::specs::Results::and_then))]
     fn forget_key(&mut self, key: u64) -> Result<(), ScriptKind>
-        ensures { Says (λ _. self.new) result (key_forgotten self.old key) }
+        ensures exact { Says (λ _. self.new) result (key_forgotten self.old key) }
+        ensures unchanged { OnErr result (self.new ≡ self.old) }
     {
         self.stock.forget(key)
     }
@@ -249,6 +256,29 @@ impl Held {
             return Err(ScriptKind::Glyph);
         }
         Ok(())
+    }
+
+    /// How many pictures there are so far.
+    pub(crate) fn picture_count(&self) -> usize
+        ensures { result ≡ length self.now.pictures }
+    {
+        self.pictures.len()
+    }
+
+    /// The sides of one more picture.
+    pub fn add_picture(&mut self, sides: Sides) -> Result<(), NoMemory>
+        ensures ok { OnOk result (self.new ≡ with_sides self.old sides) }
+        ensures err { OnErr result (self.new ≡ self.old) }
+    {
+        self.pictures.push(sides)?;
+        Ok(())
+    }
+
+    /// Takes the sides of the last picture back, if there is one.
+    pub fn take_picture_back(&mut self)
+        ensures { self.new ≡ without_last_sides self.old }
+    {
+        self.pictures.pop();
     }
 
     /// The sides of the picture of this number, if there is one.
@@ -282,7 +312,8 @@ impl Held {
     /// One more surface.
     fn add(&mut self, id: u16, width: u16, height: u16) -> Result<(), NoMemory>
         requires { IsTrue (may_add self.old width height) }
-        ensures { OnOk result (self.new ≡ with_surface self.old id width height) }
+        ensures ok { OnOk result (self.new ≡ with_surface self.old id width height) }
+        ensures err { OnErr result (self.new ≡ self.old) }
     {
         self.sides.insert(id, Sides { width, height })?;
         self.cells += count_cells(width, height);

@@ -4,7 +4,9 @@ ghost use Rattle.std.specs.Prelude.{◌≡◌, ◌<◌, ◌+◌, ◌*◌, ◌%�
 ghost use Rattle.std.specs.List.{slice_index_or};
 ghost use Rattle.gfx_surface.specs.Picture.{no_pixel};
 ghost use Rattle.gfx_script.specs.Patterns.{opaque, hash_at, noise_pixel, is_ink, is_in_middle, pattern_pixel, pixel_of};
+ghost use Rattle.gfx_script.specs.Pictures.{are_sides, is_drawn};
 
+use crate::MOST_AREA;
 use gfx_base::{Pixel, Pixels};
 
 /// What a picture shows.
@@ -39,6 +41,20 @@ impl Picture {
     {
         pattern_pixel(self.width, self.height, &self.pattern, x, y)
     }
+
+    /// Whether the sides are from 1 on, and the pixels not too many.
+    pub fn is_in_range(&self) -> bool
+        ensures { result ≡ is_drawn self.now }
+    {
+        are_sides(self.width, self.height)
+    }
+}
+
+/// Whether a picture may have these sides.
+pub(crate) fn are_sides(width: u16, height: u16) -> bool
+    ensures { result ≡ are_sides width height }
+{
+    1 <= width && (1 <= height && u32::from(width) * u32::from(height) <= MOST_AREA)
 }
 
 /// The pixel of a pattern of these sides.

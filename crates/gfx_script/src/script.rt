@@ -1,22 +1,26 @@
 //! A script: pictures and steps, and what a session of them is like.
 
-ghost use Rattle.std.specs.Prelude.{◌≡◌, ◌==◌, IsSome, Some, length};
+ghost use Rattle.std.specs.Prelude.{◌≡◌, ◌==◌, IsSome, OnErr, OnOk, Some, length};
 ghost use Rattle.std.specs.List.{slice_get};
 ghost use Rattle.std.specs.Option.{option_copied, option_map};
 ghost use Rattle.gfx_script.specs.Patterns.{pixel_of};
+ghost use Rattle.gfx_base.specs.Outcome.{Gives};
+ghost use Rattle.gfx_script.specs.Drafts.{frame_ended, grown_by, moved_out};
 ghost use Rattle.gfx_script.specs.Parts.{parts_seen};
 ghost use Rattle.gfx_script.specs.Script.{IsAcceptedAtStart, step_at, is_framed};
 
+use crate::draft::Draft;
+use crate::error::Flaw;
 use crate::picture::Picture;
 use crate::start::StartBitmap;
 use crate::step::{Entropy, Step};
 use crate::turn::Turn;
-use gfx_base::Pixel;
+use gfx_base::{NoMemory, Pixel};
 use gfx_caps::Offers;
 use gfx_quant::Setting;
 use std::marker::Model;
 
-/// A script as it was read.
+/// A script as it was read or built.
 #[derive(Debug, Drop)]
 pub struct Script {
     window: u8,
@@ -97,6 +101,34 @@ impl Script {
         self.window
     }
 
+    /// Takes the pictures and the steps of a draft to its end: all of them, or, without memory, none.
+    pub fn grow(&mut self, draft: &mut Draft) -> Result<(), NoMemory>
+        ensures grown { OnOk result (self.new ≡ grown_by self.old draft.old) }
+        ensures moved { OnOk result (draft.new ≡ moved_out draft.old) }
+        ensures unchanged { OnErr result (self.new ≡ self.old) }
+        ensures draft_unchanged { OnErr result (draft.new ≡ draft.old) }
+    {
+        draft.move_behind(&mut self.pictures, &mut self.steps)
+    }
+
+    /// Ends a script frame: takes the pictures and the steps of a draft, and `Frame` behind them, to its end. An error
+    /// leaves both as they were.
+    #[tactic(auto, unfolding(crate::specs::Drafts::frame_ended, gfx_base::specs::Results::and_then))]
+    pub fn end_frame(&mut self, draft: &mut Draft) -> Result<(), Flaw>
+        ensures exact { Gives (λ _. (self.new, draft.new)) result (frame_ended self.old draft.old) }
+        ensures unchanged { OnErr result (self.new ≡ self.old) }
+        ensures draft_unchanged { OnErr result (draft.new ≡ draft.old) }
+    {
+        draft.push(Step::Frame)?;
+        match self.grow(draft) {
+            Ok(()) => Ok(()),
+            Err(lack) => {
+                draft.take_frame_back();
+                Err(lack.into())
+            }
+        }
+    }
+
     /// What the client offers.
     pub fn offers(&self) -> &Offers
         ensures { result.now ≡ self.now.offers }
@@ -127,6 +159,13 @@ impl Script {
         ensures { result ≡ self.now.differences }
     {
         self.differences
+    }
+
+    /// How many steps it has.
+    pub fn step_count(&self) -> usize
+        ensures { result ≡ length self.now.steps }
+    {
+        self.steps.len()
     }
 
     /// The step of this number, counted from 1, if there is one.

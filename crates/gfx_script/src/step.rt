@@ -1,8 +1,14 @@
 ghost use Rattle.std.specs.Prelude.{◌≡◌};
 ghost use Rattle.gfx_script.specs.Kinds.{is_plain_write, kind_of};
-ghost use Rattle.gfx_script.specs.Script.{is_frame};
+ghost use Rattle.gfx_script.specs.Script.{is_frame, is_step};
 
+use crate::MOST_KEY;
+use crate::ranges::{
+    are_some_points, are_some_rects, is_from_one, is_index, is_pixel, is_point, is_rect, is_word,
+};
 use gfx_base::{Format, Pixel, Point, Points, Rect, Rects};
+use gfx_surface::MOST_SIDE;
+use gfx_surface_map::MOST_OUTPUT_SIDE;
 
 /// How a picture is sent: uncompressed, by a layer of ClearCodec ([MS-RDPEGFX] 2.2.4.1), in passes by RemoteFX
 /// Progressive ([MS-RDPEGFX] 2.2.4.2), or by RemoteFX video ([MS-RDPRFX]).
@@ -134,5 +140,45 @@ impl Step {
         ensures { result ≡ is_frame self.now }
     {
         matches!(self, Step::Frame)
+    }
+    /// Whether the numbers of the step are within their ranges.
+    #[tactic(auto, unfolding(crate::specs::Script::is_step))]
+    pub fn is_in_range(&self) -> bool
+        ensures { result ≡ is_step self.now }
+    {
+        match self {
+            Step::Surface {
+                id,
+                width,
+                height,
+                ..
+            } => {
+                is_word(*id)
+                    && (is_from_one(MOST_SIDE.into(), (*width).into())
+                        && is_from_one(MOST_SIDE.into(), (*height).into()))
+            }
+            Step::Delete { id } | Step::Improve { id } => is_word(*id),
+            Step::Reset { width, height } => {
+                is_from_one(MOST_OUTPUT_SIDE, *width) && is_from_one(MOST_OUTPUT_SIDE, *height)
+            }
+            Step::Map { id, x, y } => is_word(*id)
+                && (*x <= MOST_OUTPUT_SIDE && *y <= MOST_OUTPUT_SIDE),
+            Step::Fill { id, colour, rects } => is_word(*id)
+                && (is_pixel(*colour) && are_some_rects(rects.as_slice())),
+            Step::Copy {
+                from,
+                to,
+                rect,
+                points,
+            } => is_word(*from)
+                && (is_word(*to) && (is_rect(*rect) && are_some_points(points.as_slice()))),
+            Step::Keep { id, key, rect } => is_word(*id) && (*key <= MOST_KEY && is_rect(*rect)),
+            Step::Show { key, to, points } => *key <= MOST_KEY
+                && (is_word(*to) && are_some_points(points.as_slice())),
+            Step::Forget { key } => *key <= MOST_KEY,
+            Step::Paint { id, at, glyph, .. } => is_word(*id)
+                && (is_point(*at) && is_index(*glyph)),
+            Step::Frame => true,
+        }
     }
 }

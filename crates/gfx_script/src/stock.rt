@@ -1,6 +1,6 @@
 //! The bitmaps that the steps so far keep, as far as later ones are checked against them.
 
-ghost use Rattle.std.specs.Prelude.{◌≡◌, IfOk};
+ghost use Rattle.std.specs.Prelude.{◌≡◌, IfOk, OnErr};
 ghost use Rattle.gfx_script.specs.Stock.{no_bitmaps, bitmap_kept, bitmap_sides, bitmap_shown, bitmap_forgotten};
 ghost use Rattle.gfx_script.specs.Starting.{IsStart, stock_with};
 ghost use Rattle.gfx_base.specs.Outcome.{Gives, Says};
@@ -66,14 +66,19 @@ impl Stock {
         Ok(stock)
     }
 
-    /// Keeps a bitmap of these sides under a key.
+    /// Keeps a bitmap of these sides under a key. An error leaves all as it was.
     #[tactic(auto, unfolding(crate::specs::Stock::bitmap_kept, gfx_base::specs::Results::and_then))]
     pub fn keep(&mut self, alloc: Global, key: u64, width: u16, height: u16) -> Result<(), Flaw>
-        ensures { Gives (λ _. self.new) result (bitmap_kept self.old key width height) }
+        ensures exact { Gives (λ _. self.new) result (bitmap_kept self.old key width height) }
+        ensures unchanged { OnErr result (self.new ≡ self.old) }
     {
+        // Room first, so that nothing fails once the plan has changed.
+        self.sides.reserve(1)?;
         match self.plan.keep(alloc, key, width, height) {
             Ok(kept) => {
-                self.sides.insert(kept.slot, Sides { width, height })?;
+                let Ok(_) = self.sides.insert(kept.slot, Sides { width, height }) else {
+                    unreachable!()
+                };
                 Ok(())
             }
             Err(Fault::Memory) => Err(Flaw::Memory),
@@ -105,11 +110,13 @@ impl Stock {
     /// Lets a key go, or refuses one that isn't held.
     #[tactic(auto, unfolding(crate::specs::Stock::bitmap_forgotten, gfx_base::specs::Results::and_then))]
     pub fn forget(&mut self, key: u64) -> Result<(), ScriptKind>
-        ensures { Says (λ _. self.new) result (bitmap_forgotten self.old key) }
+        ensures exact { Says (λ _. self.new) result (bitmap_forgotten self.old key) }
+        ensures unchanged { OnErr result (self.new ≡ self.old) }
     {
-        match self.plan.forget(key) {
-            Some(_) => Ok(()),
-            None => Err(ScriptKind::KeyAbsent),
+        if self.plan.slot(key).is_none() {
+            return Err(ScriptKind::KeyAbsent);
         }
+        self.plan.forget(key);
+        Ok(())
     }
 }

@@ -1,5 +1,5 @@
 -- What holds of every script that is read.
-use Rattle.std.proofs.Common.{◌≡◌, ℕ, suc, ◌+◌, ◌≤◌, Bool, List, [], ◌∷◌, length, Result, Ok, Err, refl, sym, ap, ◌∙◌, subst, true}
+use Rattle.std.proofs.Common.{◌≡◌, ℕ, suc, ◌+◌, ◌≤◌, Bool, List, [], ◌∷◌, length, Result, Ok, Err, refl, sym, ap, ◌∙◌, subst, true, arith}
 use Rattle.std.proofs.lemmas.Bool.{leb-true}
 use Rattle.std.specs.List.{AllByRecursion}
 use Rattle.toml.specs.Data.{Data}
@@ -9,7 +9,7 @@ use Rattle.gfx_bitmap_cache.specs.Slots.{Entry}
 use Rattle.gfx_import.specs.Entries.{are_distinct, entry_keys}
 use Rattle.gfx_import.specs.Imported.{imported}
 use Rattle.gfx_quant.specs.Setting.{IsSetting}
-use Rattle.gfx_script.specs.declared.TheConstants.{MOST_STEPS}
+use Rattle.gfx_script.specs.declared.TheConstants.{MOST_PICTURES, MOST_STEPS}
 use Rattle.gfx_script.specs.declared.error.ScriptKind.{ScriptKind}
 use Rattle.gfx_script.specs.declared.error.ScriptKind.TheVariants.{Range, Unframed}
 use Rattle.gfx_script.specs.declared.start.StartBitmap.{StartBitmap}
@@ -101,6 +101,7 @@ head_of-good top =
 -- a script that is read starts with what it is to start with, and is good from there
 pub record Begun (starts : Bool → List StartBitmap) (script : Script) : Type 0 where
   pub start : script.start ≡ starts script.small
+  pub pictures : length script.pictures ≤ MOST_PICTURES
   pub accepted : IsAcceptedFrom (held_at_start script) script
 
 pub begun : (starts : Bool → List StartBitmap) (text : List ℕ) (script : Script) → script_from starts text ≡ Ok script → Begun starts script
@@ -119,6 +120,7 @@ begun starts text script is =
     let moved = (turns_of-good top.0.turn).each turns.0 (at_step_ok 0 _ turns.0 turns.1) in
     subst (Begun starts) same record {
       start = refl;
+      pictures = before.pictures.few;
       accepted = record {
         window_from = before.window.0;
         window_most = before.window.1;
@@ -128,7 +130,7 @@ begun starts text script is =
         setting = before.setting;
         small = refl;
         thin = refl;
-        few_pictures = before.pictures.few;
+        few_pictures = omega (arith, before.pictures.few);
         pictures = before.pictures.each;
         few = subst (λ n. n ≤ MOST_STEPS) (sym good.many) before.few;
         numbers = good.numbers;
@@ -145,6 +147,10 @@ pub starts_with_nothing : (text : List ℕ) (script : Script) → script_of text
 unfolding script_of
 starts_with_nothing text script is = (begun (λ small. []) text script is).start
 
+pub few_pictures : (text : List ℕ) (script : Script) → script_of text ≡ Ok script → length script.pictures ≤ MOST_PICTURES
+unfolding script_of
+few_pictures text script is = (begun (λ small. []) text script is).pictures
+
 pub accepted : (text : List ℕ) (script : Script) → script_of text ≡ Ok script → IsAccepted script
 unfolding script_of
 accepted text script is =
@@ -156,6 +162,10 @@ pub starts_with_kept : (server client : List Entry) (text : List ℕ) (script : 
     → script.start ≡ starts_of (imported server client script.small)
 unfolding script_kept
 starts_with_kept server client text script is = (begun (λ small. starts_of (imported server client small)) text script is).start
+
+pub few_pictures_kept : (server client : List Entry) (text : List ℕ) (script : Script) → script_kept server client text ≡ Ok script → length script.pictures ≤ MOST_PICTURES
+unfolding script_kept
+few_pictures_kept server client text script is = (begun (λ small. starts_of (imported server client small)) text script is).pictures
 
 pub accepted_with : (server client : List Entry) (text : List ℕ) (script : Script) → IsStart script.start script.small → script_kept server client text ≡ Ok script
     → IsAcceptedAtStart script

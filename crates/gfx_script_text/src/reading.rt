@@ -6,7 +6,7 @@ ghost use Rattle.toml.specs.Data.{get_member};
 ghost use Rattle.toml.specs.View.{table_view, view};
 ghost use Rattle.gfx_base.specs.Outcome.{Gives, Says};
 ghost use Rattle.gfx_import.specs.Imported.{imported};
-ghost use Rattle.gfx_script.specs.declared.TheConstants.{MOST_STEPS};
+ghost use Rattle.gfx_script.specs.declared.TheConstants.{MOST_PICTURES, MOST_STEPS};
 ghost use Rattle.gfx_script.specs.Parts.{parts_seen};
 ghost use Rattle.gfx_script.specs.Script.{IsAccepted, IsAcceptedAtStart};
 ghost use Rattle.gfx_script.specs.Starting.{IsStart, starts_of};
@@ -58,6 +58,7 @@ struct Head<'a> {
 pub fn read_script(alloc: Global, text: &[u8]) -> Result<Script, ScriptError>
     ensures exact { Reads (λ script. script) result (script_of text.now) }
     ensures accepted { IfOk result IsAccepted }
+    ensures pictures { IfOk result (λ script. length script.pictures ≤ MOST_PICTURES) }
     ensures starts { IfOk result (λ script. script.start ≡ []) }
     // Bytes that are no text take no memory.
     ensures memory { IfErr result (λ error. error ≡ Memory → is_utf8 text.now ≡ true) }
@@ -77,6 +78,7 @@ pub fn read_script_kept(
 ) -> Result<Script, ScriptError>
     ensures exact { Reads (λ script. script) result (script_kept server.now client.now text.now) }
     ensures accepted { IfOk result IsAcceptedAtStart }
+    ensures pictures { IfOk result (λ script. length script.pictures ≤ MOST_PICTURES) }
     ensures start { IfOk result (λ script. script.start ≡ starts_of (imported server.now client.now script.small)) }
     // Bytes that are no text take no memory.
     ensures memory { IfErr result (λ error. error ≡ Memory → is_utf8 text.now ≡ true) }

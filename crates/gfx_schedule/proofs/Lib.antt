@@ -16,3 +16,10 @@ pub mod Turns
 pub mod Rounds
 pub mod Unseen
 pub mod Importing
+pub mod FeedingScripts
+pub mod Unheard
+pub mod FeedingTurns
+pub mod Queueing
+pub mod Fed
+pub mod FedPromises
+pub mod Growing

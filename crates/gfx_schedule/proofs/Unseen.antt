@@ -31,10 +31,10 @@ abbrev pub with_left : List KindedStep → World → World
 with_left left w = record w { server = record w.server { left = left } }
 
 -- the same server's end, with other steps left and another number of the last step that was queued
-abbrev leaving : List KindedStep → ℕ → ScheduledEnd → ScheduledEnd
+abbrev pub leaving : List KindedStep → ℕ → ScheduledEnd → ScheduledEnd
 leaving left last end = record end { left = left; last = last }
 
-abbrev heard_leaving : List KindedStep → ℕ → Heard → Heard
+abbrev pub heard_leaving : List KindedStep → ℕ → Heard → Heard
 heard_leaving left last heard = record heard { end = leaving left last heard.end }
 
 -- listening looks at neither --------------------------------------------------------------------------------------
@@ -73,13 +73,13 @@ hear_same script left last heard byte =
     ap (cond (is_some heard.end.stopped) (heard_leaving left last heard)) (judge_same script left last heard bytes (front bytes))
     ∙ either_heard left last (is_some heard.end.stopped) heard (judge script heard bytes (front bytes))
 
-hears_same : (script : Script) (left : List KindedStep) (last : ℕ) (heard : Heard) (bytes : List ℕ) → hears script (heard_leaving left last heard) bytes ≡ heard_leaving left last (hears script heard bytes)
+pub hears_same : (script : Script) (left : List KindedStep) (last : ℕ) (heard : Heard) (bytes : List ℕ) → hears script (heard_leaving left last heard) bytes ≡ heard_leaving left last (hears script heard bytes)
 unfolding hears
 hears_same script left last heard [] = refl
 hears_same script left last heard (byte ∷ bytes) = ap (λ z. fold (hear script) z bytes) (hear_same script left last heard byte) ∙ hears_same script left last (hear script heard byte) bytes
 
 -- and so it changes neither
-hears_keeps : (script : Script) (heard : Heard) (bytes : List ℕ) → ((hears script heard bytes).end.left ≡ heard.end.left) × ((hears script heard bytes).end.last ≡ heard.end.last)
+pub hears_keeps : (script : Script) (heard : Heard) (bytes : List ℕ) → ((hears script heard bytes).end.left ≡ heard.end.left) × ((hears script heard bytes).end.last ≡ heard.end.last)
 hears_keeps script heard bytes =
     let same = hears_same script heard.end.left heard.end.last heard bytes in
     (ap (λ z. z.end.left) same, ap (λ z. z.end.last) same)
@@ -116,10 +116,10 @@ same_frame some others same agree =
 -- queueing and sending ------------------------------------------------------------------------------------------
 
 -- so many steps are queued next
-abbrev next_count : ScheduledEnd → ℕ
+abbrev pub next_count : ScheduledEnd → ℕ
 next_count end = length (first_frame end.left)
 
-queued_same : (end : ScheduledEnd) (left behind : List KindedStep) → first_frame left ≡ first_frame end.left → behind_frame left ≡ behind → queued (leaving left end.last end) ≡ leaving behind (end.last + next_count end) (queued end)
+pub queued_same : (end : ScheduledEnd) (left behind : List KindedStep) → first_frame left ≡ first_frame end.left → behind_frame left ≡ behind → queued (leaving left end.last end) ≡ leaving behind (end.last + next_count end) (queued end)
 unfolding queued
 queued_same end left behind first rest =
     λ i. record end {
@@ -133,11 +133,11 @@ either_end left last true x y = refl
 either_end left last false x y = refl
 
 -- sending doesn't look at the steps that are left
-sends_same : (script : Script) (end : ScheduledEnd) (left : List KindedStep) → sends script (leaving left end.last end) ≡ leaving left end.last (sends script end)
+pub sends_same : (script : Script) (end : ScheduledEnd) (left : List KindedStep) → sends script (leaving left end.last end) ≡ leaving left end.last (sends script end)
 unfolding sends with_sent
 sends_same script end left = either_end left end.last (can_send end) (with_sent end (after_frame script end.server (due script end))) end
 
-bytes_same : (script : Script) (end : ScheduledEnd) (left : List KindedStep) → bytes_sent script (leaving left end.last end) ≡ bytes_sent script end
+pub bytes_same : (script : Script) (end : ScheduledEnd) (left : List KindedStep) → bytes_sent script (leaving left end.last end) ≡ bytes_sent script end
 unfolding bytes_sent
 bytes_same script end left = refl
 

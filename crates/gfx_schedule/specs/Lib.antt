@@ -9,3 +9,5 @@ pub mod Hearing
 pub mod Words
 pub mod World
 pub mod Schedule
+pub mod Feeding
+pub mod Growing

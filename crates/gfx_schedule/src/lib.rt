@@ -4,13 +4,20 @@
 //! the window, and the client, which draws what it is sent and acknowledges each frame. What they do is a
 //! function of the script and of the turns that they take, in any order and with bytes cut anywhere. The
 //! laws here say that neither end ever refuses anything, and what is equal at each acknowledged frame.
+//! A session may also be fed: its script grows while it goes on. Then it is, at each moment, a session of
+//! the whole script so far, and all that is said of every session holds of it.
 //! `gfx_session` has the two ends as a program.
 #![tactic(auto)]
 
+mod feeding;
 mod laws;
 mod leaving;
 mod turned;
 
+pub use feeding::{
+    every_feed, feeding_is_scripting, growth_is_good, later_steps_are_not_seen,
+    waiting_waits_for_the_client,
+};
 pub use laws::{
     every_import, every_schedule, every_schedule_alike, every_schedule_from_a_start, rounds_end,
 };

@@ -148,7 +148,7 @@ stands_by old new cs ds moved turn origin all turns does may s =
 pub by_any : (old new : Session) (cs : List Chooser) (moved : Bool) (turn : Turn) → Does (Ok moved) old new turn → DoesBy (Ok moved) old new cs cs turn
 by_any old new cs moved turn does = (
   subst (λ n. Asks (script_of old) old.server.last n cs cs) (sym does.1) (asks_none (script_of old) old.server.last cs),
-  (does.0.0, does.0.1, λ origin all turns may s goes. does.0.2 origin all turns may s tt),
+  (does.0.0, does.0.1, λ origin all turns may s goes. does.0.2 origin all turns may s tt, does.0.3),
 )
 
 -- whatever it answers

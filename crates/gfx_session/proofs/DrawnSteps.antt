@@ -24,7 +24,8 @@ use Rattle.gfx_state.proofs.Weights.{weight, weight_reaches}
 use Rattle.gfx_session.specs.Drawing.{drawn_by, Drew, Draws}
 use Rattle.gfx_session.specs.declared.drawing.Drawn.{Drawn}
 use Rattle.gfx_session.specs.declared.drawing.Drawn.TheVariants.{Nothing, Message, Frame}
-use Rattle.gfx_session.specs.Kept.{digest_in}
+use Rattle.gfx_session.specs.Kept.{noted}
+use Rattle.gfx_session.specs.declared.digests.Digests.{Digests}
 
 -- a client whose run isn't refused refuses nothing -------------------------------------------------------------
 
@@ -45,89 +46,89 @@ memory_alone f old new none good s = only_memory f old new good (subst (λ (z : 
 
 -- what is noted of a step -----------------------------------------------------------------------------------
 
--- the digest of the state at the end of a frame
-abbrev pub noted_of : Stepped → State → List (List ℕ)
-noted_of (Ended frame size reply) state = digest_in state ∷ []
-noted_of other state = []
+-- what is kept of the state at the end of a frame
+abbrev pub noted_of : Digests → Stepped → State → List (Option (List ℕ))
+noted_of digests (Ended frame size reply) state = noted digests state ∷ []
+noted_of digests other state = []
 
-one_noted : (pdu : Pdu) (size : ℕ) (state : State) → map digest_in (end_states (record { pdu = pdu; size = size; state = state } ∷ [])) ≡ noted_of (stepped_of pdu size state.decoded) state
-one_noted (EndFrame frame) size state = refl
-one_noted other size state = refl
+one_noted : (digests : Digests) (pdu : Pdu) (size : ℕ) (state : State) → map (noted digests) (end_states (record { pdu = pdu; size = size; state = state } ∷ [])) ≡ noted_of digests (stepped_of pdu size state.decoded) state
+one_noted digests (EndFrame frame) size state = refl
+one_noted digests other size state = refl
 
-more_noted : (xs ys : List Effect) → map digest_in (end_states (xs ++ ys)) ≡ map digest_in (end_states xs) ++ map digest_in (end_states ys)
-more_noted xs ys =
-    ap (λ z. map digest_in (map (λ (e : Effect). e.state) z)) (filter-append (λ (e : Effect). ends_frame e.pdu) xs ys)
-    ∙ ap (map digest_in) (map-append (λ (e : Effect). e.state) _ _)
-    ∙ map-append digest_in (end_states xs) (end_states ys)
+more_noted : (digests : Digests) (xs ys : List Effect) → map (noted digests) (end_states (xs ++ ys)) ≡ map (noted digests) (end_states xs) ++ map (noted digests) (end_states ys)
+more_noted digests xs ys =
+    ap (λ z. map (noted digests) (map (λ (e : Effect). e.state) z)) (filter-append (λ (e : Effect). ends_frame e.pdu) xs ys)
+    ∙ ap (map (noted digests)) (map-append (λ (e : Effect). e.state) _ _)
+    ∙ map-append (noted digests) (end_states xs) (end_states ys)
 
 more_replies : (all : List Effect) (next : Effect) → replies (all ++ next ∷ []) ≡ replies all ++ reply_in (stepped_by next)
 more_replies all next = flat_map-append (λ (e : Effect). reply_in (stepped_by e)) all (next ∷ []) ∙ ap (λ z. replies all ++ z) (append-nil (reply_in (stepped_by next)))
 
 -- nothing is drawn yet
-pub draws_none : (client : Client) (up : List ℕ) (noted : List (List ℕ)) → Draws client client up up noted noted
-draws_none client up noted = λ origin bytes all b. record {
+pub draws_none : (digests : Digests) (client : Client) (up : List ℕ) (drawn : List (Option (List ℕ))) → Draws digests client client up up drawn drawn
+draws_none digests client up drawn = λ origin bytes all b. record {
   more = [];
   brought = subst (HasBroughtFrom origin client bytes) (sym (append-nil all)) b;
   replied = sym (append-nil up);
-  shown = sym (append-nil noted);
+  shown = sym (append-nil drawn);
 }
 
 -- one more message
-draws_next : {origin : State} (old new : Client) (said : Stepped) (bytes : List ℕ) (all : List Effect) (up_before up up_now : List ℕ) (noted_before noted noted_now : List (List ℕ)) (d : Drew origin old bytes all up_before up noted_before noted)
-    → BringsNext origin new bytes (all ++ d.more) said → up_now ≡ up ++ reply_in said → noted_now ≡ noted ++ noted_of said (cursor_of new).state → Drew origin new bytes all up_before up_now noted_before noted_now
-draws_next {origin = origin} old new said bytes all up_before up up_now noted_before noted noted_now d n replied shown = record {
+draws_next : {origin : State} (digests : Digests) (old new : Client) (said : Stepped) (bytes : List ℕ) (all : List Effect) (up_before up up_now : List ℕ) (drawn_before drawn drawn_now : List (Option (List ℕ))) (d : Drew digests origin old bytes all up_before up drawn_before drawn)
+    → BringsNext origin new bytes (all ++ d.more) said → up_now ≡ up ++ reply_in said → drawn_now ≡ drawn ++ noted_of digests said (cursor_of new).state → Drew digests origin new bytes all up_before up_now drawn_before drawn_now
+draws_next {origin = origin} digests old new said bytes all up_before up up_now drawn_before drawn drawn_now d n replied shown = record {
   more = d.more ++ n.next ∷ [];
   brought = subst (HasBroughtFrom origin new bytes) (append_assoc all d.more (n.next ∷ [])) n.brought;
   replied =
       replied ∙ ap (λ z. z ++ reply_in said) d.replied ∙ append_assoc up_before (replies d.more) (reply_in said)
       ∙ ap (λ z. up_before ++ (replies d.more ++ reply_in z)) n.says ∙ ap (λ z. up_before ++ z) (sym (more_replies d.more n.next));
   shown =
-      let here : noted_of said (cursor_of new).state ≡ map digest_in (end_states (n.next ∷ [])) =
-      (λ i. noted_of (n.says i) (n.state i)) ∙ sym (one_noted n.next.pdu n.next.size n.next.state) in
-      shown ∙ ap (λ z. z ++ noted_of said (cursor_of new).state) d.shown
-      ∙ append_assoc noted_before (map digest_in (end_states d.more)) (noted_of said (cursor_of new).state)
-      ∙ ap (λ z. noted_before ++ (map digest_in (end_states d.more) ++ z)) here
-      ∙ ap (λ z. noted_before ++ z) (sym (more_noted d.more (n.next ∷ [])));
+      let here : noted_of digests said (cursor_of new).state ≡ map (noted digests) (end_states (n.next ∷ [])) =
+      (λ i. noted_of digests (n.says i) (n.state i)) ∙ sym (one_noted digests n.next.pdu n.next.size n.next.state) in
+      shown ∙ ap (λ z. z ++ noted_of digests said (cursor_of new).state) d.shown
+      ∙ append_assoc drawn_before (map (noted digests) (end_states d.more)) (noted_of digests said (cursor_of new).state)
+      ∙ ap (λ z. drawn_before ++ (map (noted digests) (end_states d.more) ++ z)) here
+      ∙ ap (λ z. drawn_before ++ z) (sym (more_noted digests d.more (n.next ∷ [])));
 }
 
-draws_applied : (start old new : Client) (id : Id) (size : ℕ) (up_before up : List ℕ) (noted_before noted : List (List ℕ)) → Draws start old up_before up noted_before noted
-    → ((origin : State) (bytes : List ℕ) (all : List Effect) → HasBroughtFrom origin old bytes all → BringsNext origin new bytes all (Applied id size)) → Draws start new up_before up noted_before noted
-draws_applied start old new id size up_before up noted_before noted before brings = λ origin bytes all b.
+draws_applied : (digests : Digests) (start old new : Client) (id : Id) (size : ℕ) (up_before up : List ℕ) (drawn_before drawn : List (Option (List ℕ))) → Draws digests start old up_before up drawn_before drawn
+    → ((origin : State) (bytes : List ℕ) (all : List Effect) → HasBroughtFrom origin old bytes all → BringsNext origin new bytes all (Applied id size)) → Draws digests start new up_before up drawn_before drawn
+draws_applied digests start old new id size up_before up drawn_before drawn before brings = λ origin bytes all b.
     let d = before origin bytes all b in
-    draws_next old new (Applied id size) bytes all up_before up up noted_before noted noted d (brings origin bytes (all ++ d.more) d.brought) (sym (append-nil up)) (sym (append-nil noted))
+    draws_next digests old new (Applied id size) bytes all up_before up up drawn_before drawn drawn d (brings origin bytes (all ++ d.more) d.brought) (sym (append-nil up)) (sym (append-nil drawn))
 
-draws_ended : (start old new : Client) (frame size : ℕ) (reply : List ℕ) (up_before up up_now : List ℕ) (noted_before noted noted_now : List (List ℕ)) → Draws start old up_before up noted_before noted
+draws_ended : (digests : Digests) (start old new : Client) (frame size : ℕ) (reply : List ℕ) (up_before up up_now : List ℕ) (drawn_before drawn drawn_now : List (Option (List ℕ))) → Draws digests start old up_before up drawn_before drawn
     → ((origin : State) (bytes : List ℕ) (all : List Effect) → HasBroughtFrom origin old bytes all → BringsNext origin new bytes all (Ended frame size reply))
-    → up_now ≡ up ++ reply → noted_now ≡ noted ++ digest_in (cursor_of new).state ∷ [] → Draws start new up_before up_now noted_before noted_now
-draws_ended start old new frame size reply up_before up up_now noted_before noted noted_now before brings replied shown = λ origin bytes all b.
+    → up_now ≡ up ++ reply → drawn_now ≡ drawn ++ noted digests (cursor_of new).state ∷ [] → Draws digests start new up_before up_now drawn_before drawn_now
+draws_ended digests start old new frame size reply up_before up up_now drawn_before drawn drawn_now before brings replied shown = λ origin bytes all b.
     let d = before origin bytes all b in
-    draws_next old new (Ended frame size reply) bytes all up_before up up_now noted_before noted noted_now d (brings origin bytes (all ++ d.more) d.brought) replied shown
+    draws_next digests old new (Ended frame size reply) bytes all up_before up up_now drawn_before drawn drawn_now d (brings origin bytes (all ++ d.more) d.brought) replied shown
 
 -- a message that ends no frame
-pub draws_message : (start old new : Client) (stepped : Stepped) (up_before up : List ℕ) (noted_before noted : List (List ℕ)) → drawn_by stepped ≡ Message → Draws start old up_before up noted_before noted
-    → ((origin : State) (bytes : List ℕ) (all : List Effect) → HasBroughtFrom origin old bytes all → BringsOpen origin (Ok stepped) new bytes all) → Draws start new up_before up noted_before noted
-draws_message start old new Need up_before up noted_before noted is before brings = absurd cc
-draws_message start old new (Applied id size) up_before up noted_before noted is before brings = draws_applied start old new id size up_before up noted_before noted before brings
-draws_message start old new (Ended frame size reply) up_before up noted_before noted is before brings = absurd cc
+pub draws_message : (digests : Digests) (start old new : Client) (stepped : Stepped) (up_before up : List ℕ) (drawn_before drawn : List (Option (List ℕ))) → drawn_by stepped ≡ Message → Draws digests start old up_before up drawn_before drawn
+    → ((origin : State) (bytes : List ℕ) (all : List Effect) → HasBroughtFrom origin old bytes all → BringsOpen origin (Ok stepped) new bytes all) → Draws digests start new up_before up drawn_before drawn
+draws_message digests start old new Need up_before up drawn_before drawn is before brings = absurd cc
+draws_message digests start old new (Applied id size) up_before up drawn_before drawn is before brings = draws_applied digests start old new id size up_before up drawn_before drawn before brings
+draws_message digests start old new (Ended frame size reply) up_before up drawn_before drawn is before brings = absurd cc
 
 abbrev reply_drawn : Drawn → List ℕ
 reply_drawn (Frame reply) = reply
 reply_drawn other = []
 
 -- the end of a frame
-pub draws_frame : (start old new : Client) (stepped : Stepped) (said : List ℕ) (up_before up up_now : List ℕ) (noted_before noted noted_now : List (List ℕ)) → drawn_by stepped ≡ Frame said → Draws start old up_before up noted_before noted
+pub draws_frame : (digests : Digests) (start old new : Client) (stepped : Stepped) (said : List ℕ) (up_before up up_now : List ℕ) (drawn_before drawn drawn_now : List (Option (List ℕ))) → drawn_by stepped ≡ Frame said → Draws digests start old up_before up drawn_before drawn
     → ((origin : State) (bytes : List ℕ) (all : List Effect) → HasBroughtFrom origin old bytes all → BringsOpen origin (Ok stepped) new bytes all)
-    → up_now ≡ up ++ said → noted_now ≡ noted ++ digest_in (cursor_of new).state ∷ [] → Draws start new up_before up_now noted_before noted_now
-draws_frame start old new Need said up_before up up_now noted_before noted noted_now is before brings replied shown = absurd cc
-draws_frame start old new (Applied id size) said up_before up up_now noted_before noted noted_now is before brings replied shown = absurd cc
-draws_frame start old new (Ended frame size reply) said up_before up up_now noted_before noted noted_now is before brings replied shown =
+    → up_now ≡ up ++ said → drawn_now ≡ drawn ++ noted digests (cursor_of new).state ∷ [] → Draws digests start new up_before up_now drawn_before drawn_now
+draws_frame digests start old new Need said up_before up up_now drawn_before drawn drawn_now is before brings replied shown = absurd cc
+draws_frame digests start old new (Applied id size) said up_before up up_now drawn_before drawn drawn_now is before brings replied shown = absurd cc
+draws_frame digests start old new (Ended frame size reply) said up_before up up_now drawn_before drawn drawn_now is before brings replied shown =
     let same : reply ≡ said = ap reply_drawn is in
-    draws_ended start old new frame size reply up_before up up_now noted_before noted noted_now before brings (replied ∙ ap (λ z. up ++ z) (sym same)) shown
+    draws_ended digests start old new frame size reply up_before up up_now drawn_before drawn drawn_now before brings (replied ∙ ap (λ z. up ++ z) (sym same)) shown
 
 -- it needs more bytes
-pub draws_rest : (start old new : Client) (up_before up : List ℕ) (noted_before noted : List (List ℕ)) → Draws start old up_before up noted_before noted
-    → ((origin : State) (bytes : List ℕ) (all : List Effect) → HasBroughtFrom origin old bytes all → HasBroughtFrom origin new bytes all) → Draws start new up_before up noted_before noted
-draws_rest start old new up_before up noted_before noted before brings = λ origin bytes all b.
+pub draws_rest : (digests : Digests) (start old new : Client) (up_before up : List ℕ) (drawn_before drawn : List (Option (List ℕ))) → Draws digests start old up_before up drawn_before drawn
+    → ((origin : State) (bytes : List ℕ) (all : List Effect) → HasBroughtFrom origin old bytes all → HasBroughtFrom origin new bytes all) → Draws digests start new up_before up drawn_before drawn
+draws_rest digests start old new up_before up drawn_before drawn before brings = λ origin bytes all b.
     let d = before origin bytes all b in
     record { more = d.more; brought = brings origin bytes (all ++ d.more) d.brought; replied = d.replied; shown = d.shown }
 

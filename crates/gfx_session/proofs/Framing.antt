@@ -15,17 +15,13 @@ use Rattle.gfx_planner.specs.Joined.{all_messages, after_all, frame_of, after_fr
 use Rattle.gfx_planner.proofs.Frames.{still_in_frame}
 use Rattle.gfx_planner.proofs.Joined.{all_messages-nil, all_messages-cons, after_all-nil, after_all-cons}
 use Rattle.gfx_planner.proofs.Streams.{bare, opens_frame, held_through-cons}
-use Rattle.gfx_clear.specs.State.{ClearState}
-use Rattle.gfx_report.specs.StateBytes.{state_bytes, digest_of}
-use Rattle.sha2.specs.Sha256.{sha256}
-use Rattle.gfx_bitmap_cache.specs.Slots.{Cached}
-use Rattle.gfx_surface_map.specs.Shown.{Shown}
 use Rattle.gfx_schedule.specs.Leaving.{kept, step_of, steps_of}
 use Rattle.gfx_schedule.proofs.LeavingItems.{by_place}
 use Rattle.gfx_script.specs.Kinds.{KindedStep}
 use Rattle.gfx_script.specs.Scripted.{Script}
 use Rattle.gfx_session.specs.Frames.{MayPut, MayFrame, due_of}
-use Rattle.gfx_session.specs.Kept.{digest_in}
+use Rattle.gfx_session.specs.Kept.{noted}
+use Rattle.gfx_session.specs.declared.digests.Digests.{Digests}
 use Rattle.gfx_state.specs.Sending.{sent}
 use Rattle.gfx_state.proofs.Sent.{sent-append}
 use Rattle.gfx_window.specs.Superseded.{superseded}
@@ -264,12 +260,8 @@ pub walk_unended : (script : Script) (window : Window) (place : ℕ) (start : Se
     → PartSent new mid now (frame_end old.server ∷ []) → PutsFront before now (sent (frame_of script start (due_of script window)))
 walk_unended script window place start old new before mid now past g s = going_unended script (due_of script window) start old new before mid now (walked script window place start old before mid past g) s
 
--- the digest of the state that it leaves ---------------------------------------------------------------
+-- what is kept of the state that it leaves --------------------------------------------------------------
 
-pub ends_are : (before now : List (List ℕ)) (planned : Planned) (server : Server) (shown : Shown) (cached : Cached) (clear : ClearState) (digest : List ℕ) → now ≡ before ++ digest ∷ [] → planned ≡ ready server
-    → shown ≡ planned.server.state.shown → cached ≡ planned.server.state.cache → clear ≡ planned.server.state.clear → digest ≡ sha256 (state_bytes shown.surfaces cached.slots clear.rings clear.glyphs)
-    → now ≡ before ++ digest_in server.state ∷ []
-unfolding digest_of
-ends_are before now planned server shown cached clear digest grown is shows keeps leaves digests =
-    grown
-    ∙ ap (λ d. before ++ d ∷ []) (digests ∙ (λ i. sha256 (state_bytes (shows i).surfaces (keeps i).slots (leaves i).rings (leaves i).glyphs)) ∙ ap (λ (p : Planned). digest_in p.server.state) is)
+pub ends_are : (before now : List (Option (List ℕ))) (digests : Digests) (planned : Planned) (server : Server) (kept : Option (List ℕ)) → now ≡ before ++ kept ∷ [] → planned ≡ ready server → kept ≡ noted digests planned.server.state
+    → now ≡ before ++ noted digests server.state ∷ []
+ends_are before now digests planned server kept grown is keeps = grown ∙ ap (λ d. before ++ d ∷ []) (keeps ∙ ap (λ (p : Planned). noted digests p.server.state) is)

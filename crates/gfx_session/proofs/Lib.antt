@@ -11,3 +11,4 @@ pub mod HeardPlan
 pub mod ChosenKinds
 pub mod TurnLemmas
 pub mod KeptClient
+pub mod LiveLemmas

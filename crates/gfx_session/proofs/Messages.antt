@@ -1,5 +1,5 @@
 -- What a server's end makes of one message of its client.
-use Rattle.std.proofs.Common.{◌≡◌, ◌≤◌, ℕ, ◌+◌, ◌==◌, Bool, true, false, List, [], ◌∷◌, ◌++◌, length, map, take, drop, Some, Result, Ok, Err, if◌then◌else◌, refl, sym, ap, ◌∙◌, subst, append_assoc, length-append, arith}
+use Rattle.std.proofs.Common.{◌≡◌, ◌≤◌, ℕ, ◌+◌, ◌==◌, Bool, true, false, List, [], ◌∷◌, ◌++◌, length, map, take, drop, Option, Some, Result, Ok, Err, if◌then◌else◌, refl, sym, ap, ◌∙◌, subst, append_assoc, length-append, arith}
 use Rattle.std.proofs.lemmas.List.{append-nil, map-append, length-map}
 use Rattle.gfx_pdu.specs.declared.pdu.Pdu.{Pdu}
 use Rattle.gfx_pdu.specs.declared.pdu.Pdu.TheVariants.{CapsConfirm}
@@ -27,17 +27,18 @@ use Rattle.gfx_state.specs.State.{State}
 use Rattle.gfx_window.specs.declared.window.AckUnknown.{AckUnknown}
 use Rattle.gfx_window.specs.declared.window.Sent.{Sent}
 use Rattle.gfx_window.specs.Window.{Window, acknowledged}
-use Rattle.gfx_session.specs.Kept.{digest_in}
+use Rattle.gfx_session.specs.Kept.{noted}
 use Rattle.gfx_session.specs.Listening.{Amid, LeavesPlan, Obeys}
 use Rattle.gfx_session.specs.Noting.{taken_of}
 use Rattle.gfx_session.specs.Taking.{fault_of}
+use Rattle.gfx_session.specs.declared.digests.Digests.{Digests}
 use Rattle.gfx_session.specs.declared.server_end.ServerEnd.{ServerEnd}
 use Rattle.gfx_session.specs.declared.server_end.ServerFault.{ServerFault}
 use Rattle.gfx_session.specs.declared.server_end.ServerFault.TheVariants.{Refused, Ack}
-use Rattle.gfx_session.specs.declared.server_end.listening.Taken.{Taken}
+use Rattle.gfx_session.specs.declared.server_end.listening.ShownFrame.{ShownFrame}
 
 -- whether it goes on is no matter, and neither are the bytes that are held
-amid_stop : (before now : List ℕ) (had has : List Taken) (end : ServerEnd) (heard : Heard) (why : Stop) → Amid before now had has end heard → Amid before now had has end (stop heard why)
+amid_stop : (before now : List ℕ) (had has : List ShownFrame) (end : ServerEnd) (heard : Heard) (why : Stop) → Amid before now had has end heard → Amid before now had has end (stop heard why)
 amid_stop before now had has end heard why a = record {
   window = a.window;
   ends = a.ends;
@@ -49,7 +50,7 @@ amid_stop before now had has end heard why a = record {
 }
 
 -- a message that isn't read
-pub unread : (script : Script) (end : ServerEnd) (now : List ℕ) (has : List Taken) (fault : Cause Refusal) (due : Result ClientPdu Refusal) → Gives (λ p. p) (Err fault) due → Obeys (Err (fault_of fault)) end end now now has has (λ heard. told script heard due)
+pub unread : (script : Script) (end : ServerEnd) (now : List ℕ) (has : List ShownFrame) (fault : Cause Refusal) (due : Result ClientPdu Refusal) → Gives (λ p. p) (Err fault) due → Obeys (Err (fault_of fault)) end end now now has has (λ heard. told script heard due)
 unfolding told
 unread script end now has cause.Memory due e = refl
 unread script end now has (cause.Refused r) (Err s) e = λ before had heard a.
@@ -57,19 +58,19 @@ unread script end now has (cause.Refused r) (Err s) e = λ before had heard a.
 unread script end now has (cause.Refused r) (Ok p) e = absurd cc
 
 -- the two messages
-pub tells_offers : (script : Script) (result : Result (Unit {0}) ServerFault) (old new : ServerEnd) (now later : List ℕ) (has more : List Taken) (sets : List CapsSet) (due : Result ClientPdu Refusal) → due ≡ Ok (message.Advertise sets)
+pub tells_offers : (script : Script) (result : Result (Unit {0}) ServerFault) (old new : ServerEnd) (now later : List ℕ) (has more : List ShownFrame) (sets : List CapsSet) (due : Result ClientPdu Refusal) → due ≡ Ok (message.Advertise sets)
     → Obeys result old new now later has more (λ heard. confirms script heard (choice sets)) → Obeys result old new now later has more (λ heard. told script heard due)
 unfolding told
 tells_offers script result old new now later has more sets due e obeys = subst (λ z. Obeys result old new now later has more (λ heard. told script heard z)) (sym e) obeys
 
-pub tells_frame : (script : Script) (result : Result (Unit {0}) ServerFault) (old new : ServerEnd) (now later : List ℕ) (has more : List Taken) (depth frame total : ℕ) (due : Result ClientPdu Refusal) → due ≡ Ok (message.Ack depth frame total)
+pub tells_frame : (script : Script) (result : Result (Unit {0}) ServerFault) (old new : ServerEnd) (now later : List ℕ) (has more : List ShownFrame) (depth frame total : ℕ) (due : Result ClientPdu Refusal) → due ≡ Ok (message.Ack depth frame total)
     → Obeys result old new now later has more (λ heard. acknowledges heard frame (acknowledged heard.end.window heard.end.window.flying frame)) → Obeys result old new now later has more (λ heard. told script heard due)
 unfolding told
 tells_frame script result old new now later has more depth frame total due e obeys = subst (λ z. Obeys result old new now later has more (λ heard. told script heard z)) (sym e) obeys
 
 -- offers ------------------------------------------------------------------------------------------------------
 
-pub not_chosen : (script : Script) (end : ServerEnd) (now : List ℕ) (has : List Taken) (r : Refusal) (due : Result Chosen Refusal) → due ≡ Err r → Obeys (Err (Refused r)) end end now now has has (λ heard. confirms script heard due)
+pub not_chosen : (script : Script) (end : ServerEnd) (now : List ℕ) (has : List ShownFrame) (r : Refusal) (due : Result Chosen Refusal) → due ≡ Err r → Obeys (Err (Refused r)) end end now now has has (λ heard. confirms script heard due)
 unfolding confirms
 not_chosen script end now has r (Err s) e = λ before had heard a.
     let same : s ≡ r = cc in (amid_stop before now had has end heard (refuses s) a, ap (λ z. Some (refuses z)) same)
@@ -79,7 +80,7 @@ too_small : (script : Script) (heard : Heard) (chosen : Chosen) → (binds_small
 unfolding confirms
 too_small script heard chosen e = rw e refl
 
-pub not_small : (script : Script) (end : ServerEnd) (now : List ℕ) (has : List Taken) (chosen : Chosen) (due : Result Chosen Refusal) → due ≡ Ok chosen → (binds_small chosen.flags && not script.small) ≡ true
+pub not_small : (script : Script) (end : ServerEnd) (now : List ℕ) (has : List ShownFrame) (chosen : Chosen) (due : Result Chosen Refusal) → due ≡ Ok chosen → (binds_small chosen.flags && not script.small) ≡ true
     → Obeys (Err (Refused CapsVersion)) end end now now has has (λ heard. confirms script heard due)
 not_small script end now has chosen due e small = λ before had heard a.
     let is : confirms script heard due ≡ stop heard (refuses CapsVersion) = ap (confirms script heard) e ∙ too_small script heard chosen small in
@@ -93,7 +94,7 @@ is_confirmed : (script : Script) (heard : Heard) (chosen : Chosen) → (binds_sm
 unfolding confirms
 is_confirmed script heard chosen e = rw e refl
 
-amid_confirmed : (before now later : List ℕ) (had has : List Taken) (end : ServerEnd) (heard : Heard) (chosen : Chosen) → later ≡ now ++ sent (confirm chosen ∷ []) → Amid before now had has end heard → Amid before later had has (record end { confirmed = true }) (confirmed heard chosen)
+amid_confirmed : (before now later : List ℕ) (had has : List ShownFrame) (end : ServerEnd) (heard : Heard) (chosen : Chosen) → later ≡ now ++ sent (confirm chosen ∷ []) → Amid before now had has end heard → Amid before later had has (record end { confirmed = true }) (confirmed heard chosen)
 amid_confirmed before now later had has end heard chosen wrote a = record {
   window = a.window;
   ends = a.ends;
@@ -104,7 +105,7 @@ amid_confirmed before now later had has end heard chosen wrote a = record {
   paired = a.paired;
 }
 
-pub chosen : (script : Script) (end : ServerEnd) (now later : List ℕ) (has : List Taken) (pick : Chosen) (due : Result Chosen Refusal) → due ≡ Ok pick → (binds_small pick.flags && not script.small) ≡ false → later ≡ now ++ sent (confirm pick ∷ [])
+pub chosen : (script : Script) (end : ServerEnd) (now later : List ℕ) (has : List ShownFrame) (pick : Chosen) (due : Result Chosen Refusal) → due ≡ Ok pick → (binds_small pick.flags && not script.small) ≡ false → later ≡ now ++ sent (confirm pick ∷ [])
     → Obeys (Ok tt) end (record end { confirmed = true }) now later has has (λ heard. confirms script heard due)
 chosen script end now later has pick due e small wrote = λ before had heard a.
     let is : confirms script heard due ≡ confirmed heard pick = ap (confirms script heard) e ∙ is_confirmed script heard pick small in (
@@ -135,7 +136,7 @@ is_oldest window (first ∷ others) frame step after e = by (first.frame == fram
         record { pending = sym (ap (λ z. z.pending) is); fewer = omega (arith, ap (λ z. length z.flying) is) }
     by false same = absurd cc
 
-pub not_oldest : (end : ServerEnd) (window : Window) (now : List ℕ) (has : List Taken) (frame : ℕ) (u : AckUnknown) → window ≡ end.window → acknowledged end.window end.window.flying frame ≡ Err u
+pub not_oldest : (end : ServerEnd) (window : Window) (now : List ℕ) (has : List ShownFrame) (frame : ℕ) (u : AckUnknown) → window ≡ end.window → acknowledged end.window end.window.flying frame ≡ Err u
     → Obeys (Err (Ack u)) end (record end { window = window }) now now has has (λ heard. acknowledges heard frame (acknowledged heard.end.window heard.end.window.flying frame))
 unfolding acknowledges
 not_oldest end window now has frame u same e = λ before had heard a.
@@ -160,13 +161,14 @@ pub record Stays (old new : ServerEnd) : Type 0 where
   pub planner : new.planner ≡ old.planner
   pub spent : new.spent ≡ old.spent
   pub confirmed : new.confirmed ≡ old.confirmed
+  pub digests : new.digests ≡ old.digests
 
-taken_of-append : (frames : List Sent) (frame : Sent) (digests : List (List ℕ)) (digest : List ℕ) → length digests ≡ length frames
-    → taken_of (frames ++ frame ∷ []) (digests ++ digest ∷ []) ≡ taken_of frames digests ++ record { frame = frame.frame; step = frame.step; state = digest } ∷ []
+taken_of-append : (frames : List Sent) (frame : Sent) (digests : List (Option (List ℕ))) (digest : Option (List ℕ)) → length digests ≡ length frames
+    → taken_of (frames ++ frame ∷ []) (digests ++ digest ∷ []) ≡ taken_of frames digests ++ record { frame = frame.frame; step = frame.step; digest = digest } ∷ []
 taken_of-append [] frame [] digest even = refl
 taken_of-append [] frame (d ∷ digests) digest even = absurd (omega (arith, even))
 taken_of-append (f ∷ frames) frame [] digest even = absurd (omega (arith, even))
-taken_of-append (f ∷ frames) frame (d ∷ digests) digest even = ap (λ z. record { frame = f.frame; step = f.step; state = d } ∷ z) (taken_of-append frames frame digests digest (omega (arith, even)))
+taken_of-append (f ∷ frames) frame (d ∷ digests) digest even = ap (λ z. record { frame = f.frame; step = f.step; digest = d } ∷ z) (taken_of-append frames frame digests digest (omega (arith, even)))
 
 -- what is heard of it
 abbrev acked : Heard → ℕ → ℕ → Window → Heard
@@ -177,41 +179,43 @@ acked heard frame step after = record heard {
 }
 
 -- the oldest of the ends
-record IsFirst (ends : List State) (digest : List ℕ) (behind : List (List ℕ)) : Type 0 where
+record IsFirst (digests : Digests) (ends : List State) (digest : Option (List ℕ)) (behind : List (Option (List ℕ))) : Type 0 where
   state : State
   front : take 1 ends ≡ state ∷ []
-  is : digest_in state ≡ digest
-  rest : map digest_in (drop 1 ends) ≡ behind
+  is : noted digests state ≡ digest
+  rest : map (noted digests) (drop 1 ends) ≡ behind
   count : length ends ≡ length (drop 1 ends) + 1
 
-is_first : (ends : List State) (digest : List ℕ) (behind : List (List ℕ)) → digest ∷ behind ≡ map digest_in ends → IsFirst ends digest behind
-is_first [] digest behind e = absurd cc
-is_first (state ∷ ends) digest behind e =
-    let head : digest_in state ≡ digest = cc in
-    let tail : map digest_in ends ≡ behind = cc in
+is_first : (digests : Digests) (ends : List State) (digest : Option (List ℕ)) (behind : List (Option (List ℕ))) → digest ∷ behind ≡ map (noted digests) ends → IsFirst digests ends digest behind
+is_first digests [] digest behind e = absurd cc
+is_first digests (state ∷ ends) digest behind e =
+    let head : noted digests state ≡ digest = cc in
+    let tail : map (noted digests) ends ≡ behind = cc in
     record { state = state; front = refl; is = head; rest = tail; count = omega arith }
 
-amid_acked : (before now : List ℕ) (had has more : List Taken) (old new : ServerEnd) (heard : Heard) (frame step : ℕ) (digest : List ℕ) → Stays old new → IsOldest old.window old.window.flying new.window
-    → old.ends.items ≡ digest ∷ new.ends.items → more ≡ has ++ record { frame = frame; step = step; state = digest } ∷ [] → Amid before now had has old heard → Amid before now had more new (acked heard frame step new.window)
+amid_acked : (before now : List ℕ) (had has more : List ShownFrame) (old new : ServerEnd) (heard : Heard) (frame step : ℕ) (digest : Option (List ℕ)) → Stays old new → IsOldest old.window old.window.flying new.window
+    → old.ends.items ≡ digest ∷ new.ends.items → more ≡ has ++ record { frame = frame; step = step; digest = digest } ∷ [] → Amid before now had has old heard → Amid before now had more new (acked heard frame step new.window)
 amid_acked before now had has more old new heard frame step digest s oldest popped pushed a =
-    let first = is_first heard.end.ends digest new.ends.items (sym popped ∙ a.ends) in
-    let item : Taken = record { frame = frame; step = step; state = digest } in
-    let states : map digest_in (heard.states ++ take 1 heard.end.ends) ≡ map digest_in heard.states ++ digest ∷ [] =
-    ap (λ z. map digest_in (heard.states ++ z)) first.front ∙ map-append digest_in heard.states (first.state ∷ []) ∙ ap (λ z. map digest_in heard.states ++ z ∷ []) first.is in
-    let joined = taken_of-append heard.taken (record { frame = frame; step = step }) (map digest_in heard.states) digest (length-map heard.states digest_in ∙ a.paired) in
+    let first = is_first old.digests heard.end.ends digest new.ends.items (sym popped ∙ a.ends) in
+    let item : ShownFrame = record { frame = frame; step = step; digest = digest } in
+    let keep : State → Option (List ℕ) = noted old.digests in
+    let states : map keep (heard.states ++ take 1 heard.end.ends) ≡ map keep heard.states ++ digest ∷ [] =
+    ap (λ z. map keep (heard.states ++ z)) first.front ∙ map-append keep heard.states (first.state ∷ []) ∙ ap (λ z. map keep heard.states ++ z ∷ []) first.is in
+    let joined = taken_of-append heard.taken (record { frame = frame; step = step }) (map keep heard.states) digest (length-map heard.states keep ∙ a.paired) in
     record {
       window = refl;
-      ends = sym first.rest;
+      ends = sym first.rest ∙ ap (λ (d : Digests). map (noted d) (drop 1 heard.end.ends)) (sym s.digests);
       even = omega (arith, first.count, a.even, oldest.fewer, ap (λ z. length z.flying) a.window);
       confirmed = s.confirmed ∙ a.confirmed;
       out = a.out;
-      taken = pushed ∙ ap (λ z. z ++ item ∷ []) a.taken ∙ append_assoc had (taken_of heard.taken (map digest_in heard.states)) (item ∷ []) ∙ ap (λ z. had ++ z) (sym joined)
-          ∙ ap (λ z. had ++ taken_of (heard.taken ++ record { frame = frame; step = step } ∷ []) z) (sym states);
+      taken = pushed ∙ ap (λ z. z ++ item ∷ []) a.taken ∙ append_assoc had (taken_of heard.taken (map keep heard.states)) (item ∷ []) ∙ ap (λ z. had ++ z) (sym joined)
+          ∙ ap (λ z. had ++ taken_of (heard.taken ++ record { frame = frame; step = step } ∷ []) z) (sym states)
+          ∙ ap (λ (d : Digests). had ++ taken_of (heard.taken ++ record { frame = frame; step = step } ∷ []) (map (noted d) (heard.states ++ take 1 heard.end.ends))) (sym s.digests);
       paired = ap (λ z. length (heard.states ++ z)) first.front ∙ length-append heard.states (first.state ∷ []) ∙ ap (λ n. n + 1) a.paired ∙ sym (length-append heard.taken _);
     }
 
-pub takes_frame : (old new : ServerEnd) (now : List ℕ) (has more : List Taken) (frame step : ℕ) (digest : List ℕ) → Stays old new → acknowledged old.window old.window.flying frame ≡ Ok (step, new.window) → old.ends.items ≡ digest ∷ new.ends.items
-    → more ≡ has ++ record { frame = frame; step = step; state = digest } ∷ [] → Obeys (Ok tt) old new now now has more (λ heard. acknowledges heard frame (acknowledged heard.end.window heard.end.window.flying frame))
+pub takes_frame : (old new : ServerEnd) (now : List ℕ) (has more : List ShownFrame) (frame step : ℕ) (digest : Option (List ℕ)) → Stays old new → acknowledged old.window old.window.flying frame ≡ Ok (step, new.window) → old.ends.items ≡ digest ∷ new.ends.items
+    → more ≡ has ++ record { frame = frame; step = step; digest = digest } ∷ [] → Obeys (Ok tt) old new now now has more (λ heard. acknowledges heard frame (acknowledged heard.end.window heard.end.window.flying frame))
 unfolding acknowledges
 takes_frame old new now has more frame step digest s e popped pushed = λ before had heard a.
     let due : acknowledged heard.end.window heard.end.window.flying frame ≡ Ok (step, new.window) = ap (λ z. acknowledged z z.flying frame) (sym a.window) ∙ e in
@@ -227,23 +231,23 @@ pub none_left : {X : Type 0} (xs ys : List X) → xs ≡ ys → ys ≡ drop 1 xs
 none_left [] ys e r = refl
 none_left (x ∷ xs) ys e r = absurd (omega (arith, ap length (e ∙ r)))
 
--- each frame in flight has its digest
-pub takes_none : (old new : ServerEnd) (now : List ℕ) (has : List Taken) (frame step : ℕ) (window : Window) → acknowledged old.window old.window.flying frame ≡ Ok (step, window) → old.ends.items ≡ []
+-- for each frame in flight something is kept
+pub takes_none : (old new : ServerEnd) (now : List ℕ) (has : List ShownFrame) (frame step : ℕ) (window : Window) → acknowledged old.window old.window.flying frame ≡ Ok (step, window) → old.ends.items ≡ []
     → Obeys (Ok tt) old new now now has has (λ heard. acknowledges heard frame (acknowledged heard.end.window heard.end.window.flying frame))
 takes_none old new now has frame step window e empty = λ before had heard a.
     let oldest = is_oldest old.window old.window.flying frame step window e in
-    absurd (omega (arith, oldest.fewer, a.even, ap (λ z. length z.flying) a.window, length-map heard.end.ends digest_in, ap length a.ends, ap length empty))
+    absurd (omega (arith, oldest.fewer, a.even, ap (λ z. length z.flying) a.window, length-map heard.end.ends (noted old.digests), ap length a.ends, ap length empty))
 
 -- where no frame is noted, and where one is
-pub leaves_none : (old new : ServerEnd) (has : List Taken) (frame step : ℕ) → Stays old new → acknowledged old.window old.window.flying frame ≡ Ok (step, new.window) → LeavesPlan old new has has
+pub leaves_none : (old new : ServerEnd) (has : List ShownFrame) (frame step : ℕ) → Stays old new → acknowledged old.window old.window.flying frame ≡ Ok (step, new.window) → LeavesPlan old new has has
 leaves_none old new has frame step s e =
     let oldest = is_oldest old.window old.window.flying frame step new.window e in
-    record { plans = record { script = s.script; last = s.last; planner = s.planner; spent = s.spent; pending = oldest.pending }; few = omega (arith, oldest.fewer) }
+    record { plans = record { script = s.script; last = s.last; planner = s.planner; spent = s.spent; pending = oldest.pending; digests = s.digests }; few = omega (arith, oldest.fewer) }
 
-pub leaves_one : (old new : ServerEnd) (has more : List Taken) (frame step : ℕ) (item : Taken) → Stays old new → acknowledged old.window old.window.flying frame ≡ Ok (step, new.window) → more ≡ has ++ item ∷ [] → LeavesPlan old new has more
+pub leaves_one : (old new : ServerEnd) (has more : List ShownFrame) (frame step : ℕ) (item : ShownFrame) → Stays old new → acknowledged old.window old.window.flying frame ≡ Ok (step, new.window) → more ≡ has ++ item ∷ [] → LeavesPlan old new has more
 leaves_one old new has more frame step item s e pushed =
     let oldest = is_oldest old.window old.window.flying frame step new.window e in
-    record { plans = record { script = s.script; last = s.last; planner = s.planner; spent = s.spent; pending = oldest.pending }; few = omega (arith, oldest.fewer, ap length pushed, length-append has (item ∷ [])) }
+    record { plans = record { script = s.script; last = s.last; planner = s.planner; spent = s.spent; pending = oldest.pending; digests = s.digests }; few = omega (arith, oldest.fewer, ap length pushed, length-append has (item ∷ [])) }
 
 -- the confirmation ----------------------------------------------------------------------------------------------
 

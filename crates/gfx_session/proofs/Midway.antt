@@ -27,7 +27,7 @@ use Rattle.gfx_session.specs.Taking.{AnswersWhole, IsWhyStopped, fault_of}
 use Rattle.gfx_session.specs.declared.server_end.ServerEnd.{ServerEnd}
 use Rattle.gfx_session.specs.declared.server_end.ServerFault.{ServerFault}
 use Rattle.gfx_session.specs.declared.server_end.ServerFault.TheVariants.{Refused, Ack, Memory, Closed}
-use Rattle.gfx_session.specs.declared.server_end.listening.Taken.{Taken}
+use Rattle.gfx_session.specs.declared.server_end.listening.ShownFrame.{ShownFrame}
 
 -- what the splitter answers ---------------------------------------------------------------------------------
 
@@ -83,7 +83,7 @@ bad_from (Some s) rest r k e = absurd cc
 -- in the midst of a piece ---------------------------------------------------------------------------------------
 
 -- what the piece comes to is what the schedule's end comes to, as it is now, with the bytes that are held
-pub record Midway (script : Script) (at : ScheduledEnd) (piece before now : List ℕ) (had has : List Taken) (end : ServerEnd) : Type 0 where
+pub record Midway (script : Script) (at : ScheduledEnd) (piece before now : List ℕ) (had has : List ShownFrame) (end : ServerEnd) : Type 0 where
   pub heard : Heard
   pub amid : Amid before now had has end heard
   pub goes_on : heard.end.stopped ≡ None
@@ -103,7 +103,7 @@ begun_at script at piece on short =
     let first : hears script (with_held (listening at) []) at.heard ≡ listening at = hears_short script (with_held (listening at) []) at.heard on short in
     ap (λ z. hears script z piece) (sym first) ∙ sym (hears-append script (with_held (listening at) []) at.heard piece)
 
-pub begins : (old : ServerEnd) (splitter : Splitter) (at : ScheduledEnd) (piece before : List ℕ) (had : List Taken) → old.closed ≡ false → splitter ≡ fed old.splitter piece → ListensAs old at
+pub begins : (old : ServerEnd) (splitter : Splitter) (at : ScheduledEnd) (piece before : List ℕ) (had : List ShownFrame) → old.closed ≡ false → splitter ≡ fed old.splitter piece → ListensAs old at
     → Midway old.script at piece before before had had (record old { splitter = splitter })
 begins old splitter at piece before had opened is s =
     let on = none_stopped at.stopped (sym opened ∙ s.closed) in
@@ -128,7 +128,7 @@ begins old splitter at piece before had opened is s =
     }
 
 -- what is held is no matter
-amid_held : (before now : List ℕ) (had has : List Taken) (end : ServerEnd) (splitter : Splitter) (heard : Heard) (bytes : List ℕ) → Amid before now had has end heard → Amid before now had has (record end { splitter = splitter }) (with_held heard bytes)
+amid_held : (before now : List ℕ) (had has : List ShownFrame) (end : ServerEnd) (splitter : Splitter) (heard : Heard) (bytes : List ℕ) → Amid before now had has end heard → Amid before now had has (record end { splitter = splitter }) (with_held heard bytes)
 amid_held before now had has end splitter heard bytes a = record {
   window = a.window;
   ends = a.ends;
@@ -139,7 +139,7 @@ amid_held before now had has end splitter heard bytes a = record {
   paired = a.paired;
 }
 
-amid_stop : (before now : List ℕ) (had has : List Taken) (end : ServerEnd) (splitter : Splitter) (heard : Heard) (why : Stop) → Amid before now had has end heard → Amid before now had has (record end { splitter = splitter }) (stop heard why)
+amid_stop : (before now : List ℕ) (had has : List ShownFrame) (end : ServerEnd) (splitter : Splitter) (heard : Heard) (why : Stop) → Amid before now had has end heard → Amid before now had has (record end { splitter = splitter }) (stop heard why)
 amid_stop before now had has end splitter heard why a = record {
   window = a.window;
   ends = a.ends;
@@ -151,10 +151,10 @@ amid_stop before now had has end splitter heard why a = record {
 }
 
 -- all that is whole was told
-abbrev HasWaited : List ℕ → List ℕ → List Taken → List Taken → ServerEnd → Heard → Type 0
+abbrev HasWaited : List ℕ → List ℕ → List ShownFrame → List ShownFrame → ServerEnd → Heard → Type 0
 HasWaited before now had has end all = Amid before now had has end all × (all.end.stopped ≡ None) × (end.splitter ≡ holding all.end.heard) × (front all.end.heard ≡ Short)
 
-pub waits : (script : Script) (at : ScheduledEnd) (piece before now : List ℕ) (had has : List Taken) (end : ServerEnd) (splitter : Splitter) → Midway script at piece before now had has end
+pub waits : (script : Script) (at : ScheduledEnd) (piece before now : List ℕ) (had has : List ShownFrame) (end : ServerEnd) (splitter : Splitter) → Midway script at piece before now had has end
     → (next Ok end.splitter ≡ Ok None) × (splitter ≡ after_next Ok end.splitter) → HasWaited before now had has (record end { splitter = splitter }) (hears script (listening at) piece)
 waits script at piece before now had has end splitter m e =
     let rest : List ℕ = end.splitter.rest in
@@ -163,7 +163,7 @@ waits script at piece before now had has end splitter m e =
     subst (HasWaited before now had has (record end { splitter = splitter })) (sym is) (amid_held before now had has end splitter m.heard rest m.amid, m.goes_on, found.1, found.0)
 
 -- without memory
-lacks : (script : Script) (at : ScheduledEnd) (piece before now later : List ℕ) (had has : List Taken) (end : ServerEnd) → Midway script at piece before now had has end → later ≡ now → AnswersWhole script at piece before later
+lacks : (script : Script) (at : ScheduledEnd) (piece before now later : List ℕ) (had has : List ShownFrame) (end : ServerEnd) → Midway script at piece before now had has end → later ≡ now → AnswersWhole script at piece before later
 lacks script at piece before now later had has end m e = record {
   taken = m.taken;
   rest = end.splitter.rest;
@@ -173,10 +173,10 @@ lacks script at piece before now later had has end m e = record {
 }
 
 -- a fault of the splitter
-abbrev HasStopped : ServerFault → List ℕ → List ℕ → List Taken → List Taken → ServerEnd → Heard → Type 0
+abbrev HasStopped : ServerFault → List ℕ → List ℕ → List ShownFrame → List ShownFrame → ServerEnd → Heard → Type 0
 HasStopped fault before now had has end all = Amid before now had has end all × IsWhyStopped fault all.end.stopped
 
-refuses_length : (script : Script) (at : ScheduledEnd) (piece before now : List ℕ) (had has : List Taken) (end : ServerEnd) (splitter : Splitter) (r : Refusal) → Midway script at piece before now had has end → next Ok end.splitter ≡ Err r
+refuses_length : (script : Script) (at : ScheduledEnd) (piece before now : List ℕ) (had has : List ShownFrame) (end : ServerEnd) (splitter : Splitter) (r : Refusal) → Midway script at piece before now had has end → next Ok end.splitter ≡ Err r
     → HasStopped (Refused r) before now had has (record end { splitter = splitter }) (hears script (listening at) piece)
 refuses_length script at piece before now had has end splitter r m e =
     let rest : List ℕ = end.splitter.rest in
@@ -184,7 +184,7 @@ refuses_length script at piece before now had has end splitter r m e =
     let is : hears script (listening at) piece ≡ stop (with_held m.heard []) (refuses ChannelLength) = m.same ∙ hears_bad script (with_held m.heard []) rest m.goes_on front-nil found.0 in
     subst (HasStopped (Refused r) before now had has (record end { splitter = splitter })) (sym is) (amid_stop before now had has end splitter m.heard (refuses ChannelLength) m.amid, ap (λ z. Some (refuses z)) (sym found.1))
 
-pub splitter_fails : (old end : ServerEnd) (splitter : Splitter) (piece before now : List ℕ) (had has : List Taken) (fault : Cause Refusal) → ((at : ScheduledEnd) → ListensAs old at → Midway old.script at piece before now had has end)
+pub splitter_fails : (old end : ServerEnd) (splitter : Splitter) (piece before now : List ℕ) (had has : List ShownFrame) (fault : Cause Refusal) → ((at : ScheduledEnd) → ListensAs old at → Midway old.script at piece before now had has end)
     → Answers (Err fault) end.splitter splitter (next Ok end.splitter) (after_next Ok end.splitter) → Hears (Err (fault_of fault)) old (record end { splitter = splitter }) before now had has piece
 splitter_fails old end splitter piece before now had has cause.Memory m e = λ at s. lacks old.script at piece before now now had has end (m at s) refl
 splitter_fails old end splitter piece before now had has (cause.Refused r) m e = λ at s. refuses_length old.script at piece before now had has end splitter r (m at s) e.0
@@ -230,7 +230,7 @@ wire_of bytes message after found =
     }
 
 -- with a message in hand
-record Opened (script : Script) (at : ScheduledEnd) (piece before now : List ℕ) (had has : List Taken) (end : ServerEnd) (message : List ℕ) : Type 0 where
+record Opened (script : Script) (at : ScheduledEnd) (piece before now : List ℕ) (had has : List ShownFrame) (end : ServerEnd) (message : List ℕ) : Type 0 where
   pub heard : Heard
   pub amid : Amid before now had has end heard
   pub goes_on : heard.end.stopped ≡ None
@@ -241,7 +241,7 @@ record Opened (script : Script) (at : ScheduledEnd) (piece before now : List ℕ
   pub cut : at.heard ++ piece ≡ taken ++ end.splitter.rest
   pub took : hears script (with_held (listening at) []) taken ≡ told script heard (client_of message)
 
-opens : (script : Script) (at : ScheduledEnd) (piece before now : List ℕ) (had has : List Taken) (end : ServerEnd) (splitter : Splitter) (message : List ℕ) → Midway script at piece before now had has end → One end.splitter splitter message
+opens : (script : Script) (at : ScheduledEnd) (piece before now : List ℕ) (had has : List ShownFrame) (end : ServerEnd) (splitter : Splitter) (message : List ℕ) → Midway script at piece before now had has end → One end.splitter splitter message
     → Opened script at piece before now had has (record end { splitter = splitter }) message
 opens script at piece before now had has end splitter message m o =
     let none : Heard = with_held m.heard [] in
@@ -261,7 +261,7 @@ opens script at piece before now had has end splitter message m o =
     }
 
 -- it is done
-goes : (script : Script) (at : ScheduledEnd) (piece before now later : List ℕ) (had has more : List Taken) (end new : ServerEnd) (message : List ℕ) → Opened script at piece before now had has end message → new.splitter ≡ end.splitter
+goes : (script : Script) (at : ScheduledEnd) (piece before now later : List ℕ) (had has more : List ShownFrame) (end new : ServerEnd) (message : List ℕ) → Opened script at piece before now had has end message → new.splitter ≡ end.splitter
     → Obeys (Ok tt) end new now later has more (λ heard. told script heard (client_of message)) → Midway script at piece before later had more new
 goes script at piece before now later had has more end new message o kept obeys =
     let after : Heard = told script o.heard (client_of message) in
@@ -280,7 +280,7 @@ goes script at piece before now later had has more end new message o kept obeys 
     }
 
 -- or not
-halts : (script : Script) (at : ScheduledEnd) (piece before now later : List ℕ) (had has more : List Taken) (end new : ServerEnd) (message : List ℕ) (fault : ServerFault) (why : Stop) → (o : Opened script at piece before now had has end message)
+halts : (script : Script) (at : ScheduledEnd) (piece before now later : List ℕ) (had has more : List ShownFrame) (end new : ServerEnd) (message : List ℕ) (fault : ServerFault) (why : Stop) → (o : Opened script at piece before now had has end message)
     → Amid before later had more new (told script o.heard (client_of message)) → IsWhyStopped fault (told script o.heard (client_of message)).end.stopped → (told script o.heard (client_of message)).end.stopped ≡ Some why
     → HasStopped fault before later had more new (hears script (listening at) piece)
 halts script at piece before now later had has more end new message fault why o amid tells stopped =
@@ -288,12 +288,12 @@ halts script at piece before now later had has more end new message fault why o 
     subst (HasStopped fault before later had more new) (sym is) (amid, tells)
 
 -- said of the same script, and of the same message
-as_said : (result : Result (Unit {0}) ServerFault) (old new : ServerEnd) (now later : List ℕ) (has more : List Taken) (script same : Script) (text message : List ℕ) → script ≡ same → text ≡ message
+as_said : (result : Result (Unit {0}) ServerFault) (old new : ServerEnd) (now later : List ℕ) (has more : List ShownFrame) (script same : Script) (text message : List ℕ) → script ≡ same → text ≡ message
     → Obeys result old new now later has more (λ heard. told script heard (client_of text)) → Obeys result old new now later has more (λ heard. told same heard (client_of message))
 as_said result old new now later has more script same text message e f obeys =
     subst (λ z. Obeys result old new now later has more (λ heard. told z heard (client_of message))) e (subst (λ z. Obeys result old new now later has more (λ heard. told script heard (client_of z))) f obeys)
 
-pub message_fails : (old end new : ServerEnd) (splitter : Splitter) (piece before now later : List ℕ) (had has more : List Taken) (text message : List ℕ) (fault : ServerFault) → ((at : ScheduledEnd) → ListensAs old at → Midway old.script at piece before now had has end)
+pub message_fails : (old end new : ServerEnd) (splitter : Splitter) (piece before now later : List ℕ) (had has more : List ShownFrame) (text message : List ℕ) (fault : ServerFault) → ((at : ScheduledEnd) → ListensAs old at → Midway old.script at piece before now had has end)
     → One end.splitter splitter message → end.script ≡ old.script → text ≡ message → Obeys (Err fault) (record end { splitter = splitter }) new now later has more (λ heard. told end.script heard (client_of text)) → Hears (Err fault) old new before later had more piece
 message_fails old end new splitter piece before now later had has more text message Memory m one e f obeys = λ at s. lacks old.script at piece before now later had has end (m at s) obeys
 message_fails old end new splitter piece before now later had has more text message Closed m one e f obeys = obeys
@@ -306,7 +306,7 @@ message_fails old end new splitter piece before now later had has more text mess
     let done = as_said (Err (Ack u)) (record end { splitter = splitter }) new now later has more end.script old.script text message e f obeys before had o.heard o.amid in
     halts old.script at piece before now later had has more (record end { splitter = splitter }) new message (Ack u) (unknown u) o done.0 done.1 done.1
 
-pub message_done : (old end new : ServerEnd) (splitter : Splitter) (piece before now later : List ℕ) (had has more : List Taken) (text message : List ℕ) → ((at : ScheduledEnd) → ListensAs old at → Midway old.script at piece before now had has end)
+pub message_done : (old end new : ServerEnd) (splitter : Splitter) (piece before now later : List ℕ) (had has more : List ShownFrame) (text message : List ℕ) → ((at : ScheduledEnd) → ListensAs old at → Midway old.script at piece before now had has end)
     → One end.splitter splitter message → end.script ≡ old.script → text ≡ message → new.splitter ≡ splitter → Obeys (Ok tt) (record end { splitter = splitter }) new now later has more (λ heard. told end.script heard (client_of text))
     → (at : ScheduledEnd) → ListensAs old at → Midway old.script at piece before later had more new
 message_done old end new splitter piece before now later had has more text message m one e f kept obeys = λ at s.
@@ -314,7 +314,7 @@ message_done old end new splitter piece before now later had has more text messa
     (as_said (Ok tt) (record end { splitter = splitter }) new now later has more end.script old.script text message e f obeys)
 
 -- what no message changes
-pub leaves_on : (old end new : ServerEnd) (splitter : Splitter) (had has more : List Taken) → LeavesPlan old end had has → LeavesPlan (record end { splitter = splitter }) new has more → LeavesPlan old new had more
+pub leaves_on : (old end new : ServerEnd) (splitter : Splitter) (had has more : List ShownFrame) → LeavesPlan old end had has → LeavesPlan (record end { splitter = splitter }) new has more → LeavesPlan old new had more
 leaves_on old end new splitter had has more a b = record {
   plans = record {
     script = b.plans.script ∙ a.plans.script;
@@ -322,15 +322,16 @@ leaves_on old end new splitter had has more a b = record {
     planner = b.plans.planner ∙ a.plans.planner;
     spent = b.plans.spent ∙ a.plans.spent;
     pending = b.plans.pending ∙ a.plans.pending;
+    digests = b.plans.digests ∙ a.plans.digests;
   };
   few = omega (arith, a.few, b.few);
 }
 
-pub leaves_split : (old end : ServerEnd) (splitter : Splitter) (had has : List Taken) → LeavesPlan old end had has → LeavesPlan old (record end { splitter = splitter }) had has
+pub leaves_split : (old end : ServerEnd) (splitter : Splitter) (had has : List ShownFrame) → LeavesPlan old end had has → LeavesPlan old (record end { splitter = splitter }) had has
 leaves_split old end splitter had has a = record {
-  plans = record { script = a.plans.script; last = a.plans.last; planner = a.plans.planner; spent = a.plans.spent; pending = a.plans.pending };
+  plans = record { script = a.plans.script; last = a.plans.last; planner = a.plans.planner; spent = a.plans.spent; pending = a.plans.pending; digests = a.plans.digests };
   few = a.few;
 }
 
-pub leaves_start : (old : ServerEnd) (splitter : Splitter) (had : List Taken) → LeavesPlan old (record old { splitter = splitter }) had had
-leaves_start old splitter had = record { plans = record { script = refl; last = refl; planner = refl; spent = refl; pending = refl }; few = omega arith }
+pub leaves_start : (old : ServerEnd) (splitter : Splitter) (had : List ShownFrame) → LeavesPlan old (record old { splitter = splitter }) had had
+leaves_start old splitter had = record { plans = record { script = refl; last = refl; planner = refl; spent = refl; pending = refl; digests = refl }; few = omega arith }

@@ -28,7 +28,8 @@ use Rattle.gfx_session.specs.Frames.{due_of, MayFrame}
 use Rattle.gfx_script.proofs.OwnKinds.{own_steps_fit}
 use Rattle.gfx_segment.proofs.FrontLemmas.{front-nil}
 use Rattle.gfx_session.specs.Beginning.{IsOpened, no_frames}
-use Rattle.gfx_session.specs.Kept.{GoesBy, InStep, IsServerEnd, Stands}
+use Rattle.gfx_session.specs.Kept.{GoesBy, InStep, IsServerEndFrom, Stands}
+use Rattle.gfx_session.specs.declared.digests.Digests.{Digests}
 use Rattle.gfx_session.specs.declared.server_end.ServerEnd.{ServerEnd}
 use Rattle.gfx_window.specs.Window.{Window, has_room}
 
@@ -66,7 +67,7 @@ last_within origin script kinded at gone waiting fits plan =
     ap length (sym fits.same) ∙ length-map kinded (λ (z : KindedStep). z.step) ∙ ap length plan.cut ∙ length-append gone (waiting ++ at.left) ∙ ap (λ n. length gone + n) (length-append waiting at.left) in
     omega (arith, plan.last, all)
 
-pub within : (end : ServerEnd) → InStep end → end.last ≤ length end.script.steps
+pub within : {held : Held} (end : ServerEnd) → InStep held end → end.last ≤ length end.script.steps
 within end is = subst (λ n. n ≤ length end.script.steps) (sym is.last) (last_within is.origin end.script is.kinded is.at is.gone is.waiting is.begins.fits is.plan)
 
 -- each item that waits is a step of the script
@@ -114,16 +115,16 @@ waits end can =
     let tests = both_true end.confirmed (not (is_none end.window.pending) && has_room end.window) can in
     not_true (is_none end.window.pending) (both_true (not (is_none end.window.pending)) (has_room end.window) tests.1).0
 
-pub goes_at : (end : ServerEnd) → (is : InStep end) → may_send end.confirmed end.window ≡ true → May is.origin end.script is.kinded is.at is.gone is.waiting is.plan
+pub goes_at : {held : Held} (end : ServerEnd) → (is : InStep held end) → may_send end.confirmed end.window ≡ true → May is.origin end.script is.kinded is.at is.gone is.waiting is.plan
 goes_at end is can = may_at is.origin end.script is.kinded is.at is.gone is.waiting is.plan is.begins.accepted is.begins.fits (ap (λ (w : Window). is_none w.pending) (sym is.window) ∙ waits end can)
 
-pub may_frame : (end : ServerEnd) → InStep end → may_send end.confirmed end.window ≡ true → MayFrame end.script end.planner.server end.window
+pub may_frame : {held : Held} (end : ServerEnd) → InStep held end → may_send end.confirmed end.window ≡ true → MayFrame end.script end.planner.server end.window
 may_frame end is can =
     subst (λ (p : Planned). MayFrame end.script p.server end.window) (sym is.planned)
     (subst (MayFrame end.script is.at.server) (sym is.window) (goes_at end is can).may)
 
 -- its frame takes the next id
-pub next_id : (end : ServerEnd) → InStep end → may_send end.confirmed end.window ≡ true → (after_frame end.script end.planner.server (due_of end.script end.window)).frames ≡ end.planner.server.frames + 1
+pub next_id : {held : Held} (end : ServerEnd) → InStep held end → may_send end.confirmed end.window ≡ true → (after_frame end.script end.planner.server (due_of end.script end.window)).frames ≡ end.planner.server.frames + 1
 next_id end is can =
     subst (λ (p : Planned). (after_frame end.script p.server (due_of end.script end.window)).frames ≡ p.server.frames + 1) (sym is.planned)
     (subst (λ (w : Window). (after_frame end.script is.at.server (due_of end.script w)).frames ≡ is.at.server.frames + 1) (sym is.window) (goes_at end is can).joins.frames)
@@ -139,9 +140,9 @@ starts origin script kinded may =
     record { cut = refl; last = refl; pending = refl; held = origin.held; checked = through_none origin.held; holds = may.holds; agrees = may.agrees; frame = may.closed; frames = omega (arith, may.frames) }
 
 -- a server's end that was opened stands for the schedule's at this start
-pub opened_stands : (end : ServerEnd) (script : Script) (planned : Planned) (known : Bool) (origin : Start) (kinded : List KindedStep) → IsOpened end script planned known → planned ≡ ready origin.server → known ≡ origin.confirmed → Fits kinded script.steps
+pub opened_stands : (end : ServerEnd) (script : Script) (planned : Planned) (known : Bool) (asked : Digests) (origin : Start) (kinded : List KindedStep) → IsOpened end script planned known asked → planned ≡ ready origin.server → known ≡ origin.confirmed → Fits kinded script.steps
     → Stands end (server_end_from origin script kinded)
-opened_stands end script planned known origin kinded o planner_is known_is fits = record {
+opened_stands end script planned known asked origin kinded o planner_is known_is fits = record {
   fresh = o.fresh;
   left = fits.same ∙ ap (λ (s : Script). s.steps) (sym o.script);
   last = o.last;
@@ -158,17 +159,17 @@ opened_stands end script planned known origin kinded o planner_is known_is fits 
 }
 
 -- and is in step
-pub opened_is : (end : ServerEnd) (script : Script) (planned : Planned) (known : Bool) (origin : Start) → IsOpened end script planned known → planned ≡ ready origin.server → ((kinded : List KindedStep) → Fits kinded script.steps → MayBegin origin script kinded)
-    → IsServerEnd end
-opened_is end script planned known origin o planner_is begins =
+pub opened_is : (end : ServerEnd) (script : Script) (planned : Planned) (known : Bool) (asked : Digests) (origin : Start) → IsOpened end script planned known asked → planned ≡ ready origin.server → ((kinded : List KindedStep) → Fits kinded script.steps → MayBegin origin script kinded)
+    → IsServerEndFrom origin.held end
+opened_is end script planned known asked origin o planner_is begins =
     let kinded : List KindedStep = map own script.steps in
     let may : MayBegin origin script kinded = begins kinded (own_steps_fit script.steps) in
     let is : MayBegin origin end.script kinded = subst (λ (s : Script). MayBegin origin s kinded) (sym o.script) may in
     record {
-      held = origin.held;
       good = is.accepted;
       in_step = λ fresh. record {
         origin = origin;
+        checks = refl;
         kinded = kinded;
         begins = is;
         at = server_end_from origin end.script kinded;
@@ -201,11 +202,11 @@ pub moved : {origin : Start} {script : Script} {kinded other : List KindedStep} 
 moved m fits = record { accepted = m.accepted; fits = fits; may = m.may; alike = m.alike }
 
 -- of a server's end that is in step what is left may go as any choosers choose
-pub record InStepBy (end : ServerEnd) (choosers : List Chooser) : Type 0 where
-  pub in_step : InStep end
+pub record InStepBy (held : Held) (end : ServerEnd) (choosers : List Chooser) : Type 0 where
+  pub in_step : InStep held end
   pub goes_by : GoesBy end.script choosers in_step.at
 
-pub brings : (end : ServerEnd) (choosers : List Chooser) → InStep end → InStepBy end choosers
+pub brings : {held : Held} (end : ServerEnd) (choosers : List Chooser) → InStep held end → InStepBy held end choosers
 brings end choosers is =
     let steps = drop is.at.last end.script.steps in
     let left : List KindedStep = chosen end.script (is.at.last + 1) choosers steps in
@@ -215,6 +216,7 @@ brings end choosers is =
     record {
       in_step = record {
         origin = is.origin;
+        checks = is.checks;
         kinded = is.gone ++ (is.waiting ++ left);
         begins = moved is.begins record {
           same = same_behind is.gone (is.waiting ++ left) (is.waiting ++ is.at.left) (same_behind is.waiting left is.at.left same) ∙ ap bare (sym is.plan.cut) ∙ is.begins.fits.same;

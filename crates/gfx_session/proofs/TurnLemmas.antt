@@ -21,6 +21,7 @@ use Rattle.gfx_schedule.specs.ServerEnd.{ScheduledEnd, server_end_from, is_none,
 use Rattle.gfx_schedule.specs.World.{World, acknowledgements, greeting, begin_from, happens, server_turns, client_takes, server_heard, world_from, is_ended, answer, round, drained}
 use Rattle.gfx_schedule.specs.declared.turned.Turned.{Turned}
 use Rattle.gfx_schedule.specs.declared.turned.Turned.TheVariants.{Moved, Waiting, Ended}
+use Rattle.gfx_script.specs.Checks.{Held}
 use Rattle.gfx_script.specs.Kinds.{KindedStep, Fits, own}
 use Rattle.gfx_script.proofs.OwnKinds.{own_steps_fit}
 use Rattle.gfx_script.specs.Scripted.{Script}
@@ -35,15 +36,16 @@ use Rattle.gfx_state.proofs.Effects.{history-append}
 use Rattle.gfx_window.specs.Window.{has_room}
 use Rattle.gfx_window.specs.declared.window.Sent.{Sent}
 use Rattle.gfx_session.specs.Beginning.{IsBegun}
-use Rattle.gfx_session.specs.Kept.{digest_in, InStep, IsServerEnd, PlansAsBefore}
+use Rattle.gfx_session.specs.Kept.{noted, InStep, IsServerEnd, PlansAsBefore}
 use Rattle.gfx_session.specs.Kept as kept
 use Rattle.gfx_session.specs.Drawing.{TakesBytes, Draws}
 use Rattle.gfx_session.specs.Noting.{ListensOpen, WillHear, paired, taken_of}
 use Rattle.gfx_session.specs.Serving.{Serves}
-use Rattle.gfx_session.specs.Session.{Stands, StandsBy, IsSession, AsksBetween, Turns, Drains, script_of, acked_of}
+use Rattle.gfx_session.specs.Session.{Stands, StandsBy, IsSession, AsksBetween, Turns, Drains, script_of, digests_of, acked_of}
 use Rattle.gfx_session.specs.Turning.{Does, DoesBy, GoesRound, has_moved}
+use Rattle.gfx_session.specs.declared.digests.Digests.{Digests}
 use Rattle.gfx_session.specs.declared.server_end.ServerEnd.{ServerEnd}
-use Rattle.gfx_session.specs.declared.server_end.listening.Taken.{Taken}
+use Rattle.gfx_session.specs.declared.server_end.listening.ShownFrame.{ShownFrame}
 use Rattle.gfx_session.specs.declared.session.Session.{Session}
 use Rattle.gfx_session.proofs.ChosenKinds.{IsUnderWayBy, by_choosers, one_more, stands_by, by_any}
 use Rattle.gfx_session.proofs.HeardPlan.{stands_again}
@@ -99,11 +101,12 @@ served old mid cs ds before out turned moved none serves down_is moved_are = (
             drained = s.drained;
             down = down_is ∙ (λ i. s.down i ++ (does.1 ∙ ap (λ z. z ++ serving old.server.script w.server) none) i);
             up = s.up;
-            drawn = s.drawn;
-            acks = s.acks;
+            drawn = s.drawn ∙ ap (λ (d : Digests). map (noted d) w.drawn) (sym serves.4);
+            acks = s.acks ∙ ap (λ (d : Digests). map (acked_of d) w.acks) (sym serves.4);
           },
           moved_are ∙ ap has_moved does.2 ∙ moved_is (has_served w.server) (can_serve w.server) (served_rests w.server),
         ),
+    serves.4,
   ),
 )
 
@@ -121,7 +124,7 @@ drew_history origin client bytes piece more b d =
     ∙ sym b.is ∙ history-append (begun_from origin) bytes piece)
 
 pub client_takes_on : (old mid : Session) (taken : Client) (most : ℕ) (w : World) → TakesBytes old.client taken (take most old.down) → offers_of mid.client ≡ offers_of taken → settled (cursor_of mid.client) ≡ settled (cursor_of taken) → IsDrained mid.client
-    → Draws taken mid.client old.up mid.up old.drawn.items mid.drawn.items → mid.down ≡ drop (length (take most old.down)) old.down → Stands old w
+    → Draws (digests_of old) taken mid.client old.up mid.up old.drawn.items mid.drawn.items → mid.down ≡ drop (length (take most old.down)) old.down → Stands old w
     → Stands (record old { client = mid.client; down = mid.down; up = mid.up; drawn = mid.drawn; spent = false }) (client_takes w (take most w.down) (drop most w.down))
 unfolding client_takes
 client_takes_on old mid taken most w t offered run drained draws down_is s =
@@ -138,12 +141,12 @@ client_takes_on old mid taken most w t offered run drained draws down_is s =
       drained = drained;
       down = down_is ∙ drop-taken most old.down ∙ ap (drop most) s.down;
       up = d.replied ∙ (λ i. s.up i ++ replies (more i));
-      drawn = d.shown ∙ (λ i. s.drawn i ++ map digest_in (end_states (more i))) ∙ sym (map-append digest_in w.drawn (ended (run_from w.start w.taken) (take most w.down)));
+      drawn = d.shown ∙ (λ i. s.drawn i ++ map (noted (digests_of old)) (end_states (more i))) ∙ sym (map-append (noted (digests_of old)) w.drawn (ended (run_from w.start w.taken) (take most w.down)));
       acks = s.acks;
     }
 
 pub drawn_on : (old mid : Session) (taken : Client) (most : ℕ) (moved : Bool) → TakesBytes old.client taken (take most old.down) → offers_of mid.client ≡ offers_of taken → settled (cursor_of mid.client) ≡ settled (cursor_of taken) → IsDrained mid.client
-    → Draws taken mid.client old.up mid.up old.drawn.items mid.drawn.items → mid.down ≡ drop (length (take most old.down)) old.down → moved ≡ not (length old.down == 0)
+    → Draws (digests_of old) taken mid.client old.up mid.up old.drawn.items mid.drawn.items → mid.down ≡ drop (length (take most old.down)) old.down → moved ≡ not (length old.down == 0)
     → Does (Ok moved) old (record old { client = mid.client; down = mid.down; up = mid.up; drawn = mid.drawn; spent = false }) (ToClient most)
 unfolding happens
 drawn_on old mid taken most moved t offered run drained draws down_is moved_are = (
@@ -152,16 +155,18 @@ drawn_on old mid taken most moved t offered run drained draws down_is moved_are 
     refl,
     λ origin kinded turns may s known.
         (client_takes_on old mid taken most (world_from origin (script_of old) kinded turns) t offered run drained draws down_is s, moved_are ∙ ap (λ z. not (is_none z)) s.down),
+    refl,
   ),
   refl,
 )
 
 -- the same of a piece that is the front of what is in flight
-pub drew : (old mid : Session) (taken : Client) (most : ℕ) (piece : List ℕ) (moved : Bool) → piece ≡ take most old.down → TakesBytes old.client taken piece → offers_of mid.client ≡ offers_of taken → settled (cursor_of mid.client) ≡ settled (cursor_of taken) → IsDrained mid.client
-    → Draws taken mid.client old.up mid.up old.drawn.items mid.drawn.items → mid.down ≡ drop (length piece) old.down → moved ≡ not (length old.down == 0)
+pub drew : (old mid : Session) (taken : Client) (most : ℕ) (piece : List ℕ) (moved : Bool) (asked : Digests) → asked ≡ digests_of old → piece ≡ take most old.down → TakesBytes old.client taken piece → offers_of mid.client ≡ offers_of taken → settled (cursor_of mid.client) ≡ settled (cursor_of taken) → IsDrained mid.client
+    → Draws asked taken mid.client old.up mid.up old.drawn.items mid.drawn.items → mid.down ≡ drop (length piece) old.down → moved ≡ not (length old.down == 0)
     → Does (Ok moved) old (record old { client = mid.client; down = mid.down; up = mid.up; drawn = mid.drawn; spent = false }) (ToClient most)
-drew old mid taken most piece moved is t offered run drained draws down_is moved_are =
-    drawn_on old mid taken most moved (subst (TakesBytes old.client taken) is t) offered run drained draws (down_is ∙ ap (λ z. drop (length z) old.down) is) moved_are
+drew old mid taken most piece moved asked as_asked is t offered run drained draws down_is moved_are =
+    drawn_on old mid taken most moved (subst (TakesBytes old.client taken) is t) offered run drained (subst (λ (d : Digests). Draws d taken mid.client old.up mid.up old.drawn.items mid.drawn.items) as_asked draws)
+    (down_is ∙ ap (λ z. drop (length z) old.down) is) moved_are
 
 -- it isn't closed, and refuses none of them
 pub will_take : (old : Session) → IsSession old → old.spent ≡ false → closed_by old.client ≡ None
@@ -195,31 +200,36 @@ will_hear old most piece is fresh same =
     }
 
 -- the frames that are noted, with what was drawn
-paired_are : (frames : List Sent) (servers clients : List State) → paired (taken_of frames (map digest_in servers)) (map digest_in clients) ≡ map acked_of (acknowledgements frames servers clients)
-paired_are [] servers clients = refl
-paired_are (frame ∷ frames) [] clients = refl
-paired_are (frame ∷ frames) (server ∷ servers) [] = refl
-paired_are (frame ∷ frames) (server ∷ servers) (client ∷ clients) = ap (λ z. acked_of (record { frame = frame.frame; step = frame.step; server = server; client = client }) ∷ z) (paired_are frames servers clients)
+paired_are : (digests : Digests) (frames : List Sent) (servers clients : List State) → paired (taken_of frames (map (noted digests) servers)) (map (noted digests) clients) ≡ map (acked_of digests) (acknowledgements frames servers clients)
+paired_are digests [] servers clients = refl
+paired_are digests (frame ∷ frames) [] clients = refl
+paired_are digests (frame ∷ frames) (server ∷ servers) [] = refl
+paired_are digests (frame ∷ frames) (server ∷ servers) (client ∷ clients) =
+    ap (λ z. acked_of digests (record { frame = frame.frame; step = frame.step; server = server; client = client }) ∷ z) (paired_are digests frames servers clients)
 
-length-taken_of : (frames : List Sent) (servers : List State) → length servers ≡ length frames → length (taken_of frames (map digest_in servers)) ≡ length frames
-length-taken_of [] servers same = refl
-length-taken_of (frame ∷ frames) [] same = absurd (omega (arith, same))
-length-taken_of (frame ∷ frames) (server ∷ servers) same =
+length-taken_of : (digests : Digests) (frames : List Sent) (servers : List State) → length servers ≡ length frames → length (taken_of frames (map (noted digests) servers)) ≡ length frames
+length-taken_of digests [] servers same = refl
+length-taken_of digests (frame ∷ frames) [] same = absurd (omega (arith, same))
+length-taken_of digests (frame ∷ frames) (server ∷ servers) same =
     let rest : length servers ≡ length frames = omega (arith, same) in
-    ap suc (length-taken_of frames servers rest)
+    ap suc (length-taken_of digests frames servers rest)
 
-map-dropped : (count : ℕ) (states : List State) → drop count (map digest_in states) ≡ map digest_in (drop count states)
-map-dropped zero states = refl
-map-dropped (suc count) [] = refl
-map-dropped (suc count) (state ∷ states) = map-dropped count states
+map-dropped : (digests : Digests) (count : ℕ) (states : List State) → drop count (map (noted digests) states) ≡ map (noted digests) (drop count states)
+map-dropped digests zero states = refl
+map-dropped digests (suc count) [] = refl
+map-dropped digests (suc count) (state ∷ states) = map-dropped digests count states
 
-pub server_heard_on : (old mid : Session) (out : List ℕ) (notes : List Taken) (most : ℕ) (w : World) → ListensOpen (Ok tt) old.server mid.server [] out [] notes (take most old.up) → mid.up ≡ drop (length (take most old.up)) old.up
+pub server_heard_on : (old mid : Session) (out : List ℕ) (notes : List ShownFrame) (most : ℕ) (w : World) → ListensOpen (Ok tt) old.server mid.server [] out [] notes (take most old.up) → mid.up ≡ drop (length (take most old.up)) old.up
     → mid.down ≡ old.down ++ out → mid.acks ≡ old.acks ++ paired notes old.drawn.items → mid.drawn.items ≡ drop (length notes) old.drawn.items → PlansAsBefore old.server mid.server → Stands old w
     → Stands (record old { server = mid.server; down = mid.down; up = mid.up; drawn = mid.drawn; acks = mid.acks; spent = false }) (server_heard w (hears (script_of old) (listening w.server) (take most w.up)) (drop most w.up))
 unfolding server_heard
 server_heard_on old mid out notes most w listens up_is down_is acks_are drawn_are plans s =
     let does = subst (λ z. ListensOpen (Ok tt) old.server mid.server [] out [] notes (take most z)) s.up listens w.server s.server.listens in
-    let count : length notes ≡ length (hears (script_of old) (listening w.server) (take most w.up)).taken = ap length does.2.0 ∙ length-taken_of _ _ does.2.1 in
+    let now : Digests = mid.server.digests in
+    let same : digests_of old ≡ now = sym plans.digests in
+    let drawn_now : old.drawn.items ≡ map (noted now) w.drawn = s.drawn ∙ ap (λ (d : Digests). map (noted d) w.drawn) same in
+    let acks_now : old.acks ≡ map (acked_of now) w.acks = s.acks ∙ ap (λ (d : Digests). map (acked_of d) w.acks) same in
+    let count : length notes ≡ length (hears (script_of old) (listening w.server) (take most w.up)).taken = ap length does.2.0 ∙ length-taken_of now _ _ does.2.1 in
     record {
       fresh = refl;
       server = stands_again (script_of old) old.server mid.server w.server (take most w.up) s.server plans does.0.0;
@@ -229,11 +239,11 @@ server_heard_on old mid out notes most w listens up_is down_is acks_are drawn_ar
       drained = s.drained;
       down = down_is ∙ (λ i. s.down i ++ does.0.1 i);
       up = up_is ∙ drop-taken most old.up ∙ ap (drop most) s.up;
-      drawn = drawn_are ∙ (λ i. drop (count i) (s.drawn i)) ∙ map-dropped _ w.drawn;
-      acks = acks_are ∙ (λ i. s.acks i ++ paired (does.2.0 i) (s.drawn i)) ∙ ap (λ z. map acked_of w.acks ++ z) (paired_are _ _ w.drawn) ∙ sym (map-append acked_of w.acks _);
+      drawn = drawn_are ∙ (λ i. drop (count i) (drawn_now i)) ∙ map-dropped now _ w.drawn;
+      acks = acks_are ∙ (λ i. acks_now i ++ paired (does.2.0 i) (drawn_now i)) ∙ ap (λ z. map (acked_of now) w.acks ++ z) (paired_are now _ _ w.drawn) ∙ sym (map-append (acked_of now) w.acks _);
     }
 
-pub heard_on : (old mid : Session) (out : List ℕ) (notes : List Taken) (most : ℕ) (moved : Bool) → WillHear old.server (take most old.up) → ListensOpen (Ok tt) old.server mid.server [] out [] notes (take most old.up) → PlansAsBefore old.server mid.server
+pub heard_on : (old mid : Session) (out : List ℕ) (notes : List ShownFrame) (most : ℕ) (moved : Bool) → WillHear old.server (take most old.up) → ListensOpen (Ok tt) old.server mid.server [] out [] notes (take most old.up) → PlansAsBefore old.server mid.server
     → mid.up ≡ drop (length (take most old.up)) old.up → mid.down ≡ old.down ++ out → mid.acks ≡ old.acks ++ paired notes old.drawn.items → mid.drawn.items ≡ drop (length notes) old.drawn.items → moved ≡ not (length old.up == 0)
     → Does (Ok moved) old (record old { server = mid.server; down = mid.down; up = mid.up; drawn = mid.drawn; acks = mid.acks; spent = false }) (Answer most)
 unfolding happens
@@ -243,12 +253,13 @@ heard_on old mid out notes most moved will listens plans up_is down_is acks_are 
     plans.script,
     λ origin kinded turns may s known.
         (server_heard_on old mid out notes most (world_from origin (script_of old) kinded turns) listens up_is down_is acks_are drawn_are plans s, moved_are ∙ ap (λ z. not (is_none z)) s.up),
+    plans.digests,
   ),
   plans.last,
 )
 
 -- the same of a piece that is the front of what is in flight
-pub heard : (old mid : Session) (before out piece : List ℕ) (had notes : List Taken) (most : ℕ) (moved : Bool) → before ≡ [] → had ≡ [] → piece ≡ take most old.up → WillHear old.server piece → ListensOpen (Ok tt) old.server mid.server before out had notes piece
+pub heard : (old mid : Session) (before out piece : List ℕ) (had notes : List ShownFrame) (most : ℕ) (moved : Bool) → before ≡ [] → had ≡ [] → piece ≡ take most old.up → WillHear old.server piece → ListensOpen (Ok tt) old.server mid.server before out had notes piece
     → PlansAsBefore old.server mid.server → mid.up ≡ drop (length piece) old.up → mid.down ≡ old.down ++ out → mid.acks ≡ old.acks ++ paired notes old.drawn.items → mid.drawn.items ≡ drop (length notes) old.drawn.items → moved ≡ not (length old.up == 0)
     → Does (Ok moved) old (record old { server = mid.server; down = mid.down; up = mid.up; drawn = mid.drawn; acks = mid.acks; spent = false }) (Answer most)
 heard old mid before out piece had notes most moved none nothing is will listens plans up_is down_is acks_are drawn_are moved_are =
@@ -259,12 +270,12 @@ heard old mid before out piece had notes most moved none nothing is will listens
 
 -- whether it is ended --------------------------------------------------------------------------------------------
 
-pub within : (end : ServerEnd) → InStep end → end.last ≤ length end.script.steps
+pub within : {held : Held} (end : ServerEnd) → InStep held end → end.last ≤ length end.script.steps
 within end is =
     omega (arith, is.last, is.plan.last, ap length is.plan.cut, ap length is.begins.fits.same, length-map is.kinded (λ (one : KindedStep). one.step), length-append is.gone (is.waiting ++ is.at.left), length-append is.waiting is.at.left)
 
 pub server_within : (session : Session) → IsSession session → session.spent ≡ false → session.server.last ≤ length session.server.script.steps
-server_within session is fresh = within session.server (is.server.in_step (is.under_way fresh).stands.server.fresh)
+server_within session is fresh = within session.server (is.server.1.in_step (is.under_way fresh).stands.server.fresh)
 
 -- what is told of a turn -----------------------------------------------------------------------------------------
 
@@ -280,6 +291,7 @@ turns_told old new cs ds turn ended moved turned fresh ends does told = (
         stands_by old new cs ds moved turn origin kinded turns does may s,
         told ∙ (λ i. if ends (world_from origin (script_of old) kinded turns) s.stands i then Ended else (if did.1 i then Moved else Waiting)),
       ),
+  does.1.3,
 )
 
 -- rounds -----------------------------------------------------------------------------------------------------------
@@ -314,6 +326,7 @@ round_on a b c d cs ds one two three down up first down_is second up_is third = 
       let w3 : world_from origin script kinded t3 ≡ hearing (world_from origin script kinded t2) =
       one_more origin script kinded t2 (Answer up) ∙ ap (λ n. happens script (world_from origin script kinded t2) (Answer n)) (up_is ∙ ap length s2.stands.up) in
       (t3, (sym (w3 ∙ ap hearing w2 ∙ ap (λ z. hearing (drawing z)) w1), s3)),
+  third.0.3 ∙ second.0.3 ∙ first.1.3,
 )
 
 -- the session has come so far that as many rounds are left
@@ -322,11 +335,12 @@ Draining start now choosers left count =
     (origin : Start) (kinded : List KindedStep) (turns : List Turn) → MayBegin origin (script_of start) kinded → StandsBy start choosers (script_of start) (world_from origin (script_of start) kinded turns)
     → (more : List Turn) × (StandsBy now left (script_of start) (world_from origin (script_of start) kinded more) × (drained (script_of start) (rounds_for (script_of start)) (world_from origin (script_of start) kinded turns) ≡ drained (script_of start) count (world_from origin (script_of start) kinded more)))
 
--- and is a session of the same script
+-- and is a session of the same script, with the same digests
 pub record HasDrained (start now : Session) (choosers left : List Chooser) (count : ℕ) : Type 0 where
   pub is : IsSession now
   pub fresh : now.spent ≡ false
   pub same : script_of now ≡ script_of start
+  pub digests : digests_of now ≡ digests_of start
   pub asks : AsksBetween start now choosers left
   pub goes : Draining start now choosers left count
 
@@ -336,6 +350,7 @@ drains_none start cs count is fresh all = record {
   is = is;
   fresh = fresh;
   same = refl;
+  digests = refl;
   asks = asks_none (script_of start) start.server.last cs;
   goes = λ origin kinded turns may s. (turns, (s, ap (λ n. drained (script_of start) n (world_from origin (script_of start) kinded turns)) (sym all)));
 }
@@ -364,6 +379,7 @@ drains_next start now next cs ds es count less fewer before ends goes is = recor
   is = is;
   fresh = goes.0;
   same = goes.1 ∙ before.same;
+  digests = goes.4 ∙ before.digests;
   asks = asks_on (script_of start) start.server.last now.server.last next.server.last cs ds es before.asks (subst (λ (z : Script). Asks z now.server.last next.server.last ds es) before.same goes.2);
   goes = goes_next start now next cs ds es count less fewer before.same before.goes ends goes;
 }
@@ -390,6 +406,7 @@ drains start now cs ds count law is fresh before rests = (
   before.asks,
   queued_all (by_choosers start cs (is.under_way fresh)),
   λ origin kinded turns may s. (stands_there origin kinded turns may s, law origin script kinded turns may),
+  before.digests,
 )
   where
     script : Script
@@ -431,9 +448,9 @@ starts session end client up origin script kinded b same server offers stands dr
   acks = b.acks;
 }
 
-pub is_started : (session : Session) (end : ServerEnd) (client : Client) (up : List ℕ) (origin : Start) (script : Script) → IsBegun session end client up → IsServerEnd end → end.script ≡ script
-    → ((kinded : List KindedStep) → Fits kinded script.steps → MayBegin origin script kinded) → ((kinded : List KindedStep) → Fits kinded script.steps → Stands session (begin_from origin script kinded)) → IsSession session × (script_of session ≡ script)
-is_started session end client up origin script b server same begins stands =
+pub is_started : (session : Session) (end : ServerEnd) (client : Client) (up : List ℕ) (origin : Start) (script : Script) (asked : Digests) → IsBegun session end client up → IsServerEnd end → end.script ≡ script → end.digests ≡ asked
+    → ((kinded : List KindedStep) → Fits kinded script.steps → MayBegin origin script kinded) → ((kinded : List KindedStep) → Fits kinded script.steps → Stands session (begin_from origin script kinded)) → IsSession session × (script_of session ≡ script) × (digests_of session ≡ asked)
+is_started session end client up origin script asked b server same digests begins stands =
     let all : List KindedStep = map own script.steps in
     let fits : Fits all script.steps = own_steps_fit script.steps in
     let is : script_of session ≡ script = ap (λ (z : ServerEnd). z.script) b.server ∙ same in (
@@ -448,6 +465,7 @@ is_started session end client up origin script b server same begins stands =
         };
       },
       is,
+      ap (λ (z : ServerEnd). z.digests) b.server ∙ digests,
     )
 
 -- nothing is queued

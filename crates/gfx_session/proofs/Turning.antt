@@ -18,15 +18,17 @@ use Rattle.gfx_schedule.specs.declared.turned.Turned.{Turned}
 use Rattle.gfx_schedule.specs.declared.turned.Turned.TheVariants.{Moved, Waiting, Ended}
 use Rattle.gfx_schedule.proofs.Items.{frame_parts}
 use Rattle.gfx_schedule.proofs.Planning.{queues, goes}
+use Rattle.gfx_script.specs.Checks.{Held}
 use Rattle.gfx_script.specs.Kinds.{KindedStep}
 use Rattle.gfx_script.specs.Script.{IsAcceptedFrom}
 use Rattle.gfx_script.specs.Scripted.{Script}
 use Rattle.gfx_script.specs.declared.step.Step.{Step}
 use Rattle.gfx_segment.specs.Framing.{front, holding}
 use Rattle.gfx_session.specs.Frames.{HearsAsBefore, due_of, Flies, frame_due, SendsFrame}
-use Rattle.gfx_session.specs.Kept.{digest_in, GoesBy, Stands, InStep, IsServerEnd}
+use Rattle.gfx_session.specs.Kept.{noted, GoesBy, Stands, InStep, IsServerEndFrom}
 use Rattle.gfx_session.specs.Queueing.{next_steps, QueuesFrame}
 use Rattle.gfx_session.specs.Serving.{ListensOn, Serves, turn_answer}
+use Rattle.gfx_session.specs.declared.digests.Digests.{Digests}
 use Rattle.gfx_session.specs.declared.server_end.ServerEnd.{ServerEnd}
 use Rattle.gfx_session.proofs.Plans.{both_true, none_false, some_is, none_is, within, goes_at, next_id, brings}
 use Rattle.gfx_state.specs.Sending.{sent}
@@ -96,7 +98,7 @@ queued_stands end at number choosers left window few st goes q =
       planned = st.planned ∙ ap ready (sym same.server);
       listens = record {
         window = is.1;
-        ends = st.listens.ends ∙ ap (map digest_in) (sym same.ends);
+        ends = st.listens.ends ∙ ap (map (noted end.digests)) (sym same.ends);
         confirmed = st.listens.confirmed ∙ sym same.confirmed;
         closed = st.listens.closed ∙ ap is_some (sym same.stopped);
         even = ap length same.ends ∙ st.listens.even ∙ ap length (sym (queued_flying at));
@@ -106,13 +108,14 @@ queued_stands end at number choosers left window few st goes q =
     }
 
 -- what is left goes as the choosers choose that are brought
-pub queued_in_step : (end : ServerEnd) (number : ℕ) (choosers left : List Chooser) (window : Window) → InStep end → QueuesFrame (Ok number) end.script end.last choosers left end.window window → InStep (with_queued end number window)
-queued_in_step end number choosers left window was q =
+pub queued_in_step : {held : Held} (end : ServerEnd) (number : ℕ) (choosers left : List Chooser) (window : Window) → InStep held end → QueuesFrame (Ok number) end.script end.last choosers left end.window window → InStep held (with_queued end number window)
+queued_in_step {held} end number choosers left window was q =
     let by = brings end choosers was in
-    let is : InStep end = by.in_step in
+    let is : InStep held end = by.in_step in
     let new = queued_is end.script end.last number choosers left end.window window is.at by.goes_by is.last is.window q in
     record {
       origin = is.origin;
+      checks = is.checks;
       kinded = is.kinded;
       begins = is.begins;
       at = queued is.at;
@@ -148,7 +151,9 @@ flown mid new at server st flies id = record {
   planned = flies.planned;
   listens = record {
     window = flies.window ∙ (λ i. with_frame (st.listens.window i) (sym id i) (st.last i));
-    ends = flies.ends ∙ ap (λ z. z ++ digest_in server.state ∷ []) st.listens.ends ∙ sym (map-append digest_in at.ends (server.state ∷ []));
+    ends =
+        flies.ends ∙ ap (λ z. z ++ noted mid.digests server.state ∷ []) st.listens.ends ∙ sym (map-append (noted mid.digests) at.ends (server.state ∷ []))
+        ∙ ap (λ (d : Digests). map (noted d) (at.ends ++ server.state ∷ [])) (sym flies.digests);
     confirmed = flies.confirmed ∙ st.listens.confirmed;
     closed = flies.closed ∙ st.listens.closed;
     even = omega (arith, st.listens.even, length-append at.ends (server.state ∷ []), length-append at.window.flying (record { frame = server.frames; step = at.last } ∷ []));
@@ -161,7 +166,7 @@ flown mid new at server st flies id = record {
 abbrev pub Follows : ServerEnd → ServerEnd → Bool → List ℕ → List ℕ → ScheduledEnd → Type 0
 Follows mid new went before now at = Stands (awake new) (sends mid.script at) × (now ≡ before ++ bytes_sent mid.script at) × (went ≡ can_send at)
 
-follows : (mid new : ServerEnd) (went : Bool) (before now : List ℕ) (at : ScheduledEnd) → InStep mid → Stands (awake mid) at → SendsFrame (Ok went) mid new before now → Follows mid new went before now at
+follows : {held : Held} (mid new : ServerEnd) (went : Bool) (before now : List ℕ) (at : ScheduledEnd) → InStep held mid → Stands (awake mid) at → SendsFrame (Ok went) mid new before now → Follows mid new went before now at
 follows mid new true before now at is st s =
     let can = sym (can_is mid at st) ∙ s.0 in
     let due_is = sends_is mid.script at can in
@@ -180,7 +185,7 @@ follows mid new false before now at is st s =
     )
 
 -- and it stays in step
-stays : (mid new : ServerEnd) (went : Bool) (before now : List ℕ) → InStep mid → SendsFrame (Ok went) mid new before now → InStep (awake new)
+stays : {held : Held} (mid new : ServerEnd) (went : Bool) (before now : List ℕ) → InStep held mid → SendsFrame (Ok went) mid new before now → InStep held (awake new)
 unfolding with_sent
 stays mid new true before now is s =
     let flies = s.1 in
@@ -189,6 +194,7 @@ stays mid new true before now is s =
     let same : after_frame mid.script mid.planner.server (due_of mid.script mid.window) ≡ server = λ i. after_frame mid.script ((is.planned i).server) (due_of mid.script (is.window i)) in
     record {
       origin = is.origin;
+      checks = is.checks;
       kinded = is.kinded;
       begins = subst (λ (s : Script). MayBegin is.origin s is.kinded) (sym flies.script) is.begins;
       at = with_sent is.at server;
@@ -200,8 +206,8 @@ stays mid new true before now is s =
       window = flies.window ∙ (λ i. with_frame (is.window i) ((is.planned i).server.frames + 1) (is.last i)) ∙ ap (λ n. with_frame is.at.window n is.at.last) (sym m.joins.frames);
       planned = flies.planned ∙ ap ready same;
     }
-stays mid new false before now is s =
-    subst InStep (sym (ap awake s.1)) record { origin = is.origin; kinded = is.kinded; begins = is.begins; at = is.at; gone = is.gone; waiting = is.waiting; plan = is.plan; last = is.last; window = is.window; planned = is.planned }
+stays {held} mid new false before now is s =
+    subst (InStep held) (sym (ap awake s.1)) record { origin = is.origin; checks = is.checks; kinded = is.kinded; begins = is.begins; at = is.at; gone = is.gone; waiting = is.waiting; plan = is.plan; last = is.last; window = is.window; planned = is.planned }
 
 -- the turn --------------------------------------------------------------------------------------------------------
 
@@ -232,7 +238,7 @@ idles script at done =
     (ap (sends script) still ∙ rests.0, ap (bytes_sent script) still ∙ rests.1)
 
 pub ended_turn : (end : ServerEnd) (choosers : List Chooser) (before : List ℕ) → end.spent ≡ false → served_now end ≡ true → Serves (Ok Ended) end end choosers choosers before before
-ended_turn end choosers before fresh done = (fresh, refl, asks_none end.script end.last choosers, λ at st goes. by at st)
+ended_turn end choosers before fresh done = (fresh, refl, asks_none end.script end.last choosers, λ at st goes. by at st, refl)
   where
     by : (at : ScheduledEnd) → Stands end at → Stands end (serves end.script at) × (before ≡ before ++ serving end.script at) × (Ended ≡ turn_answer at)
     by at st =
@@ -252,6 +258,10 @@ same_last : (mid new : ServerEnd) (went : Bool) (before now : List ℕ) → Send
 same_last mid new true before now s = s.1.last
 same_last mid new false before now s = ap (λ (z : ServerEnd). z.last) s.1
 
+same_digests : (mid new : ServerEnd) (went : Bool) (before now : List ℕ) → SendsFrame (Ok went) mid new before now → new.digests ≡ mid.digests
+same_digests mid new true before now s = s.1.digests
+same_digests mid new false before now s = ap (λ (z : ServerEnd). z.digests) s.1
+
 -- some step was queued where one was left
 some_queued : (left : List KindedStep) (last number : ℕ) → number ≡ last + length (first_frame left) → nat_lt last number ≡ not (is_none left)
 some_queued [] last number is = le-ltb last number (omega (arith, is))
@@ -266,10 +276,10 @@ either_is false b = refl
 abbrev pub told : Bool → Bool → Turned
 told some went = cond (some || went) Moved Waiting
 
-pub turn : (end new : ServerEnd) (number : ℕ) (choosers left : List Chooser) (window : Window) (went : Bool) (before now : List ℕ) → IsServerEnd end → end.spent ≡ false → served_now end ≡ false
+pub turn : {held : Held} (end new : ServerEnd) (number : ℕ) (choosers left : List Chooser) (window : Window) (went : Bool) (before now : List ℕ) → IsServerEndFrom held end → end.spent ≡ false → served_now end ≡ false
     → QueuesFrame (Ok number) end.script end.last choosers left end.window window → SendsFrame (Ok went) (with_queued end number window) new before now → new.script ≡ end.script
     → Serves (Ok (told (nat_lt end.last number) went)) end (awake new) choosers left before now
-turn end new number choosers left window went before now is fresh more q s kept_script = (fresh, kept_script, asked, λ at st goes. by at st goes)
+turn end new number choosers left window went before now is fresh more q s kept_script = (fresh, kept_script, asked, λ at st goes. by at st goes, same_digests mid new went before now s)
   where
     mid : ServerEnd
     mid = with_queued end number window
@@ -291,22 +301,21 @@ turn end new number choosers left window went before now is fresh more q s kept_
           ap (λ b. cond b Moved Waiting) moved ∙ ap (λ b. cond b Ended (cond (can_serve at) Moved Waiting)) (sym unserved),
         )
 
-pub turned_is : (end new : ServerEnd) (number : ℕ) (choosers left : List Chooser) (window : Window) (went : Bool) (before now : List ℕ) → IsServerEnd end → end.spent ≡ false
-    → QueuesFrame (Ok number) end.script end.last choosers left end.window window → SendsFrame (Ok went) (with_queued end number window) new before now → new.script ≡ end.script → IsServerEnd (awake new)
-turned_is end new number choosers left window went before now is fresh q s kept_script = record {
-  held = is.held;
-  good = subst (IsAcceptedFrom is.held) (sym kept_script) is.good;
+pub turned_is : {held : Held} (end new : ServerEnd) (number : ℕ) (choosers left : List Chooser) (window : Window) (went : Bool) (before now : List ℕ) → IsServerEndFrom held end → end.spent ≡ false
+    → QueuesFrame (Ok number) end.script end.last choosers left end.window window → SendsFrame (Ok went) (with_queued end number window) new before now → new.script ≡ end.script → IsServerEndFrom held (awake new)
+turned_is {held} end new number choosers left window went before now is fresh q s kept_script = record {
+  good = subst (IsAcceptedFrom held) (sym kept_script) is.good;
   in_step = λ again. stays (with_queued end number window) new went before now (queued_in_step end number choosers left window (is.in_step fresh) q) s;
 }
 
 -- without memory ------------------------------------------------------------------------------------------------------
 
 -- only what waits has changed of what a server's end hears its client by
-pub listens_queued : (end mid new : ServerEnd) → mid.window ≡ with_pending end.window mid.window.pending → mid.ends.items ≡ end.ends.items → mid.confirmed ≡ end.confirmed → mid.closed ≡ end.closed → mid.splitter ≡ end.splitter
+pub listens_queued : (end mid new : ServerEnd) → mid.window ≡ with_pending end.window mid.window.pending → mid.ends.items ≡ end.ends.items → mid.digests ≡ end.digests → mid.confirmed ≡ end.confirmed → mid.closed ≡ end.closed → mid.splitter ≡ end.splitter
     → HearsAsBefore mid new → ListensOn end new
-listens_queued end mid new window ends confirmed closed splitter h = λ at l. record {
+listens_queued end mid new window ends digests confirmed closed splitter h = λ at l. record {
   window = h.window ∙ window ∙ ap (λ z. with_pending end.window z.pending) (sym h.window) ∙ ap (λ z. with_pending z new.window.pending) l.window;
-  ends = h.ends ∙ ends ∙ l.ends;
+  ends = h.ends ∙ ends ∙ l.ends ∙ ap (λ (d : Digests). map (noted d) at.ends) (sym (h.digests ∙ digests));
   even = l.even;
   confirmed = h.confirmed ∙ confirmed ∙ l.confirmed;
   closed = h.closed ∙ closed ∙ l.closed;
@@ -316,8 +325,14 @@ listens_queued end mid new window ends confirmed closed splitter h = λ at l. re
 
 -- it was spent before
 pub still_spent : (end : ServerEnd) (choosers left : List Chooser) (before : List ℕ) (e : NoMemory) → end.spent ≡ true → Serves (Err e) end end choosers left before before
-still_spent end choosers left before e spent =
-    (spent, refl, λ was. refl, λ at st goes. absurd (let fresh : end.spent ≡ false = st.fresh in cc), listens_queued end end end refl refl refl refl refl record { window = refl; ends = refl; confirmed = refl; closed = refl; splitter = refl })
+still_spent end choosers left before e spent = (
+  spent,
+  refl,
+  λ was. refl,
+  λ at st goes. absurd (let fresh : end.spent ≡ false = st.fresh in cc),
+  listens_queued end end end refl refl refl refl refl refl record { window = refl; ends = refl; digests = refl; confirmed = refl; closed = refl; splitter = refl },
+  refl,
+)
 
 -- a step wasn't queued
 pub unqueued : (end : ServerEnd) (window : Window) (choosers left : List Chooser) (before : List ℕ) (e : NoMemory) → end.spent ≡ false → window ≡ with_pending end.window window.pending
@@ -328,14 +343,15 @@ unqueued end window choosers left before e fresh only = (
   λ was. refl,
   λ at st goes. record { part = []; rest = serving end.script at; cut = refl; gained = sym (append-nil before) },
   (let next : ServerEnd = record end { window = window; spent = true } in
-      listens_queued end next next only refl refl refl refl record { window = refl; ends = refl; confirmed = refl; closed = refl; splitter = refl }),
+      listens_queued end next next only refl refl refl refl refl record { window = refl; ends = refl; digests = refl; confirmed = refl; closed = refl; splitter = refl }),
+  refl,
 )
 
 -- a front of the frame was
-pub unsent : (end new : ServerEnd) (number : ℕ) (choosers left : List Chooser) (window : Window) (before now : List ℕ) (e f : NoMemory) → IsServerEnd end → end.spent ≡ false
+pub unsent : {held : Held} (end new : ServerEnd) (number : ℕ) (choosers left : List Chooser) (window : Window) (before now : List ℕ) (e f : NoMemory) → IsServerEndFrom held end → end.spent ≡ false
     → QueuesFrame (Ok number) end.script end.last choosers left end.window window → SendsFrame (Err f) (with_queued end number window) new before now → Serves (Err e) end new choosers left before now
 unsent end new number choosers left window before now e f is fresh q s =
-    (s.2, s.1, λ was. absurd cc, λ at st goes. by at st goes, listens_queued end (with_queued end number window) new (q.1 ∙ ap (with_pending end.window) (ap (λ (w : Window). w.pending) (sym q.1))) refl refl refl refl s.4)
+    (s.2, s.1, λ was. absurd cc, λ at st goes. by at st goes, listens_queued end (with_queued end number window) new (q.1 ∙ ap (with_pending end.window) (ap (λ (w : Window). w.pending) (sym q.1))) refl refl refl refl refl s.4, s.4.digests)
   where
     mid : ServerEnd
     mid = with_queued end number window

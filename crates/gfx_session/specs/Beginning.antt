@@ -4,6 +4,7 @@ use Rattle.gfx_client.specs.declared.client.Client.{Client}
 use Rattle.gfx_planner.specs.Planned.{Planned}
 use Rattle.gfx_script.specs.Scripted.{Script}
 use Rattle.gfx_segment.specs.Framing.{holding}
+use Rattle.gfx_session.specs.declared.digests.Digests.{Digests}
 use Rattle.gfx_session.specs.declared.server_end.ServerEnd.{ServerEnd}
 use Rattle.gfx_session.specs.declared.session.Session.{Session}
 use Rattle.gfx_window.specs.Window.{Window}
@@ -12,14 +13,16 @@ use Rattle.gfx_window.specs.Window.{Window}
 abbrev pub no_frames : ℕ → Window
 no_frames size = record { size = size; pending = []; flying = [] }
 
--- a server's end of a script with this planner, of which no step is queued; a version is confirmed, or not
-pub record IsOpened (end : ServerEnd) (of : Script) (planned : Planned) (known : Bool) : Type 0 where
+-- a server's end of a script with this planner, of which no step is queued; a version is confirmed, or not, and digests are
+-- on, or not
+pub record IsOpened (end : ServerEnd) (of : Script) (planned : Planned) (known : Bool) (asked : Digests) : Type 0 where
   pub script : end.script ≡ of
   pub planner : end.planner ≡ planned
   pub confirmed : end.confirmed ≡ known
   pub window : end.window ≡ no_frames of.window
   pub last : end.last ≡ 0
   pub ends : end.ends.items ≡ []
+  pub digests : end.digests ≡ asked
   pub splitter : end.splitter ≡ holding []
   pub fresh : end.spent ≡ false
   pub unclosed : end.closed ≡ false

@@ -14,7 +14,7 @@ use Rattle.gfx_script.specs.Checks.{Held, held_through}
 use Rattle.gfx_script.specs.Kinds.{KindedStep, HasKind}
 use Rattle.gfx_script.specs.Script.{IsStep}
 use Rattle.gfx_script.specs.Scripted.{Script}
-use Rattle.gfx_session.specs.Kept.{digest_in}
+use Rattle.gfx_session.specs.Kept.{noted}
 use Rattle.gfx_session.specs.declared.server_end.ServerEnd.{ServerEnd}
 use Rattle.gfx_state.specs.Sending.{sent}
 use Rattle.gfx_window.specs.Window.{Window}
@@ -57,7 +57,8 @@ pub record Flies (old new : ServerEnd) (server : Server) : Type 0 where
   pub last : new.last ≡ old.last
   pub window : new.window ≡ with_frame old.window (old.planner.server.frames + 1) old.last
   pub planned : new.planner ≡ ready server
-  pub ends : new.ends.items ≡ old.ends.items ++ digest_in server.state ∷ []
+  pub ends : new.ends.items ≡ old.ends.items ++ noted old.digests server.state ∷ []
+  pub digests : new.digests ≡ old.digests
   pub confirmed : new.confirmed ≡ old.confirmed
   pub closed : new.closed ≡ old.closed
   pub splitter : new.splitter ≡ old.splitter
@@ -67,6 +68,7 @@ pub record Flies (old new : ServerEnd) (server : Server) : Type 0 where
 pub record HearsAsBefore (old new : ServerEnd) : Type 0 where
   pub window : new.window ≡ old.window
   pub ends : new.ends.items ≡ old.ends.items
+  pub digests : new.digests ≡ old.digests
   pub confirmed : new.confirmed ≡ old.confirmed
   pub closed : new.closed ≡ old.closed
   pub splitter : new.splitter ≡ old.splitter

@@ -1,4 +1,5 @@
 pub mod Kept
+pub mod Live
 pub mod Serving
 pub mod Taking
 pub mod Queueing

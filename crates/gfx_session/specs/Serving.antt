@@ -31,7 +31,8 @@ abbrev pub Serves : Result Turned NoMemory → ServerEnd → ServerEnd → List 
 Serves (Ok turned) old new choosers left before now =
     (old.spent ≡ false) × (new.script ≡ old.script) × Asks old.script old.last new.last choosers left
     × WhereStands old choosers (λ at. Stands new (serves old.script at) × (now ≡ before ++ serving old.script at) × (turned ≡ turn_answer at))
+    × (new.digests ≡ old.digests)
 Serves (Err e) old new choosers left before now =
     (new.spent ≡ true) × (new.script ≡ old.script) × (old.spent ≡ true → now ≡ before)
     × WhereStands old choosers (λ at. PutsFront before now (serving old.script at))
-    × ListensOn old new
+    × ListensOn old new × (new.digests ≡ old.digests)

@@ -12,19 +12,24 @@ use Rattle.gfx_schedule.specs.declared.turned.Turned.{Turned}
 use Rattle.gfx_script.specs.Kinds.{KindedStep}
 use Rattle.gfx_script.specs.Scripted.{Script}
 use Rattle.gfx_script.specs.declared.turn.Turn.{Turn}
-use Rattle.gfx_session.specs.Kept.{digest_in, GoesBy, IsServerEnd}
+use Rattle.gfx_session.specs.Kept.{noted, GoesBy, IsServerEnd}
 use Rattle.gfx_session.specs.Kept as kept
 use Rattle.gfx_session.specs.declared.acked.Acked.{Acked}
+use Rattle.gfx_session.specs.declared.digests.Digests.{Digests}
 use Rattle.gfx_session.specs.declared.session.Session.{Session}
 use Rattle.gfx_state.specs.History.{history_from}
 
 -- an acknowledgement as it is kept
-abbrev pub acked_of : Acknowledged → Acked
-acked_of ack = record { frame = ack.frame; step = ack.step; client = digest_in ack.client; server = digest_in ack.server }
+abbrev pub acked_of : Digests → Acknowledged → Acked
+acked_of digests ack = record { frame = ack.frame; step = ack.step; client = noted digests ack.client; server = noted digests ack.server }
 
 -- the script of a session
 abbrev pub script_of : Session → Script
 script_of session = session.server.script
+
+-- whether its digests are on
+abbrev pub digests_of : Session → Digests
+digests_of session = session.server.digests
 
 -- a session that isn't spent stands for one of the schedule's: its client offers what the script says, has taken exactly
 -- the bytes that the other's client has, from the same start on, and has drawn all messages that are whole among them
@@ -37,8 +42,8 @@ pub record Stands (session : Session) (w : World) : Type 0 where
   pub drained : IsDrained session.client
   pub down : session.down ≡ w.down
   pub up : session.up ≡ w.up
-  pub drawn : session.drawn.items ≡ map digest_in w.drawn
-  pub acks : session.acks ≡ map acked_of w.acks
+  pub drawn : session.drawn.items ≡ map (noted (digests_of session)) w.drawn
+  pub acks : session.acks ≡ map (acked_of (digests_of session)) w.acks
 
 -- a session stands for that of its script after some turns, which began so and whose steps go as some kinds
 pub record IsUnderWay (session : Session) : Type 0 where
@@ -77,6 +82,7 @@ Turns (Ok turned) old new choosers left turn =
     (old.spent ≡ false) × (script_of new ≡ script_of old) × AsksBetween old new choosers left
     × AfterTurns old choosers (λ origin kinded turns.
     StandsBy new left (script_of old) (world_from origin (script_of old) kinded (turns ++ turn ∷ [])) × (turned ≡ answer (world_from origin (script_of old) kinded turns) turn))
+    × (digests_of new ≡ digests_of old)
 Turns (Err e) old new choosers left turn = (new.spent ≡ true) × (script_of new ≡ script_of old)
 
 -- what draining does: the session stands for the world that is drained, and all is ended. Without memory it is spent
@@ -87,4 +93,5 @@ Drains (Ok done) old new choosers left =
     × AfterTurns old choosers (λ origin kinded turns.
     Stands new (drained (script_of old) (rounds_for (script_of old)) (world_from origin (script_of old) kinded turns))
     × (is_ended (drained (script_of old) (rounds_for (script_of old)) (world_from origin (script_of old) kinded turns)) ≡ true))
+    × (digests_of new ≡ digests_of old)
 Drains (Err e) old new choosers left = (new.spent ≡ true) × (script_of new ≡ script_of old)

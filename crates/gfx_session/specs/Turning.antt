@@ -10,7 +10,7 @@ use Rattle.gfx_schedule.specs.declared.turned.Turned.TheVariants.{Moved}
 use Rattle.gfx_script.specs.Kinds.{KindedStep}
 use Rattle.gfx_script.specs.declared.turn.Turn.{Turn}
 use Rattle.gfx_session.specs.Kept.{GoesBy}
-use Rattle.gfx_session.specs.Session.{script_of, AfterTurns, AsksBetween, Stands, StandsBy}
+use Rattle.gfx_session.specs.Session.{script_of, digests_of, AfterTurns, AsksBetween, Stands, StandsBy}
 use Rattle.gfx_session.specs.declared.session.Session.{Session}
 
 -- what a turn does where this is known of the world for which the session stands; the answer is whether it had something
@@ -21,6 +21,7 @@ DoesWhere is_known (Ok moved) old new turn =
     × ((origin : Start) (kinded : List KindedStep) (turns : List Turn) → MayBegin origin (script_of old) kinded → Stands old (world_from origin (script_of old) kinded turns)
     → is_known (world_from origin (script_of old) kinded turns)
     → Stands new (happens (script_of old) (world_from origin (script_of old) kinded turns) turn) × (moved ≡ can_turn (world_from origin (script_of old) kinded turns) turn))
+    × (digests_of new ≡ digests_of old)
 DoesWhere is_known (Err e) old new turn = (new.spent ≡ true) × (script_of new ≡ script_of old)
 
 -- nothing has to be known of a world
@@ -49,4 +50,5 @@ GoesRound (Ok done) old new choosers left =
     (new.spent ≡ false) × (script_of new ≡ script_of old) × AsksBetween old new choosers left
     × AfterTurns old choosers (λ origin kinded turns.
     (more : List Turn) × ((round (script_of old) (world_from origin (script_of old) kinded turns) ≡ world_from origin (script_of old) kinded more) × StandsBy new left (script_of old) (world_from origin (script_of old) kinded more)))
+    × (digests_of new ≡ digests_of old)
 GoesRound (Err e) old new choosers left = (new.spent ≡ true) × (script_of new ≡ script_of old)

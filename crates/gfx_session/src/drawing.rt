@@ -7,8 +7,9 @@ ghost use Rattle.gfx_state.specs.Cursor.{settled};
 ghost use Rattle.gfx_state.specs.History.{Effect};
 ghost use Rattle.gfx_state.specs.State.{State};
 ghost use Rattle.gfx_session.specs.Drawing.{drawn_by, TakesBytes, Draws};
-ghost use Rattle.gfx_session.specs.Kept.{digest_in};
+ghost use Rattle.gfx_session.specs.Kept.{digest_in, noted};
 
+use crate::digests::Digests;
 use crate::queue::Queue;
 use gfx_base::{Bytes, NoMemory};
 use gfx_client::{Client, ClientFault, Stepped};
@@ -38,18 +39,19 @@ pub(crate) fn take_bytes(client: &mut Client, piece: &[u8]) -> Result<(), NoMemo
     }
 }
 
-/// The client draws all messages that are whole. What it says of each frame is put up, and the digest of
+/// The client draws all messages that are whole. What it says of each frame is put up, and what is kept of
 /// its state right after the frame is noted.
 pub(crate) fn draw_all(
     client: &mut Client,
     up: &mut Queue,
-    drawn: &mut VecDeque<[u8; 32]>,
+    drawn: &mut VecDeque<Option<[u8; 32]>>,
+    digests: Digests,
 ) -> Result<(), NoMemory>
     requires open { closed_by client.old ≡ None }
     requires good { (settled (cursor_of client.old)).refusal ≡ None }
     ensures run { OnOk result (settled (cursor_of client.new) ≡ settled (cursor_of client.old)) }
     ensures drained { OnOk result (IsDrained client.new) }
-    ensures draws { OnOk result (Draws client.old client.new up.old up.new drawn.old.items drawn.new.items) }
+    ensures draws { OnOk result (Draws digests client.old client.new up.old up.new drawn.old.items drawn.new.items) }
     ensures offers { offers_of client.new ≡ offers_of client.old }
 {
     'steps: loop {
@@ -59,7 +61,7 @@ pub(crate) fn draw_all(
             Drawn::Message => {}
             Drawn::Frame(reply) => {
                 up.put(reply)?;
-                let state = digest_of(client);
+                let state = noted_of(client, digests);
                 drawn.push_back(state)?;
             }
         }
@@ -97,6 +99,16 @@ fn only_memory(fault: ClientFault) -> NoMemory
     match fault {
         ClientFault::Memory => NoMemory,
         _ => unreachable!(),
+    }
+}
+
+/// What is kept of what a client has drawn: its digest, where digests are on.
+fn noted_of(client: &Client, digests: Digests) -> Option<[u8; 32]>
+    ensures { result ≡ noted digests (cursor_of client.now).state }
+{
+    match digests {
+        Digests::Off => None,
+        Digests::On => Some(digest_of(client)),
     }
 }
 

@@ -4,7 +4,7 @@
 //! In the pipe it stands above the planner and the window, which make what is sent, the client, which
 //! draws it, and the report, which digests what both have. What a session does is that of `gfx_schedule`,
 //! which has the laws on it: neither end refuses anything, and the ends agree at each acknowledged frame.
-//! Nothing of the past is kept but digests, and no byte that was used.
+//! Nothing of the past is kept but digests, where they are asked for, and no byte that was used.
 //!
 //! The server's end queues frames at once, and sends them once a version is confirmed:
 //!
@@ -21,14 +21,18 @@
 #![tactic(auto)]
 
 mod acked;
+mod digests;
 mod drawing;
 mod importing;
+mod live_end;
 mod noting;
 mod queue;
 mod server_end;
 mod session;
 
 pub use acked::{Acked, Acks};
+pub use digests::Digests;
 pub use gfx_schedule::Turned;
-pub use server_end::{ServerEnd, ServerFault};
+pub use live_end::{LiveEnd, LiveFault};
+pub use server_end::{ServerEnd, ServerFault, ShownFrame};
 pub use session::Session;

@@ -1,11 +1,12 @@
 //! The acknowledgements that a session notes.
 ghost use Rattle.std.specs.Prelude.{◌≡◌, ◌++◌, ◌∷◌, [], false, None, length, drop, Ok, OnOk};
-ghost use Rattle.gfx_session.specs.Kept.{IsServerEnd, PlansAsBefore};
+ghost use Rattle.gfx_script.specs.Checks.{Held};
+ghost use Rattle.gfx_session.specs.Kept.{IsServerEndFrom, PlansAsBefore};
 ghost use Rattle.gfx_session.specs.declared.server_end.ServerFault.TheVariants.{Memory};
 ghost use Rattle.gfx_session.specs.Noting.{ListensOpen, WillHear, paired};
 
 use crate::acked::{Acked, Acks};
-use crate::server_end::{ServerEnd, ServerFault, Taken};
+use crate::server_end::{ServerEnd, ServerFault, ShownFrame};
 use gfx_base::{Bytes, NoMemory};
 use std::collections::VecDeque;
 
@@ -14,12 +15,12 @@ pub(crate) fn hear_bytes(
     server: &mut ServerEnd,
     piece: &[u8],
     out: &mut Bytes,
-    taken: &mut Vec<Taken>,
+    taken: &mut Vec<ShownFrame>,
 ) -> Result<(), NoMemory>
     requires { WillHear server.old piece.now }
     ensures plans { PlansAsBefore server.old server.new }
     ensures hears { OnOk result (ListensOpen (Ok tt) server.old server.new out.old out.new taken.old.items taken.new.items piece.now) }
-    ensures is { IsServerEnd server.old → IsServerEnd server.new }
+    ensures is { (held : Held) → IsServerEndFrom held server.old → IsServerEndFrom held server.new }
 {
     match server.listen(piece, out, taken) {
         Ok(()) => Ok(()),
@@ -36,10 +37,10 @@ fn only_memory(fault: ServerFault) -> NoMemory
     }
 }
 
-/// Notes the frames that were acknowledged, each with the oldest of the digests that were drawn.
+/// Notes the frames that were acknowledged, each with the oldest of what was noted of the client.
 pub(crate) fn note_all(
-    taken: &[Taken],
-    drawn: &mut VecDeque<[u8; 32]>,
+    taken: &[ShownFrame],
+    drawn: &mut VecDeque<Option<[u8; 32]>>,
     acks: &mut Acks,
 ) -> Result<(), NoMemory>
     ensures acks { OnOk result (acks.new ≡ acks.old ++ paired taken.now drawn.old.items) }
@@ -52,7 +53,11 @@ pub(crate) fn note_all(
 }
 
 /// Notes a frame that was acknowledged, if one was drawn.
-fn note_one(one: &Taken, drawn: &mut VecDeque<[u8; 32]>, acks: &mut Acks) -> Result<(), NoMemory>
+fn note_one(
+    one: &ShownFrame,
+    drawn: &mut VecDeque<Option<[u8; 32]>>,
+    acks: &mut Acks,
+) -> Result<(), NoMemory>
     ensures acks { OnOk result (acks.new ≡ acks.old ++ paired (one.now ∷ []) drawn.old.items) }
     ensures drawn { OnOk result (drawn.new.items ≡ drop 1 drawn.old.items) }
 {
@@ -63,6 +68,6 @@ fn note_one(one: &Taken, drawn: &mut VecDeque<[u8; 32]>, acks: &mut Acks) -> Res
         frame: one.frame,
         step: one.step,
         client,
-        server: one.state,
+        server: one.digest,
     })
 }

@@ -1,24 +1,33 @@
 //! The server's end of a session.
 
-ghost use Rattle.std.specs.Prelude.{◌≡◌, false, IfOk, List};
-ghost use Rattle.gfx_schedule.specs.ServerEnd.{server_at_start, server_end_from};
+ghost use Rattle.std.specs.Prelude.{◌≡◌, ◌≤◌, ◌+◌, ◌-◌, ◌&&◌, drop, false, if◌then◌else◌, IfOk, length, List, not, OnErr};
+ghost use Rattle.gfx_base.specs.Outcome.{Gives};
+ghost use Rattle.gfx_import.specs.Imported.{imported};
+ghost use Rattle.gfx_planner.specs.Planned.{ready};
+ghost use Rattle.gfx_planner.specs.Server.{server_with};
+ghost use Rattle.gfx_schedule.specs.ServerEnd.{is_none, server_at_start, server_end_from};
 ghost use Rattle.gfx_schedule.specs.Starts.{MayImport, from_kept};
-ghost use Rattle.gfx_script.specs.Script.{IsAccepted};
+ghost use Rattle.gfx_script.specs.Checks.{held_first, sides_of_all};
+ghost use Rattle.gfx_script.specs.Drafts.{frame_ended};
+ghost use Rattle.gfx_script.specs.Script.{IsAccepted, held_at_start};
+ghost use Rattle.gfx_script.specs.declared.TheConstants.{MOST_STEPS};
+ghost use Rattle.gfx_window.specs.Window.{has_room};
 ghost use Rattle.gfx_script.specs.Kinds.{Fits, KindedStep};
 ghost use Rattle.gfx_session.specs.Beginning.{IsOpened};
-ghost use Rattle.gfx_session.specs.Kept.{Stands, IsServerEnd};
+ghost use Rattle.gfx_session.specs.Kept.{Stands, IsServerEndFrom};
 
 mod listening;
 mod serving;
 
+use crate::digests::Digests;
 use gfx_base::{Bytes, NoMemory, Refusal};
 use gfx_import::Kept;
 use gfx_planner::Planner;
 use gfx_schedule::Turned;
-use gfx_script::Script;
+use gfx_script::{Draft, Flaw, Script};
 use gfx_segment::Splitter;
 use gfx_window::{AckUnknown, Window};
-pub(crate) use listening::Taken;
+pub use listening::ShownFrame;
 use std::alloc::Global;
 use std::collections::VecDeque;
 use thiserror::Error;
@@ -43,8 +52,8 @@ pub enum ServerFault {
 }
 
 /// The server's end: a script whose steps it queues frame by frame, the window, and the planner, whose
-/// state is what it has sent. Of past states it keeps digests, and of its client's bytes those that aren't
-/// a whole message yet.
+/// state is what it has sent. Of past states it keeps digests, where they are asked for, and of its client's
+/// bytes those that aren't a whole message yet.
 #[derive(Drop)]
 pub struct ServerEnd {
     alloc: Global,
@@ -52,7 +61,8 @@ pub struct ServerEnd {
     window: Window,
     planner: Planner,
     last: u32,
-    ends: VecDeque<[u8; 32]>,
+    ends: VecDeque<Option<[u8; 32]>>,
+    digests: Digests,
     confirmed: bool,
     splitter: Splitter,
     spent: bool,
@@ -62,13 +72,13 @@ pub struct ServerEnd {
 impl ServerEnd {
     /// A server's end of a script, whose steps will go as the kinds that they name, or that choosers choose.
     /// Nothing is queued yet.
-    pub fn new(alloc: Global, script: Script) -> Result<ServerEnd, NoMemory>
+    pub fn new(alloc: Global, script: Script, digests: Digests) -> Result<ServerEnd, NoMemory>
         requires { IsAccepted script }
         ensures stands { IfOk result (λ end. (kinded : List KindedStep) → Fits kinded script.steps → Stands end (server_at_start script kinded)) }
-        ensures is { IfOk result (λ end. IsServerEnd end × (end.script ≡ script) × (end.closed ≡ false)) }
+        ensures is { IfOk result (λ end. IsServerEndFrom (held_first (sides_of_all script.pictures) script.small) end × (end.script ≡ script) × (end.closed ≡ false) × (end.digests ≡ digests)) }
     {
         let planner = Planner::new(alloc, script.small())?;
-        Ok(opened(alloc, script, planner, false))
+        Ok(opened(alloc, script, planner, false, digests))
     }
 
     /// A server's end of a script that was read with these two files of kept bitmaps: it begins with those that are
@@ -78,14 +88,14 @@ impl ServerEnd {
         script: Script,
         server: &Kept,
         client: &Kept,
+        digests: Digests,
     ) -> Result<ServerEnd, NoMemory>
         requires { MayImport script server.now client.now }
         ensures stands { IfOk result (λ end. (kinded : List KindedStep) → Fits kinded script.steps → Stands end (server_end_from (from_kept script server.now client.now) script kinded)) }
-        ensures is { IfOk result (λ end. IsServerEnd end × (end.script ≡ script) × (end.closed ≡ false)) }
+        ensures is { IfOk result (λ end. IsServerEndFrom (held_at_start script) end × (end.script ≡ script) × (end.closed ≡ false) × (end.digests ≡ digests)) }
     {
-        let mut planner = Planner::new(alloc, script.small())?;
-        planner.import(server, client)?;
-        Ok(opened(alloc, script, planner, true))
+        let planner = planner_with(alloc, script.small(), server, client)?;
+        Ok(opened(alloc, script, planner, true, digests))
     }
 
     /// The script.
@@ -94,11 +104,90 @@ impl ServerEnd {
     {
         &self.script
     }
+
+    /// Whether it makes digests.
+    pub fn digests(&self) -> Digests
+        ensures { result ≡ self.now.digests }
+    {
+        self.digests
+    }
+
+    /// Takes what was drafted into the script, and `frame` behind it. An error leaves both as they were.
+    pub(crate) fn end_frame(&mut self, draft: &mut Draft) -> Result<(), Flaw>
+        ensures ended { Gives (λ _. (self.new.script, draft.new)) result (frame_ended self.old.script draft.old) }
+        ensures alone { self.new ≡ record self.old { script = self.new.script } }
+        ensures unchanged { OnErr result (self.new ≡ self.old) }
+        ensures draft_unchanged { OnErr result (draft.new ≡ draft.old) }
+    {
+        self.script.end_frame(draft)
+    }
+
+    /// Whether all of the script was sent, and a frame that came now could go at once.
+    pub(crate) fn wants_frame(&self) -> bool
+        requires within { self.now.spent ≡ false → self.now.last ≤ length self.now.script.steps }
+        requires few { length self.now.script.steps ≤ MOST_STEPS }
+        ensures { result ≡ (not self.now.spent && (self.now.confirmed && (has_room self.now.window && (is_none self.now.window.pending && is_none (drop self.now.last self.now.script.steps))))) }
+    {
+        if self.spent {
+            return false;
+        }
+        self.confirmed
+            && self.window.can_send()
+            && self.window.due() == 0
+            && self.script.step(self.last + 1).is_none()
+    }
+
+    /// How many steps of the script weren't sent yet. None will be of one that is spent.
+    pub(crate) fn steps_behind(&self) -> u32
+        requires within { self.now.spent ≡ false → (length self.now.window.pending ≤ self.now.last) × (self.now.last ≤ length self.now.script.steps) }
+        requires few { length self.now.script.steps ≤ MOST_STEPS }
+        ensures { result ≡ (if self.now.spent then 0 else length self.now.window.pending + (length self.now.script.steps - self.now.last)) }
+    {
+        if self.spent {
+            return 0;
+        }
+        self.window.due() as u32 + (self.script.step_count() as u32 - self.last)
+    }
+
+    /// Whether memory ran out in a turn, so that nothing is sent any more.
+    pub(crate) fn is_spent(&self) -> bool
+        ensures { result ≡ self.now.spent }
+    {
+        self.spent
+    }
 }
 
+/// A planner that begins with what is imported of these two files.
+fn planner_with(
+    alloc: Global,
+    small: bool,
+    server: &Kept,
+    client: &Kept,
+) -> Result<Planner, NoMemory>
+    ensures { IfOk result (λ planner. planner ≡ ready (server_with (imported server.now client.now small) small)) }
+{
+    let mut planner = Planner::new(alloc, small)?;
+    match planner.import(server, client) {
+        Ok(()) => Ok(planner),
+        Err(lack) => {
+            let_go(planner);
+            Err(lack)
+        }
+    }
+}
+
+/// Lets a planner go. What this costs to prove is paid here once, and not where others live beside it.
+fn let_go(_planner: Planner) {}
+
 /// A server's end that has this planner, of whose script nothing is queued yet.
-fn opened(alloc: Global, script: Script, planner: Planner, confirmed: bool) -> ServerEnd
-    ensures { IsOpened result script planner confirmed }
+fn opened(
+    alloc: Global,
+    script: Script,
+    planner: Planner,
+    confirmed: bool,
+    digests: Digests,
+) -> ServerEnd
+    ensures { IsOpened result script planner confirmed digests }
 {
     let window = Window::new(alloc, script.window());
     ServerEnd {
@@ -108,6 +197,7 @@ fn opened(alloc: Global, script: Script, planner: Planner, confirmed: bool) -> S
         planner,
         last: 0,
         ends: VecDeque::new(alloc),
+        digests,
         confirmed,
         splitter: Splitter::new(alloc),
         spent: false,

@@ -4,7 +4,8 @@ ghost use Rattle.std.specs.Prelude.{◌≡◌, ℕ, List, [], ◌++◌, ◌≤�
 ghost use Rattle.gfx_caps.specs.declared.offer.TheConstants.{MOST_OFFERS};
 ghost use Rattle.gfx_chooser.specs.Seen.{seen};
 ghost use Rattle.gfx_client.specs.Client.{offers_of, IsUntouched};
-ghost use Rattle.gfx_client.specs.Standing.{StandsFor, IsDrained};
+ghost use Rattle.gfx_client.specs.Standing.{StandsFor, StandsFrom, IsDrained};
+ghost use Rattle.gfx_import.specs.Started.{in_slots, own};
 ghost use Rattle.gfx_schedule.specs.Starts.{MayImport, from_kept};
 ghost use Rattle.gfx_schedule.specs.World.{World, begin, begin_from, is_ended};
 ghost use Rattle.gfx_schedule.specs.Schedule.{rounds_for};
@@ -16,8 +17,10 @@ ghost use Rattle.gfx_script.specs.declared.turn.Turn.TheVariants.{Server, Client
 ghost use Rattle.gfx_session.specs.Beginning.{IsBegun};
 ghost use Rattle.gfx_session.specs.Session.{Stands, IsSession, Turns, Drains, script_of};
 ghost use Rattle.gfx_session.specs.Turning.{Does, DoesBy, GoesRound, has_moved};
+ghost use Rattle.gfx_state.specs.State.{started_with};
 
 use crate::acked::Acks;
+use crate::digests::Digests;
 use crate::drawing::{draw_all, take_bytes};
 use crate::importing::import_kept;
 use crate::noting::{hear_bytes, note_all};
@@ -41,7 +44,7 @@ pub struct Session {
     client: Client,
     down: Queue,
     up: Queue,
-    drawn: VecDeque<[u8; 32]>,
+    drawn: VecDeque<Option<[u8; 32]>>,
     acks: Acks,
     spent: bool,
 }
@@ -49,16 +52,16 @@ pub struct Session {
 impl Session {
     /// The session of a script, whose steps will go as the kinds that they name, or that choosers choose: the
     /// client has said which versions it offers.
-    pub fn new(alloc: Global, script: Script) -> Result<Session, NoMemory>
+    pub fn new(alloc: Global, script: Script, digests: Digests) -> Result<Session, NoMemory>
         requires { IsAccepted script }
         ensures stands { IfOk result (λ session. (kinded : List KindedStep) → Fits kinded script.steps → Stands session (begin script kinded)) }
         ensures last { IfOk result (λ session. session.server.last ≡ 0) }
-        ensures is { IfOk result (λ session. IsSession session × (script_of session ≡ script)) }
+        ensures is { IfOk result (λ session. IsSession session × (script_of session ≡ script) × (session.server.digests ≡ digests)) }
     {
         let client = client_of(alloc, &script)?;
         let mut up = Queue::new(alloc);
         up.put(client.hello()?)?;
-        let server = ServerEnd::new(alloc, script)?;
+        let server = ServerEnd::new(alloc, script, digests)?;
         Ok(begun(alloc, server, client, up))
     }
 
@@ -70,17 +73,22 @@ impl Session {
         script: Script,
         server: &Kept,
         client: &Kept,
+        digests: Digests,
     ) -> Result<Session, NoMemory>
         requires { MayImport script server.now client.now }
         ensures stands { IfOk result (λ session. (kinded : List KindedStep) → Fits kinded script.steps
             → Stands session (begin_from (from_kept script server.now client.now) script kinded)) }
         ensures last { IfOk result (λ session. session.server.last ≡ 0) }
-        ensures is { IfOk result (λ session. IsSession session × (script_of session ≡ script)) }
+        ensures is { IfOk result (λ session. IsSession session × (script_of session ≡ script) × (session.server.digests ≡ digests)) }
     {
-        let mut other = client_of(alloc, &script)?;
-        import_kept(alloc, &mut other, server, client, script.small())?;
-        let end = ServerEnd::with_kept(alloc, script, server, client)?;
-        Ok(begun(alloc, end, other, Queue::new(alloc)))
+        let other = client_with(alloc, &script, server, client)?;
+        match ServerEnd::with_kept(alloc, script, server, client, digests) {
+            Ok(end) => Ok(begun(alloc, end, other, Queue::new(alloc))),
+            Err(lack) => {
+                other.let_go();
+                Err(lack)
+            }
+        }
     }
 
     /// One turn. Where steps are queued in it, these choosers are asked for the kinds that they don't name, and
@@ -124,7 +132,7 @@ impl Session {
         Ok(())
     }
 
-    /// The frames that were acknowledged, in order, with the digests of both ends.
+    /// The frames that were acknowledged, in order, with the digests of both ends where digests are on.
     pub fn acks(&self) -> &Acks
         ensures { result.now ≡ self.now.acks }
     {
@@ -209,7 +217,8 @@ impl Session {
         let piece = self.down.front(most);
         let count = piece.len();
         take_bytes(&mut self.client, piece)?;
-        draw_all(&mut self.client, &mut self.up, &mut self.drawn)?;
+        let digests = self.server.digests();
+        draw_all(&mut self.client, &mut self.up, &mut self.drawn, digests)?;
         self.down.pass(count)?;
         self.spent = false;
         Ok(moved)
@@ -248,6 +257,28 @@ fn client_of(alloc: Global, script: &Script) -> Result<Client, NoMemory>
     let mut offers = Offers::new(alloc);
     offers.append(script.offers().as_slice())?;
     Client::new(alloc, offers)
+}
+
+/// The same, which begins with its own bitmaps of what is imported of these two files.
+fn client_with(
+    alloc: Global,
+    script: &Script,
+    server: &Kept,
+    client: &Kept,
+) -> Result<Client, NoMemory>
+    requires { length script.now.offers ≤ MOST_OFFERS }
+    ensures stands { IfOk result (λ other. StandsFrom (started_with (in_slots (own server.now client.now script.now.small)) script.now.small) other []) }
+    ensures drained { IfOk result IsDrained }
+    ensures offers { IfOk result (λ other. offers_of other ≡ script.now.offers) }
+{
+    let mut other = client_of(alloc, script)?;
+    match import_kept(alloc, &mut other, server, client, script.small()) {
+        Ok(()) => Ok(other),
+        Err(lack) => {
+            other.let_go();
+            Err(lack)
+        }
+    }
 }
 
 /// A session in which nothing has happened.

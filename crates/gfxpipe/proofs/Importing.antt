@@ -38,7 +38,8 @@ use Rattle.gfx_script.specs.Starting.{starts_of}
 use Rattle.gfx_script.specs.declared.error.ScriptKind.{ScriptKind}
 use Rattle.gfx_script_text.specs.Text.{Wrong, script_kept}
 use Rattle.gfx_script_text.proofs.Accepted.{accepted_kept, starts_with_kept}
-use Rattle.gfx_session.specs.Session.{IsSession, Stands, script_of}
+use Rattle.gfx_session.specs.Session.{IsSession, Stands, digests_of, script_of}
+use Rattle.gfx_session.specs.declared.digests.Digests.TheVariants.{On}
 use Rattle.gfx_session.specs.declared.session.Session.{Session}
 use Rattle.gfxpipe.specs.declared.ending.Ending.{Ending}
 use Rattle.gfxpipe.specs.declared.ending.Ending.TheVariants.{Done, TooLong, Kept, Faulty}
@@ -169,9 +170,9 @@ every_import_line limit bytes b choosers is =
 
 -- the session of a script that was read with two files that agree
 pub imported_begins : (server client : List Entry) (text : List ℕ) (script : Script) (session : Session) → MayImport script server client → script_kept server client text ≡ Ok script → IsSession session → script_of session ≡ script
-    → session.server.last ≡ 0 → ((kinded : List KindedStep) → Fits kinded script.steps → Stands session (begin_from (from_kept script server client) script kinded))
+    → digests_of session ≡ On → session.server.last ≡ 0 → ((kinded : List KindedStep) → Fits kinded script.steps → Stands session (begin_from (from_kept script server client) script kinded))
     → Begins (Ok (Ok session)) (imported_as server client (script_kept server client text))
-imported_begins server client text script session may read is same last stands = (
+imported_begins server client text script session may read is same on last stands = (
   beginning (from_kept script server client) script,
   ap (imported_as server client) read,
   record {
@@ -182,6 +183,7 @@ imported_begins server client text script session may read is same last stands =
       begins = subst (λ s. (kinded : List KindedStep) → Fits kinded s.steps → MayBegin (from_kept script server client) s kinded) (sym same) (λ kinded fits. import_may_begin script server client kinded may fits);
     };
     unqueued = last;
+    digests = on;
   },
 )
 
@@ -233,8 +235,8 @@ pub import_refused : (ending : Ending) (choosers : List Chooser) (limit m : ℕ)
 import_refused ending choosers limit m i held (reads, count, all, refused) = not_found kept_input kept_in ending choosers limit m i held refused.not_done (reads, count, all, refused.is)
 
 -- one was, and nothing of it is queued
-pub import_is : (session : Session) (limit : ℕ) (i : Change) → ReadsSession (Ok (Ok session)) limit i → IsSession session × (session.server.last ≡ 0)
-import_is session limit i (reads, count, all, (b, found, of)) = (of.is, of.unqueued)
+pub import_is : (session : Session) (limit : ℕ) (i : Change) → ReadsSession (Ok (Ok session)) limit i → IsSession session × (session.server.last ≡ 0) × (digests_of session ≡ On)
+import_is session limit i (reads, count, all, (b, found, of)) = (of.is, of.unqueued, of.digests)
 
 -- it was played, as far as memory and the output allow it
 pub import_broken : (t : Trouble) (choosers left : List Chooser) (limit : ℕ) (i o : Change) (session : Session) → ReadsSession (Ok (Ok session)) limit i → PlaysOut (Err t) session choosers left o

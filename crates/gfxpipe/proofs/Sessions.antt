@@ -1,7 +1,7 @@
 -- What playing the session of a script comes to, turn by turn, and the lines of its acknowledged frames.
-use Rattle.std.proofs.Common.{◌≡◌, ℕ, ◌+◌, ◌≤◌, ◌<◌, List, [], ◌∷◌, ◌++◌, length, take, drop, get_or, Option, Some, None, Result, Ok, Err, refl, sym, ap, ◌∙◌, subst, arith, inl, inr}
+use Rattle.std.proofs.Common.{◌≡◌, ℕ, ◌+◌, ◌≤◌, ◌<◌, zero, suc, List, [], ◌∷◌, ◌++◌, length, map, take, drop, get_or, Option, Some, None, Result, Ok, Err, refl, sym, ap, ◌∙◌, subst, arith, inl, inr}
 use Rattle.std.specs.Prelude.{OnOk}
-use Rattle.std.specs.List.{slice_get, flat_map}
+use Rattle.std.specs.List.{AllByRecursion, slice_get, flat_map}
 use Rattle.std.proofs.lemmas.Bool.{cases_lt}
 use Rattle.std.proofs.lemmas.List.{take_more, take_all, drop_more}
 use Rattle.std.proofs.lemmas.List.Concat.{flat_map-cons}
@@ -17,15 +17,17 @@ use Rattle.gfx_input.specs.Reading.{input_of}
 use Rattle.gfx_report.proofs.Writing.{Sent_as, Sent_front, Sent_broken}
 use Rattle.gfx_schedule.specs.Schedule.{rounds_for}
 use Rattle.gfx_schedule.specs.Starts.{MayBegin, Start, from_nothing}
-use Rattle.gfx_schedule.specs.World.{begin, begin_from, world_from, drained}
+use Rattle.gfx_schedule.specs.World.{Acknowledged, World, begin, begin_from, world_from, drained}
 use Rattle.gfx_schedule.proofs.Turns.{may_begin}
 use Rattle.gfx_schedule.specs.declared.turned.Turned.{Turned}
 use Rattle.gfx_script.specs.Kinds.{KindedStep, Fits}
 use Rattle.gfx_script.specs.Scripted.{Script}
 use Rattle.gfx_script.specs.declared.turn.Turn.{Turn}
 use Rattle.gfx_script.specs.Script.{IsAccepted}
-use Rattle.gfx_session.specs.Session.{Stands, StandsBy, IsSession, Turns, Drains, acked_of, script_of}
+use Rattle.gfx_session.specs.Session.{Stands, StandsBy, IsSession, Turns, Drains, acked_of, digests_of, script_of}
+use Rattle.gfx_session.proofs.ChosenKinds.{IsUnderWayBy, by_choosers}
 use Rattle.gfx_session.specs.declared.acked.Acked.{Acked}
+use Rattle.gfx_session.specs.declared.digests.Digests.TheVariants.{On}
 use Rattle.gfx_session.specs.declared.session.Session.{Session}
 use Rattle.gfxpipe.specs.declared.ending.Ending.{Ending}
 use Rattle.gfxpipe.specs.declared.ending.Ending.TheVariants.{Done}
@@ -37,7 +39,7 @@ use Rattle.gfxpipe.specs.Leaves.{LeavesSession}
 use Rattle.gfxpipe.specs.Rule.{DidAll, Input}
 use Rattle.gfxpipe.specs.Rules.{playing, playing_by, script_input}
 use Rattle.gfxpipe.specs.Scripts.{ReadsFrom, ReadsScript}
-use Rattle.gfxpipe.specs.Sessions.{AnswersOf, Beginning, HasPlayed, IsBegun, IsWhole, PlaysOut, beginning, whole_session, session_text, acked_line}
+use Rattle.gfxpipe.specs.Sessions.{AnswersOf, Beginning, HasAllDigests, HasDigests, HasPlayed, IsBegun, IsWhole, PlaysOut, ack_text, beginning, whole_session, session_text, acked_line}
 use Rattle.gfxpipe.proofs.Planning.{asked_all}
 use Rattle.gfxpipe.proofs.ReadingScripts.{ends_none, ends_written, ends_broken, found_never_done}
 
@@ -51,6 +53,7 @@ pub record Turning (old : Session) (begun left : List Chooser) (at : ℕ) (sessi
   pub stands : (start : Start) → IsBegun old start
       → StandsBy session left (script_of old) (world_from start (script_of old) (kinded_steps (script_of old) begun) (take at (script_of old).turns))
   pub asks : Asks (script_of old) 0 session.server.last begun left
+  pub digests : digests_of session ≡ digests_of old
 
 -- none yet
 pub turning_none : (session : Session) (choosers : List Chooser) → IsSession session → session.server.last ≡ 0 → Turning session choosers choosers 0 session
@@ -63,13 +66,14 @@ turning_none session choosers is none = record {
     goes_by = refl;
   };
   asks = subst (λ n. Asks (script_of session) 0 n choosers choosers) (sym none) (asks_none (script_of session) 0 choosers);
+  digests = refl;
 }
 
 -- a further one is taken
 turned_as : (start : Start) (script : Script) (begun mid left : List Chooser) (at : ℕ) (old new : Session) (turn : Turn) (turned : Turned) → script_of old ≡ script → MayBegin start script (kinded_steps script begun) → slice_get script.turns at ≡ Some turn
     → Turns (Ok turned) old new mid left turn → StandsBy old mid script (world_from start script (kinded_steps script begun) (take at script.turns))
     → StandsBy new left script (world_from start script (kinded_steps script begun) (take (at + 1) script.turns))
-turned_as start script begun mid left at old new turn turned same may found (fresh, kept, asks, goes) stands =
+turned_as start script begun mid left at old new turn turned same may found (fresh, kept, asks, goes, digests) stands =
     let kinded = kinded_steps script begun in
     let before : StandsBy old mid (script_of old) (world_from start (script_of old) kinded (take at script.turns)) = subst (λ s. StandsBy old mid s (world_from start s kinded (take at script.turns))) (sym same) stands in
     let may_old : MayBegin start (script_of old) kinded = subst (λ s. MayBegin start s kinded) (sym same) may in
@@ -97,6 +101,7 @@ turning_more first begun mid left at old new turn turned t found turns is = reco
   within = let there = slice_get_within (script_of first).turns at turn found in omega arith;
   stands = λ start b. turned_as start (script_of first) begun mid left at old new turn turned t.same (may_by first start begun b) found turns (t.stands start b);
   asks = asked_on (script_of first) begun mid left old new t.same t.asks turns.2;
+  digests = turns.4 ∙ t.digests;
 }
 
 -- all are taken
@@ -118,7 +123,7 @@ turning_all first begun left at session start t none b =
 drained_to : (first : Session) (begun mid left : List Chooser) (at : ℕ) (old new : Session) (start : Start) → Turning first begun mid at old → slice_get (script_of first).turns at ≡ None → Drains (Ok tt) old new mid left → IsBegun first start
     → Stands new (whole_session begun (beginning start (script_of first)))
 unfolding whole_session
-drained_to first begun mid left at old new start t none (fresh, kept, asks, last, goes) b =
+drained_to first begun mid left at old new start t none (fresh, kept, asks, last, goes, digests) b =
     let script : Script = script_of first in
     let kinded = kinded_steps script begun in
     let before : StandsBy old mid (script_of old) (world_from start (script_of old) kinded script.turns) =
@@ -126,31 +131,57 @@ drained_to first begun mid left at old new start t none (fresh, kept, asks, last
     let may : MayBegin start (script_of old) kinded = subst (λ s. MayBegin start s kinded) (sym t.same) (may_by first start begun b) in
     subst (λ s. Stands new (drained s (rounds_for s) (world_from start s kinded script.turns))) t.same (goes start kinded script.turns may before).0
 
+-- where its digests are on, each acknowledged frame has both
+each_told : (acks : List Acknowledged) → AllByRecursion HasDigests (map (acked_of On) acks)
+each_told [] = tt
+each_told (ack ∷ acks) = ((refl, refl), each_told acks)
+
+-- of a session that was drained
+drained_told : (old new : Session) (mid left : List Chooser) → IsUnderWayBy old mid → Drains (Ok tt) old new mid left → digests_of new ≡ On → HasAllDigests new
+drained_told old new mid left u drains on =
+    let w : World = drained (script_of old) (rounds_for (script_of old)) (world_from u.origin (script_of old) u.kinded u.turns) in
+    let s : Stands new w = (drains.4 u.origin u.kinded u.turns u.begins u.stands).0 in
+    record { on = on; acks = subst (AllByRecursion HasDigests) (sym (s.acks ∙ ap (λ d. map (acked_of d) w.acks) on)) (each_told w.acks) }
+
 pub drained_after : (result : Result (Unit {0}) NoMemory) (first : Session) (begun mid left : List Chooser) (at : ℕ) (old new : Session) → Turning first begun mid at old → slice_get (script_of first).turns at ≡ None
     → Drains result old new mid left → OnOk result (HasPlayed first new begun left)
 drained_after (Ok done) first begun mid left at old new t none drains =
+    let told = drained_told old new mid left (by_choosers old mid (t.is.under_way drains.0)) drains in
     let all : new.server.last ≡ length (script_of first).steps = drains.3 ∙ ap (λ (s : Script). length s.steps) t.same in
     record {
       whole = λ start b. (drains.1 ∙ t.same, drained_to first begun mid left at old new start t none drains b);
       leaves = asked_all (script_of first) begun left new.server.last (omega arith) (asked_on (script_of first) begun mid left old new t.same t.asks drains.2);
+      digests = λ on. told (drains.5 ∙ t.digests ∙ on);
     }
 drained_after (Err e) first begun mid left at old new t none drains = tt
 
 -- what is printed -----------------------------------------------------------------------------------------
 
 -- the lines of a session that stands for the whole one
-lines_are : (b : Beginning) (choosers : List Chooser) (session : Session) → Stands session (whole_session choosers b) → flat_map acked_line session.acks ≡ session_text choosers b
+lines_are : (b : Beginning) (choosers : List Chooser) (session : Session) → digests_of session ≡ On → Stands session (whole_session choosers b) → flat_map acked_line session.acks ≡ session_text choosers b
 unfolding session_text
-lines_are b choosers session s = ap (flat_map acked_line) s.acks ∙ flat_map-map acked_line acked_of (whole_session choosers b).acks
+lines_are b choosers session on s =
+    let acks = (whole_session choosers b).acks in
+    let kept : session.acks ≡ map (acked_of On) acks = s.acks ∙ ap (λ d. map (acked_of d) acks) on in
+    ap (flat_map acked_line) kept ∙ flat_map-map acked_line (acked_of On) acks
 
 -- and so where they were written after a session was played, or were not
-pub lines_written : (old new : Session) (choosers left : List Chooser) (o : Change) → HasPlayed old new choosers left → Gains o (flat_map acked_line new.acks) → PlaysOut (Ok new) old choosers left o
-lines_written old new choosers left o played gains =
-    (played, λ start begun. subst (Gains o) (lines_are (beginning start (script_of old)) choosers new (played.whole start begun).1) gains)
+pub lines_written : (old new : Session) (choosers left : List Chooser) (o : Change) → digests_of old ≡ On → HasPlayed old new choosers left → Gains o (flat_map acked_line new.acks) → PlaysOut (Ok new) old choosers left o
+lines_written old new choosers left o on played gains =
+    (played, λ start begun. subst (Gains o) (lines_are (beginning start (script_of old)) choosers new (played.digests on).on (played.whole start begun).1) gains)
 
-pub lines_broken : (old new : Session) (choosers left : List Chooser) (o : Change) → HasPlayed old new choosers left → FailsAfter o (flat_map acked_line new.acks) → PlaysOut (Err trouble.Write) old choosers left o
-lines_broken old new choosers left o played fails = λ start begun.
-    subst (FailsAfter o) (lines_are (beginning start (script_of old)) choosers new (played.whole start begun).1) fails
+pub lines_broken : (old new : Session) (choosers left : List Chooser) (o : Change) → digests_of old ≡ On → HasPlayed old new choosers left → FailsAfter o (flat_map acked_line new.acks) → PlaysOut (Err trouble.Write) old choosers left o
+lines_broken old new choosers left o on played fails = λ start begun.
+    subst (FailsAfter o) (lines_are (beginning start (script_of old)) choosers new (played.digests on).on (played.whole start begun).1) fails
+
+-- the one at a place has its digests
+pub all_at : (acks : List Acked) (at : ℕ) (ack : Acked) → AllByRecursion HasDigests acks → slice_get acks at ≡ Some ack → HasDigests ack
+all_at [] at ack all some = absurd cc
+all_at (first ∷ others) zero ack all some = let same : first ≡ ack = cc in subst HasDigests same all.0
+all_at (first ∷ others) (suc at) ack all some = all_at others at ack all.1 some
+
+pub digests_at : (acks : List Acked) (at : ℕ) (other : Acked) → at < length acks → AllByRecursion HasDigests acks → HasDigests (get_or acks at other)
+digests_at acks at other below all = all_at acks at (get_or acks at other) all (slice_get-get_or acks at other below)
 
 -- one more line of them is due
 next_due : (acks : List Acked) (at : ℕ) (other : Acked) → at < length acks → flat_map acked_line (drop at acks) ≡ acked_line (get_or acks at other) ++ flat_map acked_line (drop (at + 1) acks)

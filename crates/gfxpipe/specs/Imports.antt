@@ -10,7 +10,8 @@ use Rattle.gfx_kept_input.specs.declared.outcome.KeptInput.TheVariants as kept
 use Rattle.gfx_schedule.specs.Starts.{from_kept}
 use Rattle.gfx_script.specs.Scripted.{Script}
 use Rattle.gfx_script_text.specs.Text.{Wrong, script_kept}
-use Rattle.gfx_session.specs.Session.{IsSession, script_of}
+use Rattle.gfx_session.specs.Session.{IsSession, digests_of, script_of}
+use Rattle.gfx_session.specs.declared.digests.Digests.TheVariants.{On}
 use Rattle.gfx_session.specs.declared.session.Session.{Session}
 use Rattle.gfxpipe.specs.declared.ending.Ending.{Ending}
 use Rattle.gfxpipe.specs.declared.ending.Ending.TheVariants.{Done, TooLong, Kept, Faulty}
@@ -33,12 +34,13 @@ imported_of (kept.Refused r) = Err (Kept r)
 unfoldable pub kept_in : ℕ → List ℕ → Result Beginning Ending
 kept_in limit bytes = imported_of (ending_in limit bytes)
 
--- a session in which nothing has happened, of a script and its start
+-- a session in which nothing has happened, of a script and its start, whose digests are on
 pub record IsOf (session : Session) (b : Beginning) : Type 0 where
   pub is : IsSession session
   pub script : script_of session ≡ b.script
   pub begun : IsBegun session b.start
   pub unqueued : session.server.last ≡ 0
+  pub digests : digests_of session ≡ On
 
 -- how a run ends that finds no session
 pub record IsRefusedBy (found : Result Beginning Ending) (ending : Ending) : Type 0 where

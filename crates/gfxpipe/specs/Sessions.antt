@@ -1,7 +1,7 @@
 -- The session of a script, from its first turn to its end, and what is printed of it: this project's own
 -- rule.
-use Rattle.std.specs.Prelude.{◌≡◌, ℕ, List, [], length, Option, Some, None, Result, Ok, Err}
-use Rattle.std.specs.List.{flat_map, last_or}
+use Rattle.std.specs.Prelude.{◌≡◌, ℕ, List, [], length, Option, Some, None, IsSome, Result, Ok, Err}
+use Rattle.std.specs.List.{AllByRecursion, flat_map, last_or}
 use Rattle.gfx_base.specs.Stream.{Change, Gains, FailsAfter}
 use Rattle.gfx_base.specs.declared.answer.NoMemory.{NoMemory}
 use Rattle.gfx_chooser.specs.Choosing.{Chooser, AreAlike}
@@ -13,8 +13,9 @@ use Rattle.gfx_schedule.specs.World.{World, Acknowledged, begin_from, world_from
 use Rattle.gfx_script.specs.Kinds.{KindedStep, Fits}
 use Rattle.gfx_script.specs.Scripted.{Script}
 use Rattle.gfx_session.specs.Kept.{digest_in}
-use Rattle.gfx_session.specs.Session.{Stands, script_of}
+use Rattle.gfx_session.specs.Session.{Stands, digests_of, script_of}
 use Rattle.gfx_session.specs.declared.acked.Acked.{Acked}
+use Rattle.gfx_session.specs.declared.digests.Digests.TheVariants.{On}
 use Rattle.gfx_session.specs.declared.session.Session.{Session}
 use Rattle.gfxpipe.specs.declared.ending.Ending.{Ending}
 use Rattle.gfxpipe.specs.declared.ending.Ending.TheVariants.{Done}
@@ -61,9 +62,23 @@ pub record IsBegun (session : Session) (start : Start) : Type 0 where
   pub stands : (kinded : List KindedStep) → Fits kinded (script_of session).steps → Stands session (begin_from start (script_of session) kinded)
   pub begins : (kinded : List KindedStep) → Fits kinded (script_of session).steps → MayBegin start (script_of session) kinded
 
+-- an acknowledged frame as a session keeps it has both digests
+abbrev pub HasDigests : Acked → Type 0
+HasDigests acked = IsSome acked.client × IsSome acked.server
+
+-- a line of two digests, where both are there
+abbrev pub told_line : (List ℕ → List ℕ → List ℕ) → Option (List ℕ) → Option (List ℕ) → List ℕ
+told_line line (Some client) (Some server) = line client server
+told_line line client server = []
+
 -- the line of an acknowledged frame as a session keeps it
 abbrev pub acked_line : Acked → List ℕ
-acked_line acked = ack_line acked.frame acked.step acked.client acked.server
+acked_line acked = told_line (ack_line acked.frame acked.step) acked.client acked.server
+
+-- the digests of a session are on, and each of its acknowledged frames has them
+pub record HasAllDigests (session : Session) : Type 0 where
+  pub on : digests_of session ≡ On
+  pub acks : AllByRecursion HasDigests session.acks
 
 -- a session is that of a script and its start, at its end
 abbrev pub IsWhole : Option Session → List Chooser → Beginning → Type 0
@@ -74,6 +89,7 @@ IsWhole (Some session) choosers b = (script_of session ≡ b.script) × Stands s
 pub record HasPlayed (old new : Session) (choosers left : List Chooser) : Type 0 where
   pub whole : (start : Start) → IsBegun old start → IsWhole (Some new) choosers (beginning start (script_of old))
   pub leaves : AreAlike left (left_of (script_of old) choosers)
+  pub digests : digests_of old ≡ On → HasAllDigests new
 
 abbrev pub Plays : Result Session NoMemory → Session → List Chooser → List Chooser → Type 0
 Plays (Ok new) old choosers left = HasPlayed old new choosers left

@@ -10,6 +10,7 @@ use Rattle.gfxpipe.specs.declared.ending.Ending.{Ending}
 use Rattle.gfxpipe.specs.declared.trouble.Trouble.{Trouble}
 use Rattle.gfxpipe.specs.Did.{EndsUnread}
 use Rattle.gfxpipe.specs.Rules.{trying}
+use Rattle.gfxpipe.specs.Sessions.{told_line}
 
 -- how it ended, what session it answered, and what it left of the choosers
 pub record Tries (ended : Result Ending Trouble) (answered : Option Session) (number : ℕ) (choosers left : List Chooser) (o : Change) : Type 0 where
@@ -20,7 +21,7 @@ pub record Tries (ended : Result Ending Trouble) (answered : Option Session) (nu
 -- the line of the last of these acknowledged frames, as a session keeps them
 abbrev pub kept_trial : ℕ → ℕ → Option Acked → List ℕ
 kept_trial number count None = []
-kept_trial number count (Some ack) = trial_line number count ack.step ack.client ack.server
+kept_trial number count (Some ack) = told_line (trial_line number count ack.step) ack.client ack.server
 
 abbrev pub acks_trial : ℕ → List Acked → List ℕ
 acks_trial number acks = kept_trial number (length acks) (last_or None acks)

@@ -19,7 +19,7 @@ use gfx_chooser::Chooser;
 use gfx_import::Kept;
 use gfx_kept_input::{KeptInput, read_kept_input};
 use gfx_script_text::{ScriptError, read_script_kept};
-use gfx_session::Session;
+use gfx_session::{Digests, Session};
 use std::alloc::Global;
 
 /// Reads two files of kept bitmaps and a script within the limit, plays the session that begins with them, and writes a line
@@ -85,7 +85,7 @@ fn begin_session(
 {
     match read_script_kept(alloc, text, server, client) {
         Ok(script) => {
-            let session = Session::with_kept(alloc, script, server, client)?;
+            let session = Session::with_kept(alloc, script, server, client, Digests::On)?;
             Ok(Ok(session))
         }
         Err(ScriptError::Fault { step, kind }) => Ok(Err(Ending::Faulty { step, kind })),

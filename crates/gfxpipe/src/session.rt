@@ -1,14 +1,15 @@
 //! The command `session`: a script is read whole, both ends of its session are played to its end, and a
 //! line is written for each frame that was acknowledged.
-ghost use Rattle.std.specs.Prelude.{◌≡◌, ◌<◌, ◌^◌, OnOk};
+ghost use Rattle.std.specs.Prelude.{◌≡◌, ◌<◌, ◌^◌, OnOk, Some};
 ghost use Rattle.gfx_chooser.specs.Seen.{seen};
-ghost use Rattle.std.specs.List.{flat_map};
+ghost use Rattle.std.specs.List.{AllByRecursion, flat_map};
 ghost use Rattle.gfx_base.specs.Stream.{Writes, change};
-ghost use Rattle.gfx_session.specs.Session.{IsSession};
+ghost use Rattle.gfx_session.specs.Session.{IsSession, digests_of};
+ghost use Rattle.gfx_session.specs.declared.digests.Digests.TheVariants.{On};
 ghost use Rattle.gfxpipe.specs.Outcome.{ended_of, session_of};
 ghost use Rattle.gfxpipe.specs.Rule.{DidAll};
 ghost use Rattle.gfxpipe.specs.Rules.{playing, script_input};
-ghost use Rattle.gfxpipe.specs.Sessions.{HasPlayed, Plays, PlaysOut, acked_line};
+ghost use Rattle.gfxpipe.specs.Sessions.{HasDigests, HasPlayed, Plays, PlaysOut, acked_line};
 
 use crate::ending::Ending;
 use crate::outcome::Outcome;
@@ -17,7 +18,7 @@ use crate::trouble::Trouble;
 use gfx_base::{Failed, NoMemory, Sink, Source};
 use gfx_chooser::Chooser;
 use gfx_report::write_ack;
-use gfx_session::{Acked, Session};
+use gfx_session::{Acked, Digests, Session};
 use std::alloc::Global;
 
 /// Reads a script within the limit, plays its session, and writes a line for each acknowledged frame.
@@ -35,7 +36,7 @@ pub(crate) fn session<C: Chooser, I: Source, O: Sink>(
 {
     match read_whole(alloc, limit, input)? {
         Ok(script) => {
-            let begun = Session::new(alloc, script)?;
+            let begun = Session::new(alloc, script, Digests::On)?;
             let session = play_out(begun, choosers, out)?;
             Ok(Outcome {
                 ending: Ending::Done,
@@ -57,6 +58,7 @@ pub(crate) fn play_out<C: Chooser, O: Sink>(
 ) -> Result<Session, Trouble>
     requires is { IsSession begun }
     requires unqueued { begun.server.last ≡ 0 }
+    requires digests { digests_of begun ≡ On }
     ensures { PlaysOut result begun (seen C.reply C.is_spent choosers.old.items) (seen C.reply C.is_spent choosers.new.items)
         (change (O.faults out.old) (O.faults out.new) (O.held out.old) (O.held out.new)) }
 {
@@ -103,11 +105,34 @@ fn take_turns<C: Chooser>(session: &mut Session, choosers: &mut Vec<C>) -> Resul
 
 /// Writes a line for each of these acknowledged frames.
 fn write_acks<O: Sink>(acks: &[Acked], out: &mut O) -> Result<(), Failed>
+    requires { AllByRecursion HasDigests acks.now }
     ensures { Writes result (change (O.faults out.old) (O.faults out.new) (O.held out.old) (O.held out.new))
         (flat_map acked_line acks.now) }
 {
     'acks: for ack in acks {
-        write_ack(ack.frame, ack.step, &ack.client, &ack.server, out)?;
+        write_line(ack, out)?;
     }
     Ok(())
+}
+
+/// Writes the line of an acknowledged frame.
+fn write_line<O: Sink>(ack: &Acked, out: &mut O) -> Result<(), Failed>
+    requires { HasDigests ack.now }
+    ensures { Writes result (change (O.faults out.old) (O.faults out.new) (O.held out.old) (O.held out.new))
+        (acked_line ack.now) }
+{
+    let (client, server) = digests(ack);
+    write_ack(ack.frame, ack.step, client, server, out)
+}
+
+/// The digests of an acknowledged frame that has them, of the client's state and of the server's.
+pub(crate) fn digests(ack: &Acked) -> (&[u8; 32], &[u8; 32])
+    requires { HasDigests ack.now }
+    ensures client { ack.now.client ≡ Some result.0.now }
+    ensures server { ack.now.server ≡ Some result.1.now }
+{
+    match (&ack.client, &ack.server) {
+        (Some(client), Some(server)) => (client, server),
+        _ => unreachable!(),
+    }
 }

@@ -18,7 +18,7 @@ use chooser::Lines;
 use gfx_base::Bytes;
 use gfx_schedule::Turned;
 use gfx_script_text::read_script;
-use gfx_session::{ServerEnd, ServerFault};
+use gfx_session::{Digests, ServerEnd, ServerFault};
 use scripts::{EXAMPLES, Example};
 use std::alloc::Global;
 
@@ -98,7 +98,7 @@ fn start(alloc: Global, example: &Example) -> Option<ServerEnd>
     ensures { IfSome result IsServerEnd }
 {
     match read_script(alloc, example.script.as_bytes()) {
-        Ok(script) => ServerEnd::new(alloc, script).ok(),
+        Ok(script) => ServerEnd::new(alloc, script, Digests::Off).ok(),
         Err(_) => None,
     }
 }

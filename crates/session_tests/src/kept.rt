@@ -3,7 +3,7 @@
 use gfx_chooser::Once;
 use gfx_import::{Kept, have_same_sides, read_kept};
 use gfx_script_text::read_script_kept;
-use gfx_session::{Acked, Session};
+use gfx_session::{Acked, Digests, Session};
 use std::alloc::Global;
 use std::test::Fail;
 
@@ -40,7 +40,7 @@ fn acknowledged(
     if !have_same_sides(server, client, script.small()) {
         return Err(Fail::from("other sides"));
     }
-    let mut session = Session::with_kept(alloc, script, server, client)?;
+    let mut session = Session::with_kept(alloc, script, server, client, Digests::On)?;
     let mut nobody: Vec<Once> = Vec::new(alloc);
     let drained = session.drain(&mut nobody);
     let count = session.acks().len();
@@ -57,8 +57,8 @@ fn each_digest_is_of_its_own_end(rt: HostRuntime) -> Result<(), Fail> {
     let frame = Acked {
         frame: 1,
         step: 3,
-        client: GREEN_STATE,
-        server: RED_STATE,
+        client: Some(GREEN_STATE),
+        server: Some(RED_STATE),
     };
     assert_eq!(rt;
         acknowledged(rt.alloc(), &server, &client)?,

@@ -6,8 +6,9 @@ ghost use Rattle.gfx_caps.specs.Reading.{client_of};
 ghost use Rattle.gfx_schedule.specs.Hearing.{confirm, confirms, acknowledges, told};
 ghost use Rattle.gfx_state.specs.Sending.{sent};
 ghost use Rattle.gfx_window.specs.Window.{acknowledged};
-ghost use Rattle.gfx_session.specs.declared.server_end.listening.Taken.{Taken};
-ghost use Rattle.gfx_session.specs.Kept.{IsServerEnd};
+ghost use Rattle.gfx_session.specs.declared.server_end.listening.ShownFrame.{ShownFrame};
+ghost use Rattle.gfx_script.specs.Checks.{Held};
+ghost use Rattle.gfx_session.specs.Kept.{IsServerEndFrom};
 ghost use Rattle.gfx_session.specs.Listening.{LeavesPlan, Obeys, Hears};
 ghost use Rattle.gfx_session.specs.Noting.{Listens};
 ghost use Rattle.gfx_session.specs.Taking.{Takes};
@@ -20,13 +21,14 @@ use gfx_segment::wrap;
 use gfx_window::AckUnknown;
 use std::alloc::{AllocFailed, Global};
 
-/// A frame whose acknowledgement was taken: its recorded step, and the digest of the server's state right
-/// after it.
-#[derive(Clone, Copy, Debug)]
-pub(crate) struct Taken {
-    pub(crate) frame: u32,
-    pub(crate) step: u32,
-    pub(crate) state: [u8; 32],
+/// A frame that the client has shown: its acknowledgement was taken.
+#[derive(Clone, Copy, Debug, PartialEq, Eq)]
+pub struct ShownFrame {
+    pub frame: u32,
+    /// The number of the last step that was queued when it was sent, counted from 1.
+    pub step: u32,
+    /// The digest of the server's state right after it, where digests are made.
+    pub digest: Option<[u8; 32]>,
 }
 
 impl From<NoMemory> for ServerFault {
@@ -88,7 +90,7 @@ impl ServerEnd {
     /// where memory ran out, no more than a front of what is answered was put out.
     pub fn take(&mut self, piece: &[u8], out: &mut Bytes) -> Result<u32, ServerFault>
         ensures takes { Takes self.old.closed result self.old self.new out.old out.new piece.now }
-        ensures is { IsServerEnd self.old → IsServerEnd self.new }
+        ensures is { (held : Held) → IsServerEndFrom held self.old → IsServerEndFrom held self.new }
     {
         // At most 255, so that the count fits.
         let most = self.window.in_flight();
@@ -102,10 +104,10 @@ impl ServerEnd {
         &mut self,
         piece: &[u8],
         out: &mut Bytes,
-        taken: &mut Vec<Taken>,
+        taken: &mut Vec<ShownFrame>,
     ) -> Result<(), ServerFault>
         ensures listens { Listens self.old.closed result self.old self.new out.old out.new taken.old.items taken.new.items piece.now }
-        ensures is { IsServerEnd self.old → IsServerEnd self.new }
+        ensures is { (held : Held) → IsServerEndFrom held self.old → IsServerEndFrom held self.new }
         ensures few { length taken.new.items + length self.new.window.flying ≤ length taken.old.items + length self.old.window.flying }
     {
         if self.closed {
@@ -125,7 +127,7 @@ impl ServerEnd {
         &mut self,
         piece: &[u8],
         out: &mut Bytes,
-        taken: &mut Vec<Taken>,
+        taken: &mut Vec<ShownFrame>,
     ) -> Result<(), ServerFault>
         requires { self.old.closed ≡ false }
         ensures hears { Hears result self.old self.new out.old out.new taken.old.items taken.new.items piece.now }
@@ -146,7 +148,7 @@ impl ServerEnd {
         &mut self,
         message: &[u8],
         out: &mut Bytes,
-        taken: &mut Vec<Taken>,
+        taken: &mut Vec<ShownFrame>,
     ) -> Result<(), ServerFault>
         ensures obeys { Obeys result self.old self.new out.old out.new taken.old.items taken.new.items (λ heard. told self.old.script heard (client_of message.now)) }
         ensures plan { LeavesPlan self.old self.new taken.old.items taken.new.items }
@@ -161,8 +163,8 @@ impl ServerEnd {
 
     /// Chooses a version of these sets, and confirms it.
     fn confirm(&mut self, sets: &CapsSets, out: &mut Bytes) -> Result<(), ServerFault>
-        ensures obeys { (has : List Taken) → Obeys result self.old self.new out.old out.new has has (λ heard. confirms self.old.script heard (choice sets.now)) }
-        ensures plan { (has : List Taken) → LeavesPlan self.old self.new has has }
+        ensures obeys { (has : List ShownFrame) → Obeys result self.old self.new out.old out.new has has (λ heard. confirms self.old.script heard (choice sets.now)) }
+        ensures plan { (has : List ShownFrame) → LeavesPlan self.old self.new has has }
         ensures open { self.new.closed ≡ self.old.closed }
         ensures held { self.new.splitter ≡ self.old.splitter }
     {
@@ -183,7 +185,7 @@ impl ServerEnd {
     }
 
     /// Takes the acknowledgement of a frame.
-    fn acknowledge(&mut self, frame: u32, taken: &mut Vec<Taken>) -> Result<(), ServerFault>
+    fn acknowledge(&mut self, frame: u32, taken: &mut Vec<ShownFrame>) -> Result<(), ServerFault>
         ensures obeys { (now : List ℕ) → Obeys result self.old self.new now now taken.old.items taken.new.items
             (λ heard. acknowledges heard frame (acknowledged heard.end.window heard.end.window.flying frame)) }
         ensures plan { LeavesPlan self.old self.new taken.old.items taken.new.items }
@@ -191,8 +193,12 @@ impl ServerEnd {
         ensures held { self.new.splitter ≡ self.old.splitter }
     {
         let step = self.window.acknowledge(frame)?;
-        if let Some(state) = self.ends.pop_front() {
-            taken.push(Taken { frame, step, state })?;
+        if let Some(digest) = self.ends.pop_front() {
+            taken.push(ShownFrame {
+                frame,
+                step,
+                digest,
+            })?;
         }
         Ok(())
     }

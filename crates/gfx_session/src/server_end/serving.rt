@@ -5,11 +5,13 @@ ghost use Rattle.gfx_schedule.specs.ServerEnd.{is_none, may_send};
 ghost use Rattle.gfx_schedule.specs.declared.turned.Turned.TheVariants.{Moved, Waiting};
 ghost use Rattle.gfx_script.specs.declared.TheConstants.{MOST_STEPS};
 ghost use Rattle.gfx_session.specs.Frames.{MayFrame, PutsFrame, SendsFrame, due_of};
-ghost use Rattle.gfx_session.specs.Kept.{IsServerEnd};
+ghost use Rattle.gfx_script.specs.Checks.{Held};
+ghost use Rattle.gfx_session.specs.Kept.{IsServerEnd, IsServerEndFrom, digest_in, noted};
 ghost use Rattle.gfx_session.specs.Queueing.{QueuesFrame};
 ghost use Rattle.gfx_session.specs.Serving.{Serves};
 
 use super::ServerEnd;
+use crate::digests::Digests;
 use gfx_base::{Bytes, NoMemory};
 use gfx_chooser::{Chooser, kind_at};
 use gfx_planner::Planner;
@@ -30,7 +32,7 @@ impl ServerEnd {
     ) -> Result<Turned, NoMemory>
         requires { IsServerEnd self.old }
         ensures serves { Serves result self.old self.new (seen C.reply C.is_spent choosers.old.items) (seen C.reply C.is_spent choosers.new.items) out.old out.new }
-        ensures is { IsServerEnd self.new }
+        ensures is { (held : Held) → IsServerEndFrom held self.old → IsServerEndFrom held self.new }
     {
         if self.spent {
             return Err(NoMemory);
@@ -75,11 +77,7 @@ impl ServerEnd {
             return Ok(false);
         }
         let frame = put_frame(&self.script, &self.window, &mut self.planner, out)?;
-        let state = digest(
-            self.planner.surfaces(),
-            self.planner.cache(),
-            self.planner.clear(),
-        );
+        let state = noted_of(&self.planner, self.digests);
         self.ends.push_back(state)?;
         if let Err(lack) = self.window.send(frame, self.last) {
             // No frame is in flight for it, so the client is heard as before.
@@ -88,6 +86,24 @@ impl ServerEnd {
         }
         Ok(true)
     }
+}
+
+/// What is kept of what a planner has: its digest, where digests are on.
+fn noted_of(planner: &Planner, digests: Digests) -> Option<[u8; 32]>
+    ensures { result ≡ noted digests planner.now.server.state }
+{
+    match digests {
+        Digests::Off => None,
+        Digests::On => Some(digest_of(planner)),
+    }
+}
+
+/// The digest of what a planner has.
+#[tactic(auto, unfolding(gfx_report::specs::StateBytes::digest_of))]
+fn digest_of(planner: &Planner) -> [u8; 32]
+    ensures { result ≡ digest_in planner.now.server.state }
+{
+    digest(planner.surfaces(), planner.cache(), planner.clear())
 }
 
 /// What a turn is told as that isn't the last.

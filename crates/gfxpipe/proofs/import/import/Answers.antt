@@ -13,6 +13,9 @@ play_out-requires-clause-is g c = (import_is c.in-Ok.begun c.args.limit _ (rw c.
 pub play_out-requires-clause-unqueued : goal.play_out-requires-clause-unqueued
 play_out-requires-clause-unqueued g c = (import_is c.in-Ok.begun c.args.limit _ (rw c.in-Ok.is at c.in_ok-begun.ensures)).1
 
+pub play_out-requires-clause-digests : goal.play_out-requires-clause-digests
+play_out-requires-clause-digests g c = (import_is c.in-Ok.begun c.args.limit _ (rw c.in-Ok.is at c.in_ok-begun.ensures)).2
+
 pub returns-in_err-session-in-Ok : goal.returns-in_err-session-in-Ok
 returns-in_err-session-in-Ok g c =
     let p = err_from_is_err_and c.from_residual-in_err-session-in-Ok.result c.from_residual-in_err-session-in-Ok.ensures.1 in

@@ -12,15 +12,15 @@ returns-in_err-step-clause-obeys c = λ now.
 pub returns-in_err-push-clause-plan : goal.returns-in_err-push-clause-plan
 returns-in_err-push-clause-plan c =
     subst (LeavesPlan c.args.self.now _ c.args.taken.now.items) (sym c.in_err-push.ensures.items)
-    (leaves_none c.args.self.now _ c.args.taken.now.items c.args.frame c.in_ok-step.step (record { script = refl; last = refl; planner = refl; spent = refl; confirmed = refl }) c.in_ok-step.ensures.value)
+    (leaves_none c.args.self.now _ c.args.taken.now.items c.args.frame c.in_ok-step.step (record { script = refl; last = refl; planner = refl; spent = refl; confirmed = refl; digests = refl }) c.in_ok-step.ensures.value)
 
 pub returns-in_ok-push-clause-obeys : goal.returns-in_ok-push-clause-obeys
 returns-in_ok-push-clause-obeys c = λ now.
-    takes_frame c.args.self.now _ now c.args.taken.now.items c.push.new.self.items c.args.frame c.in_ok-step.step c.in-Some.state (record { script = refl; last = refl; planner = refl; spent = refl; confirmed = refl }) c.in_ok-step.ensures.value c.in-Some.ensures.items c.in_ok-push.ensures.items
+    takes_frame c.args.self.now _ now c.args.taken.now.items c.push.new.self.items c.args.frame c.in_ok-step.step c.in-Some.digest (record { script = refl; last = refl; planner = refl; spent = refl; confirmed = refl; digests = refl }) c.in_ok-step.ensures.value c.in-Some.ensures.items c.in_ok-push.ensures.items
 
 pub returns-in_ok-push-clause-plan : goal.returns-in_ok-push-clause-plan
 returns-in_ok-push-clause-plan c =
-    leaves_one c.args.self.now _ c.args.taken.now.items c.push.new.self.items c.args.frame c.in_ok-step.step _ (record { script = refl; last = refl; planner = refl; spent = refl; confirmed = refl }) c.in_ok-step.ensures.value c.in_ok-push.ensures.items
+    leaves_one c.args.self.now _ c.args.taken.now.items c.push.new.self.items c.args.frame c.in_ok-step.step _ (record { script = refl; last = refl; planner = refl; spent = refl; confirmed = refl; digests = refl }) c.in_ok-step.ensures.value c.in_ok-push.ensures.items
 
 pub returns-in_default-clause-obeys : goal.returns-in_default-clause-obeys
 returns-in_default-clause-obeys c = λ now.
@@ -28,4 +28,4 @@ returns-in_default-clause-obeys c = λ now.
 
 pub returns-in_default-clause-plan : goal.returns-in_default-clause-plan
 returns-in_default-clause-plan c =
-    leaves_none c.args.self.now _ c.args.taken.now.items c.args.frame c.in_ok-step.step (record { script = refl; last = refl; planner = refl; spent = refl; confirmed = refl }) c.in_ok-step.ensures.value
+    leaves_none c.args.self.now _ c.args.taken.now.items c.args.frame c.in_ok-step.step (record { script = refl; last = refl; planner = refl; spent = refl; confirmed = refl; digests = refl }) c.in_ok-step.ensures.value

@@ -16,8 +16,8 @@ returns c =
         last = refl;
         window = c.in_default.ensures.ok ∙ ap (λ n. with_frame self.window n self.last) p.0;
         planned = p.1.0;
-        ends = ends_are self.ends.items c.push_back.new.self.items c.put_frame.new.planner _ c.surfaces.result.now.shown c.cache.result.now c.clear.result.now c.digest-state.result
-            c.in_ok-push_back.ensures.items p.1.0 c.surfaces.ensures c.cache.ensures c.clear.ensures c.digest-state.ensures;
+        ends = ends_are self.ends.items c.push_back.new.self.items self.digests c.put_frame.new.planner _ c.noted_of-state.result c.in_ok-push_back.ensures.items p.1.0 c.noted_of-state.ensures;
+        digests = refl;
         confirmed = refl;
         closed = refl;
         splitter = refl;

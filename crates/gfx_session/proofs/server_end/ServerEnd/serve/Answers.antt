@@ -19,30 +19,30 @@ returns-in_err-last-clause-serves g c =
     rw p.1 (unqueued c.args.self.now c.queue_frame.new.window _ [] c.args.out.now p.0 c.if-self.false c.in_err-last.ensures)
 
 pub returns-in_err-last-clause-is : goal.returns-in_err-last-clause-is
-returns-in_err-last-clause-is g c = spent_end c.args.self.now _ c.requires refl refl
+returns-in_err-last-clause-is g c = λ held is. spent_end c.args.self.now _ is refl refl
 
 pub send_frame-requires-clause-may : goal.send_frame-requires-clause-may
 send_frame-requires-clause-may g c =
     let mid = with_queued c.args.self.now c.in_ok-last.last c.queue_frame.new.window in
-    may_frame mid (queued_in_step c.args.self.now c.in_ok-last.last _ _ c.queue_frame.new.window (c.requires.in_step c.if-self.false) c.in_ok-last.ensures)
+    may_frame mid (queued_in_step c.args.self.now c.in_ok-last.last _ _ c.queue_frame.new.window (c.requires.1.in_step c.if-self.false) c.in_ok-last.ensures)
 
 pub returns-in_err-sent-clause-serves : goal.returns-in_err-sent-clause-serves
 returns-in_err-sent-clause-serves g c =
     let p = err_from_is_err_and c.from_residual-in_err-sent.result c.from_residual-in_err-sent.ensures.1 in
     rw p.1 (unsent c.args.self.now c.send_frame.new.self c.in_ok-last.last _ _ c.queue_frame.new.window c.args.out.now c.send_frame.new.out p.0 c.in_err-sent.field-0.0
-    c.requires c.if-self.false c.in_ok-last.ensures c.in_err-sent.ensures)
+    c.requires.1 c.if-self.false c.in_ok-last.ensures c.in_err-sent.ensures)
 
 pub returns-in_err-sent-clause-is : goal.returns-in_err-sent-clause-is
-returns-in_err-sent-clause-is g c = spent_end c.args.self.now c.send_frame.new.self c.requires c.in_err-sent.ensures.1 c.in_err-sent.ensures.2
+returns-in_err-sent-clause-is g c = λ held is. spent_end c.args.self.now c.send_frame.new.self is c.in_err-sent.ensures.1 c.in_err-sent.ensures.2
 
 pub returns-clause-serves : goal.returns-clause-serves
 returns-clause-serves g c =
     let mid = with_queued c.args.self.now c.in_ok-last.last c.queue_frame.new.window in
-    rw c.turned.ensures (turn c.args.self.now c.send_frame.new.self c.in_ok-last.last _ _ c.queue_frame.new.window c.in_ok-sent.sent c.args.out.now c.send_frame.new.out c.requires c.if-self.false
+    rw c.turned.ensures (turn c.args.self.now c.send_frame.new.self c.in_ok-last.last _ _ c.queue_frame.new.window c.in_ok-sent.sent c.args.out.now c.send_frame.new.out c.requires.1 c.if-self.false
     (sym c.has_served.ensures ∙ c.if-has_served.false) c.in_ok-last.ensures c.in_ok-sent.ensures (same_script mid c.send_frame.new.self c.in_ok-sent.sent c.args.out.now c.send_frame.new.out c.in_ok-sent.ensures))
 
 pub returns-clause-is : goal.returns-clause-is
-returns-clause-is g c =
+returns-clause-is g c = λ held is.
     let mid = with_queued c.args.self.now c.in_ok-last.last c.queue_frame.new.window in
-    turned_is c.args.self.now c.send_frame.new.self c.in_ok-last.last _ _ c.queue_frame.new.window c.in_ok-sent.sent c.args.out.now c.send_frame.new.out c.requires c.if-self.false
+    turned_is c.args.self.now c.send_frame.new.self c.in_ok-last.last _ _ c.queue_frame.new.window c.in_ok-sent.sent c.args.out.now c.send_frame.new.out is c.if-self.false
     c.in_ok-last.ensures c.in_ok-sent.ensures (same_script mid c.send_frame.new.self c.in_ok-sent.sent c.args.out.now c.send_frame.new.out c.in_ok-sent.ensures)

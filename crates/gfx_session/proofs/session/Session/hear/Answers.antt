@@ -22,7 +22,7 @@ pub returns-clause-is : goal.returns-clause-is
 returns-clause-is c =
     let old = c.args.self.now in
     is_on old (record old { server = c.hear_bytes.new.server; down = c.put.new.self; up = c.pass.new.self; drawn = c.note_all.new.drawn; acks = c.note_all.new.acks; spent = false }) (not c.is_empty-moved.result) (Answer c.args.most)
-    c.requires.is c.requires.fresh (c.hear_bytes.ensures.is c.requires.is.server)
+    c.requires.is c.requires.fresh (c.requires.is.server.0, c.hear_bytes.ensures.is c.requires.is.server.0 c.requires.is.server.1)
     (heard old (record old { server = c.hear_bytes.new.server; down = c.put.new.self; up = c.pass.new.self; drawn = c.note_all.new.drawn; acks = c.note_all.new.acks })
     c.new-out.result c.hear_bytes.new.out c.front-piece.result.now c.new-taken.result.items c.hear_bytes.new.taken.items c.args.most (not c.is_empty-moved.result)
     c.new-out.ensures c.new-taken.ensures.items c.front-piece.ensures (will_hear old c.args.most c.front-piece.result.now c.requires.is c.requires.fresh c.front-piece.ensures) c.in_ok-hear_bytes.ensures.hears c.hear_bytes.ensures.plans c.pass.ensures c.in_ok-put.ensures.ok
@@ -31,13 +31,13 @@ returns-clause-is c =
     (ap not c.is_empty-moved.ensures))
 
 pub returns-in_err-hear_bytes-clause-is : goal.returns-in_err-hear_bytes-clause-is
-returns-in_err-hear_bytes-clause-is c = record { server = c.hear_bytes.ensures.is c.requires.is.server; under_way = λ fresh. absurd cc }
+returns-in_err-hear_bytes-clause-is c = record { server = (c.requires.is.server.0, c.hear_bytes.ensures.is c.requires.is.server.0 c.requires.is.server.1); under_way = λ fresh. absurd cc }
 
 pub returns-in_err-pass-clause-is : goal.returns-in_err-pass-clause-is
-returns-in_err-pass-clause-is c = record { server = c.hear_bytes.ensures.is c.requires.is.server; under_way = λ fresh. absurd cc }
+returns-in_err-pass-clause-is c = record { server = (c.requires.is.server.0, c.hear_bytes.ensures.is c.requires.is.server.0 c.requires.is.server.1); under_way = λ fresh. absurd cc }
 
 pub returns-in_err-put-clause-is : goal.returns-in_err-put-clause-is
-returns-in_err-put-clause-is c = record { server = c.hear_bytes.ensures.is c.requires.is.server; under_way = λ fresh. absurd cc }
+returns-in_err-put-clause-is c = record { server = (c.requires.is.server.0, c.hear_bytes.ensures.is c.requires.is.server.0 c.requires.is.server.1); under_way = λ fresh. absurd cc }
 
 pub returns-in_err-note_all-clause-is : goal.returns-in_err-note_all-clause-is
-returns-in_err-note_all-clause-is c = record { server = c.hear_bytes.ensures.is c.requires.is.server; under_way = λ fresh. absurd cc }
+returns-in_err-note_all-clause-is c = record { server = (c.requires.is.server.0, c.hear_bytes.ensures.is c.requires.is.server.0 c.requires.is.server.1); under_way = λ fresh. absurd cc }

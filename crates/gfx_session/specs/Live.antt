@@ -1,0 +1,86 @@
+-- A server's end whose script grows while it goes on: what is pushed, and for what it stands then. This project's own rule.
+use Rattle.std.specs.Prelude.{◌≡◌, ℕ, ◌+◌, ◌-◌, Bool, true, false, ◌&&◌, not, nat_le, List, ◌++◌, length, map, drop, if◌then◌else◌, Option, Result, Ok, Err}
+use Rattle.gfx_base.specs.declared.answer.Cause.{Cause}
+use Rattle.gfx_base.specs.declared.answer.Cause.TheVariants as cause
+use Rattle.gfx_base.specs.declared.geometry.Point.{Point}
+use Rattle.gfx_base.specs.Results.{◌>>=◌}
+use Rattle.gfx_schedule.specs.Feeding.{with_more}
+use Rattle.gfx_schedule.specs.ServerEnd.{ScheduledEnd, is_none}
+use Rattle.gfx_script.specs.declared.TheConstants.{MOST_STEPS}
+use Rattle.gfx_script.specs.declared.error.ScriptKind.{ScriptKind}
+use Rattle.gfx_script.specs.declared.picture.Picture.{Picture}
+use Rattle.gfx_script.specs.declared.step.Kind.{Kind}
+use Rattle.gfx_script.specs.declared.step.Step.{Step}
+use Rattle.gfx_script.specs.Checks.{Held, sides_of_all}
+use Rattle.gfx_script.specs.Drafts.{Draft, GoesOn, frame_ended, painted, pushed, steps_so_far}
+use Rattle.gfx_script.specs.Kinds.{KindedStep}
+use Rattle.gfx_script.specs.Script.{is_frame}
+use Rattle.gfx_window.specs.Window.{has_room}
+use Rattle.gfx_session.specs.Kept.{IsServerEndFrom, Stands}
+use Rattle.gfx_session.specs.declared.live_end.LiveEnd.{LiveEnd}
+use Rattle.gfx_session.specs.declared.live_end.LiveFault.{LiveFault}
+use Rattle.gfx_session.specs.declared.live_end.LiveFault.TheVariants.{Wrong, Full, Memory}
+
+-- what is wrong with a picture or a step, as a live end tells it
+abbrev pub fault_of_flaw : Cause ScriptKind → LiveFault
+fault_of_flaw (cause.Refused kind) = Wrong kind
+fault_of_flaw cause.Memory = Memory
+
+-- a script has no room for a step: the last place is that of the frame which ends the steps before it
+abbrev pub is_full : Draft → Step → Bool
+is_full draft step = nat_le MOST_STEPS (if is_frame step then steps_so_far draft else steps_so_far draft + 1)
+
+-- `frame` is pushed: it takes all that was pushed since the last one into the script
+unfoldable pub frame_fed : LiveEnd → Result LiveEnd ScriptKind
+frame_fed live = do
+  ended ← frame_ended live.end.script live.draft
+  Ok (record live { end = record live.end { script = ended.0 }; draft = ended.1 })
+
+-- any other step waits for that
+unfoldable pub step_fed : LiveEnd → Step → Result LiveEnd ScriptKind
+step_fed live step = do
+  draft ← pushed live.draft step
+  Ok (record live { draft = draft })
+
+abbrev pub fed : LiveEnd → Step → Result LiveEnd ScriptKind
+fed live step = if is_frame step then frame_fed live else step_fed live step
+
+-- a picture is pushed with its paint
+unfoldable pub paint_fed : LiveEnd → Picture → ℕ → Point → Option Kind → Option ℕ → Result LiveEnd ScriptKind
+paint_fed live picture id at kind glyph = do
+  draft ← painted live.draft picture id at kind glyph
+  Ok (record live { draft = draft })
+
+-- what is answered to what is pushed: Full first, and then what is due. An error leaves all as it was
+abbrev pub Feeds : Result (Unit {0}) LiveFault → Bool → Result LiveEnd ScriptKind → LiveEnd → LiveEnd → Type 0
+Feeds (Ok done) full due old new = (full ≡ false) × (due ≡ Ok new)
+Feeds (Err Full) full due old new = (full ≡ true) × (new ≡ old)
+Feeds (Err (Wrong kind)) full due old new = (full ≡ false) × (due ≡ Err kind) × (new ≡ old)
+Feeds (Err Memory) full due old new = new ≡ old
+
+-- a server's end stands for the schedule's with more steps, whatever kinds they go as: those that its script has gained
+abbrev pub StandsWithMore : LiveEnd → LiveEnd → Type 0
+StandsWithMore old new =
+    (at : ScheduledEnd) (more : List KindedStep) → Stands old.end at → new.end.script.steps ≡ old.end.script.steps ++ map (λ one. one.step) more
+    → Stands new.end (with_more at more)
+
+-- what holds of every live end that is made, and stays through each of its calls: it is a server's end, and what was pushed
+-- since the last frame passes the checks behind the script
+pub record IsLive (live : LiveEnd) : Type 0 where
+  pub held : Held
+  pub sides : held.pictures ≡ sides_of_all live.end.script.pictures
+  pub end : IsServerEndFrom held live.end
+  pub draft : GoesOn end.good.held (length live.end.script.steps) live.draft
+
+-- ---- what a caller asks
+
+-- all that was pushed in whole frames was sent, and a frame that were pushed now could go at once
+abbrev pub wants_frame : LiveEnd → Bool
+wants_frame live =
+    not live.end.spent && (live.end.confirmed && (has_room live.end.window && (is_none live.end.window.pending && is_none (drop live.end.last live.end.script.steps))))
+
+-- how many of the steps that were pushed weren't sent; none will be of one that is spent
+abbrev pub steps_behind : LiveEnd → ℕ
+steps_behind live =
+    if live.end.spent then 0
+    else length live.end.window.pending + (length live.end.script.steps - live.end.last) + length live.draft.steps

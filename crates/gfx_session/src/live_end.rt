@@ -1,0 +1,214 @@
+//! A server's end that is fed: its script grows while the session goes on.
+
+ghost use Rattle.std.specs.Prelude.{◌≡◌, ◌+◌, [], false, nat_le, IfOk, OnOk};
+ghost use Rattle.gfx_chooser.specs.Seen.{seen};
+ghost use Rattle.gfx_schedule.specs.ServerEnd.{server_at_start};
+ghost use Rattle.gfx_script.specs.Drafts.{nothing_drafted, steps_so_far};
+ghost use Rattle.gfx_script.specs.declared.TheConstants.{MOST_STEPS};
+ghost use Rattle.gfx_script.specs.declared.step.Step.TheVariants.{Paint};
+ghost use Rattle.gfx_script.specs.Heads.{script_from};
+ghost use Rattle.gfx_script.specs.Starting.{stock_with};
+ghost use Rattle.gfx_session.specs.Kept.{Stands};
+ghost use Rattle.gfx_session.specs.Live.{Feeds, IsLive, StandsWithMore, fed, frame_fed, is_full, paint_fed, step_fed, steps_behind, wants_frame};
+ghost use Rattle.gfx_session.specs.Noting.{Listens};
+ghost use Rattle.gfx_session.specs.Serving.{Serves};
+
+use crate::digests::Digests;
+use crate::server_end::{ServerEnd, ServerFault, ShownFrame};
+use gfx_base::{Bytes, NoMemory, Point};
+use gfx_chooser::Chooser;
+use gfx_schedule::Turned;
+use gfx_script::{Draft, Flaw, Head, Kind, MOST_STEPS, Picture, Script, ScriptKind, Step};
+use std::alloc::Global;
+use thiserror::Error;
+
+/// Why a live end takes no picture and no step. Each leaves it as it was.
+#[derive(Clone, Copy, Debug, PartialEq, Eq, Error)]
+pub enum LiveFault {
+    /// It is wrong, as `gfx_script_text::read_script` would say of the same step.
+    #[error("the step is wrong: {0}")]
+    Wrong(ScriptKind),
+    /// The script has no room for it: `MOST_STEPS` steps, of which one is kept for the frame that ends the others.
+    #[error("the script has no room for one more step")]
+    Full,
+    /// No memory is left.
+    #[error("no memory is left")]
+    Memory,
+}
+
+impl From<Flaw> for LiveFault {
+    ghost use Rattle.gfx_session.specs.Live.{fault_of_flaw};
+
+    ghost from_gives = { λ flaw fault. fault ≡ fault_of_flaw flaw };
+
+    fn from(flaw: Flaw) -> LiveFault {
+        match flaw {
+            Flaw::Refused(kind) => LiveFault::Wrong(kind),
+            Flaw::Memory => LiveFault::Memory,
+        }
+    }
+}
+
+/// A server's end, and the steps that were pushed since the last frame, which aren't in its script yet.
+#[derive(Drop)]
+pub struct LiveEnd {
+    end: ServerEnd,
+    draft: Draft,
+}
+
+impl LiveEnd {
+    /// A live end of this head, of whose script nothing is there yet. It makes digests, or none.
+    pub fn new(alloc: Global, head: Head, digests: Digests) -> Result<LiveEnd, NoMemory>
+        ensures stands { IfOk result (λ live. Stands live.end (server_at_start (script_from head []) [])) }
+        ensures starts { IfOk result (λ live. (live.end.script ≡ script_from head []) × (live.end.closed ≡ false) × (live.end.digests ≡ digests) × (live.draft ≡ nothing_drafted (stock_with [] live.end.script.small))) }
+        ensures is { IfOk result IsLive }
+    {
+        let draft = Draft::new(alloc, head.small(), &[])?;
+        let end = ServerEnd::new(alloc, head.script(alloc), digests)?;
+        Ok(LiveEnd { end, draft })
+    }
+
+    /// The script of all that was pushed in whole frames.
+    pub fn script(&self) -> &Script
+        ensures { result.now ≡ self.now.end.script }
+    {
+        self.end.script()
+    }
+
+    /// Pushes a step. `Step::Frame` says that the screen is whole: what was pushed since the last one is in the
+    /// script from then on, and waits until `serve` sends it. A picture is pushed by `paint`; a step that paints one
+    /// of those that were pushed may be pushed too.
+    pub fn push(&mut self, step: Step) -> Result<(), LiveFault>
+        requires { IsLive self.old }
+        ensures feeds { Feeds result (is_full self.old.draft step) (fed self.old step) self.old self.new }
+        ensures stands { OnOk result (StandsWithMore self.old self.new) }
+        ensures is { IsLive self.new }
+    {
+        if self.is_full(&step) {
+            return Err(LiveFault::Full);
+        }
+        if step.is_frame() {
+            self.end_frame()
+        } else {
+            self.keep(step)
+        }
+    }
+
+    /// Pushes a picture with its paint, its top left corner at a place: as this kind, or as a chooser says when it
+    /// is sent. A glyph is the index at which the client is to keep it.
+    pub fn paint(
+        &mut self,
+        id: u16,
+        at: Point,
+        picture: Picture,
+        kind: Option<Kind>,
+        glyph: Option<u16>,
+    ) -> Result<(), LiveFault>
+        requires { IsLive self.old }
+        ensures feeds { Feeds result (is_full self.old.draft (Paint id 0 at kind glyph)) (paint_fed self.old picture id at kind glyph) self.old self.new }
+        ensures end { self.new.end ≡ self.old.end }
+        ensures is { IsLive self.new }
+    {
+        if self.has_last_place_alone() {
+            return Err(LiveFault::Full);
+        }
+        match self.draft.paint(picture, id, at, kind, glyph) {
+            Ok(()) => Ok(()),
+            Err(flaw) => Err(flaw.into()),
+        }
+    }
+
+    /// A turn of the server's end, as `ServerEnd::serve`: Ended says that nothing is left to do until more is pushed.
+    pub fn serve<C: Chooser>(
+        &mut self,
+        choosers: &mut Vec<C>,
+        out: &mut Bytes,
+    ) -> Result<Turned, NoMemory>
+        requires { IsLive self.old }
+        ensures serves { Serves result self.old.end self.new.end (seen C.reply C.is_spent choosers.old.items) (seen C.reply C.is_spent choosers.new.items) out.old out.new }
+        ensures draft { self.new.draft ≡ self.old.draft }
+        ensures is { IsLive self.new }
+    {
+        self.end.serve(choosers, out)
+    }
+
+    /// Takes the next bytes of the client, cut anywhere, puts out what is answered to them, and notes the frames
+    /// whose acknowledgements it took. The first fault closes it, and it takes nothing more.
+    pub fn take(
+        &mut self,
+        piece: &[u8],
+        out: &mut Bytes,
+        shown: &mut Vec<ShownFrame>,
+    ) -> Result<(), ServerFault>
+        requires { IsLive self.old }
+        ensures listens { Listens self.old.end.closed result self.old.end self.new.end out.old out.new shown.old.items shown.new.items piece.now }
+        ensures draft { self.new.draft ≡ self.old.draft }
+        ensures is { IsLive self.new }
+    {
+        self.end.listen(piece, out, shown)
+    }
+
+    /// Whether all that was pushed in whole frames was sent, and one that were pushed now could go at once. A server
+    /// that makes its pictures only then is never more than one frame behind.
+    pub fn wants_frame(&self) -> bool
+        requires { IsLive self.now }
+        ensures { result ≡ wants_frame self.now }
+    {
+        self.end.wants_frame()
+    }
+
+    /// How many of the steps that were pushed weren't sent yet; 0 where want of memory in `serve` has left it spent.
+    pub fn steps_behind(&self) -> u32
+        requires { IsLive self.now }
+        ensures { result ≡ steps_behind self.now }
+    {
+        if self.end.is_spent() {
+            return 0;
+        }
+        self.end.steps_behind() + self.draft.len() as u32
+    }
+
+    /// Ends the frame: what was pushed is in the script.
+    fn end_frame(&mut self) -> Result<(), LiveFault>
+        requires { IsLive self.old }
+        ensures feeds { Feeds result false (frame_fed self.old) self.old self.new }
+        ensures stands { OnOk result (StandsWithMore self.old self.new) }
+        ensures is { IsLive self.new }
+    {
+        match self.end.end_frame(&mut self.draft) {
+            Ok(()) => Ok(()),
+            Err(flaw) => Err(flaw.into()),
+        }
+    }
+
+    /// Keeps a step until its frame ends.
+    fn keep(&mut self, step: Step) -> Result<(), LiveFault>
+        requires { IsLive self.old }
+        ensures feeds { Feeds result false (step_fed self.old step) self.old self.new }
+        ensures stands { OnOk result (StandsWithMore self.old self.new) }
+        ensures is { IsLive self.new }
+    {
+        match self.draft.push(step) {
+            Ok(()) => Ok(()),
+            Err(flaw) => Err(flaw.into()),
+        }
+    }
+
+    /// Whether the script has no room for a step.
+    fn is_full(&self, step: &Step) -> bool
+        ensures { result ≡ is_full self.now.draft step.now }
+    {
+        if step.is_frame() {
+            self.draft.steps_so_far() >= MOST_STEPS
+        } else {
+            self.has_last_place_alone()
+        }
+    }
+
+    /// Whether no place but the last is left, which is that of a frame, or none at all.
+    fn has_last_place_alone(&self) -> bool
+        ensures { result ≡ nat_le MOST_STEPS (steps_so_far self.now.draft + 1) }
+    {
+        self.draft.steps_so_far() + 1 >= MOST_STEPS
+    }
+}

@@ -1,0 +1,260 @@
+"""A server's end that is fed: speaks to the program live_server, which keeps the protocol (docs/LIVE.md).
+
+    with LiveServer(program) as server:
+        to_client(server.take(from_client()).data)
+        server.surface(1, 1920, 1080)
+        server.paint(1, 0, 0, 1920, 1080, pixels)
+        server.frame()
+        to_client(server.serve().data)
+
+Each method writes one command and reads its answer, so nothing waits for ever.
+"""
+
+import enum
+import os
+import struct
+import subprocess
+import typing
+
+FRONT = struct.Struct("<BI")
+MOST_PAINT = 67108864 + 32
+MOST_BODY = 65536
+NO_GLYPH = 0xFFFF
+FORMATS = {"xrgb": 0x20, "argb": 0x21}
+KINDS = ("auto", "raw", "residual", "bands", "palette", "plain", "progressive", "video")
+ENTROPIES = {"rlgr1": 1, "rlgr3": 3}
+TRANSFORMS = ("plain", "reduced")
+# The order in which a quant has its bands on the wire, by their places in a script's list.
+WIRE_BANDS = (9, 6, 7, 8, 3, 4, 5, 0, 1, 2)
+
+Pixels = typing.Union[bytes, bytearray, memoryview]
+Point = typing.Sequence[int]  # x, y
+Rect = typing.Sequence[int]  # left, top, right, bottom
+
+
+class Turned(enum.Enum):
+    """What a turn did: something, nothing yet, or all is done."""
+
+    MOVED = 0
+    WAITING = 1
+    ENDED = 2
+
+
+class Shown(typing.NamedTuple):
+    """A frame that the client has acknowledged: its id, its recorded step, and the digest where digests are on."""
+
+    frame: int
+    step: int
+    digest: typing.Optional[bytes]
+
+
+class Taken(typing.NamedTuple):
+    """What came of bytes of the client: the frames that it has acknowledged, and what is to be sent to it."""
+
+    shown: typing.List[Shown]
+    data: bytes
+
+
+class Served(typing.NamedTuple):
+    """What came of a turn, and what is to be sent to the client."""
+
+    turned: Turned
+    data: bytes
+
+
+class NotDone(Exception):
+    """An answer that isn't the one that was hoped for: its kind, a letter, and the name that it tells, if any."""
+
+    def __init__(self, kind: str, name: str = "") -> None:
+        super().__init__(f"{kind} {name}".strip())
+        self.kind, self.name = kind, name
+
+
+class Ended(Exception):
+    """The program has ended: its exit number, and its line on the standard error."""
+
+    def __init__(self, number: int, line: str) -> None:
+        super().__init__(f"the program ended with {number}: {line}")
+        self.number, self.line = number, line
+
+
+class Setting(typing.NamedTuple):
+    """How progressive paints are coded: of each quant and of each part of a level ten numbers, as in a script."""
+
+    transform: str
+    y: typing.Sequence[int]
+    cb: typing.Sequence[int]
+    cr: typing.Sequence[int]
+    levels: typing.Sequence[typing.Tuple[typing.Sequence[int], typing.Sequence[int], typing.Sequence[int]]]
+
+
+# ---- Bodies
+
+
+def quant(values: typing.Sequence[int]) -> bytes:
+    """Ten numbers of four bits as they are on the wire ([MS-RDPEGFX] RFX_COMPONENT_CODEC_QUANT)."""
+    nibbles = [values[band] for band in WIRE_BANDS]
+    return bytes(low | high << 4 for low, high in zip(nibbles[::2], nibbles[1::2]))
+
+
+def settings(window: int = 2, entropy: str = "rlgr1", differences: bool = False, digests: bool = False,
+             setting: typing.Optional[Setting] = None) -> bytes:
+    """The body of an `H`."""
+    body = struct.pack("<4B", window, ENTROPIES[entropy], differences, digests)
+    if setting is None:
+        return body
+    quants = [setting.y, setting.cb, setting.cr, *(part for level in setting.levels for part in level)]
+    return body + bytes([TRANSFORMS.index(setting.transform)]) + b"".join(quant(values) for values in quants)
+
+
+def rects_of(rects: typing.Iterable[Rect]) -> bytes:
+    return b"".join(struct.pack("<4H", *rect) for rect in rects)
+
+
+def points_of(points: typing.Iterable[Point]) -> bytes:
+    return b"".join(struct.pack("<2H", *point) for point in points)
+
+
+def paint_front(id: int, x: int, y: int, width: int, height: int, kind: str = "auto",
+                glyph: typing.Optional[int] = None) -> bytes:
+    """What stands before the pixels in the body of a `p`."""
+    return struct.pack("<5HBH", id, x, y, width, height, KINDS.index(kind), NO_GLYPH if glyph is None else glyph)
+
+
+def shown_of(body: bytes) -> Taken:
+    """Reads the body of an `A`."""
+    count, at, shown = struct.unpack_from("<I", body)[0], 4, []
+    for _ in range(count):
+        frame, step, has_digest = struct.unpack_from("<IIB", body, at)
+        at += 9
+        shown.append(Shown(frame, step, body[at:at + 32] if has_digest else None))
+        at += 32 * has_digest
+    return Taken(shown, body[at:])
+
+
+# ---- The program
+
+
+class LiveServer:
+    """The program, as long as it runs. A method writes a command and reads its answer: what is no success is NotDone,
+    and leaves the server's end as it was."""
+
+    def __init__(self, program: typing.Union[str, os.PathLike]) -> None:
+        self.process = subprocess.Popen([program], stdin=subprocess.PIPE, stdout=subprocess.PIPE,
+                                        stderr=subprocess.PIPE)
+
+    def __enter__(self) -> "LiveServer":
+        return self
+
+    def __exit__(self, *_: object) -> None:
+        self.close()
+
+    def close(self) -> typing.Tuple[int, str]:
+        """Ends the input. Answers the program's exit number, and its line on the standard error."""
+        _, line = self.process.communicate()
+        return self.process.returncode, line.decode("utf-8", "replace").strip()
+
+    # Records.
+
+    def ask(self, kind: str, *parts: bytes) -> typing.Tuple[str, bytes]:
+        """Writes a record, whose body is these parts, and reads the answer: its kind, a letter, and its body."""
+        stream = self.process.stdin
+        try:
+            stream.write(FRONT.pack(ord(kind), sum(len(part) for part in parts)))
+            for part in parts:
+                stream.write(part)
+            stream.flush()
+        except BrokenPipeError:
+            raise Ended(*self.ended()) from None
+        answer, length = FRONT.unpack(self.read(FRONT.size))
+        return chr(answer), self.read(length)
+
+    def read(self, count: int) -> bytes:
+        data = self.process.stdout.read(count)
+        if len(data) < count:
+            raise Ended(*self.ended())
+        return data
+
+    def ended(self) -> typing.Tuple[int, str]:
+        """How the program has ended by itself."""
+        line = self.process.stderr.read().decode("utf-8", "replace").strip()
+        return self.process.wait(), line
+
+    def must(self, wanted: str, kind: str, *parts: bytes) -> bytes:
+        """The body of the answer of this kind; any other is NotDone."""
+        answer, body = self.ask(kind, *parts)
+        if answer != wanted:
+            raise NotDone(answer, body.decode("ascii", "replace"))
+        return body
+
+    # The client.
+
+    def settle(self, window: int = 2, entropy: str = "rlgr1", differences: bool = False, digests: bool = False,
+               setting: typing.Optional[Setting] = None) -> None:
+        """Says what is other than usual, before the client's first bytes."""
+        self.must("O", "H", settings(window, entropy, differences, digests, setting))
+
+    def take(self, data: bytes) -> Taken:
+        """Hands on bytes of the client, cut anywhere."""
+        shown, out = [], []
+        for at in range(0, len(data) or 1, MOST_BODY):
+            taken = shown_of(self.must("A", "M", data[at:at + MOST_BODY]))
+            shown += taken.shown
+            out.append(taken.data)
+        return Taken(shown, b"".join(out))
+
+    def serve(self) -> Served:
+        """A turn of the server's end."""
+        body = self.must("S", "S")
+        return Served(Turned(body[0]), body[1:])
+
+    def wants_frame(self) -> bool:
+        """Whether a frame that were pushed now could go at once."""
+        answer, _ = self.ask("?")
+        return answer == "Y"
+
+    def steps_behind(self) -> int:
+        """How many of the steps that were pushed weren't sent yet."""
+        return struct.unpack("<I", self.must("B", "B"))[0]
+
+    # What the screen shows.
+
+    def surface(self, id: int, width: int, height: int, format: str = "xrgb") -> None:
+        self.must("O", "s", struct.pack("<3HB", id, width, height, FORMATS[format]))
+
+    def delete(self, id: int) -> None:
+        self.must("O", "d", struct.pack("<H", id))
+
+    def reset(self, width: int, height: int) -> None:
+        self.must("O", "r", struct.pack("<2I", width, height))
+
+    def map(self, id: int, x: int, y: int) -> None:
+        self.must("O", "m", struct.pack("<H2I", id, x, y))
+
+    def fill(self, id: int, colour: bytes, rects: typing.Iterable[Rect]) -> None:
+        """A colour is four bytes: blue, green, red, alpha."""
+        self.must("O", "f", struct.pack("<H", id), colour, rects_of(rects))
+
+    def copy(self, source: int, to: int, rect: Rect, points: typing.Iterable[Point]) -> None:
+        self.must("O", "c", struct.pack("<6H", source, to, *rect), points_of(points))
+
+    def keep(self, id: int, key: int, rect: Rect) -> None:
+        self.must("O", "k", struct.pack("<HQ4H", id, key, *rect))
+
+    def show(self, key: int, to: int, points: typing.Iterable[Point]) -> None:
+        self.must("O", "w", struct.pack("<QH", key, to), points_of(points))
+
+    def forget(self, key: int) -> None:
+        self.must("O", "g", struct.pack("<Q", key))
+
+    def paint(self, id: int, x: int, y: int, width: int, height: int, pixels: Pixels, kind: str = "auto",
+              glyph: typing.Optional[int] = None) -> None:
+        """Pixels are rows from the top, four bytes each: blue, green, red, and one that says nothing."""
+        self.must("O", "p", paint_front(id, x, y, width, height, kind, glyph), pixels)
+
+    def improve(self, id: int) -> None:
+        self.must("O", "i", struct.pack("<H", id))
+
+    def frame(self) -> None:
+        """The screen is whole: what was pushed since the last frame may be sent."""
+        self.must("O", "F")

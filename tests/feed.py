@@ -394,10 +394,10 @@ class Fed:
     def fault_settings(self):
         """Settings that no server's end has, and such that come late."""
         with live.LiveServer(self.program) as server:
-            for body in (b"", bytes((2, 1, 0)), bytes((2, 1, 0, 0, 1)), bytes((2, 1, 0, 0, 1)) + bytes(14)):
+            for body in (b"", bytes((2, 1, 0)), bytes((2, 1, 0, 0, 1)), bytes((2, 1, 0, 0, 1, 0)) + bytes(14)):
                 self.refused(server, "W", "Key", lambda s: s.must("O", "H", body))
             level = ([4] * 10,) * 3
-            usual = dict(zip(("transform", "y", "cb", "cr"), ("reduced", *([6] * 10,) * 3)))
+            usual = dict(zip(("transform", "rounding", "y", "cb", "cr"), ("reduced", "nearest", *([6] * 10,) * 3)))
             for words in ({"window": 0}, {"window": 65},
                           {"setting": live.Setting(**usual, levels=())},
                           {"setting": live.Setting(**usual, levels=(level,) * 8)},
@@ -406,6 +406,10 @@ class Fed:
                 self.refused(server, "W", "Range", lambda s: s.settle(**words))
             for place in range(1, 4):
                 body = bytes(9 if at == place else (2, 1, 0, 0)[at] for at in range(4))
+                self.refused(server, "W", "Range", lambda s: s.must("O", "H", body))
+            whole = live.settings(setting=live.Setting(**usual, levels=(level,)))
+            for place in (4, 5):
+                body = whole[:place] + b"\2" + whole[place + 1:]
                 self.refused(server, "W", "Range", lambda s: s.must("O", "H", body))
             server.settle(window=64, entropy="rlgr3", differences=True,
                           setting=live.Setting(**usual, levels=(level,) * 7))

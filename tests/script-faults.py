@@ -25,7 +25,7 @@ sys.path.insert(0, os.path.join(HERE, "..", "tools"))
 from gfxtools import script
 
 WORDS = ("surface delete reset map fill copy paint kinds=raw,residual,bands,palette,plain,progressive,auto,"
-         "video improve difference glyph argb keep show forget clients thin turns").split()
+         "video improve difference glyph argb keep show forget clients thin turns nearest").split()
 
 # What may be put into a text: signs of TOML, numbers at limits, words, and what is no text at all.
 PIECES = [piece.encode() for piece in (

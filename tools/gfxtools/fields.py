@@ -219,7 +219,8 @@ CLIENT = (Word("version", VERSIONS), Flag("small", True))
 # Further keys of an offer; version 10 is for no thin client.
 THIN = (Flag("thin", True),)
 BASES = tuple(Numbers(key, BANDS, LEAST_BASE, MOST_BITS, True) for key in COMPONENTS)
-PROGRESSIVE = (Word("transform", ("plain", "reduced"), True), *BASES, Tables("level", True), Flag("difference", True))
+PROGRESSIVE = (Word("transform", ("plain", "reduced"), True), Word("rounding", ("zero", "nearest"), True), *BASES,
+               Tables("level", True), Flag("difference", True))
 VIDEO = (Word("entropy", ("rlgr1", "rlgr3"), True),)
 LEVEL = tuple(Numbers(key, BANDS, 0, MOST_LEFT_OUT) for key in COMPONENTS)
 SIDES = (Whole("width", 1, MOST_NUMBER), Whole("height", 1, MOST_NUMBER))

@@ -24,6 +24,7 @@ FORMATS = {"xrgb": 0x20, "argb": 0x21}
 KINDS = ("auto", "raw", "residual", "bands", "palette", "plain", "progressive", "video")
 ENTROPIES = {"rlgr1": 1, "rlgr3": 3}
 TRANSFORMS = ("plain", "reduced")
+ROUNDINGS = ("zero", "nearest")
 # The order in which a quant has its bands on the wire, by their places in a script's list.
 WIRE_BANDS = (9, 6, 7, 8, 3, 4, 5, 0, 1, 2)
 
@@ -82,6 +83,7 @@ class Setting(typing.NamedTuple):
     """How progressive paints are coded: of each quant and of each part of a level ten numbers, as in a script."""
 
     transform: str
+    rounding: str
     y: typing.Sequence[int]
     cb: typing.Sequence[int]
     cr: typing.Sequence[int]
@@ -104,7 +106,8 @@ def settings(window: int = 2, entropy: str = "rlgr1", differences: bool = False,
     if setting is None:
         return body
     quants = [setting.y, setting.cb, setting.cr, *(part for level in setting.levels for part in level)]
-    return body + bytes([TRANSFORMS.index(setting.transform)]) + b"".join(quant(values) for values in quants)
+    words = bytes([TRANSFORMS.index(setting.transform), ROUNDINGS.index(setting.rounding)])
+    return body + words + b"".join(quant(values) for values in quants)
 
 
 def rects_of(rects: typing.Iterable[Rect]) -> bytes:

@@ -88,14 +88,15 @@ def setting_of(table: dict) -> live.Setting:
     """How progressive paints are coded."""
     levels = [tuple(level[key] for key in ("y", "cb", "cr")) for level in table.get("level", ())]
     bases = [table.get(key, USUAL_BASE) for key in ("y", "cb", "cr")]
-    return live.Setting(table.get("transform", "reduced"), *bases, levels or [(USUAL_LEFT_OUT,) * 3])
+    words = table.get("transform", "reduced"), table.get("rounding", "zero")
+    return live.Setting(*words, *bases, levels or [(USUAL_LEFT_OUT,) * 3])
 
 
 def settings_of(root: dict) -> typing.Dict[str, typing.Any]:
-    progressive = root.get("progressive")
+    progressive = root.get("progressive", {})
     return {"window": root.get("window", 2), "entropy": root.get("video", {}).get("entropy", "rlgr1"),
-            "differences": (progressive or {}).get("difference", False),
-            "setting": None if progressive is None else setting_of(progressive)}
+            "differences": progressive.get("difference", False),
+            "setting": setting_of(progressive)}
 
 
 def offer_of(table: dict) -> typing.Tuple[int, int]:

@@ -4,9 +4,9 @@ ghost use Rattle.gfx_dwt.specs.Ranges.{AllCoefficients};
 use gfx_base::{Pixel, Refusal};
 use gfx_dwt::{Band, Transform};
 use gfx_quant::{
-    Quant, band_of, band_size, band_start, check_base, cut_plane, dequantise, dequantise_plane,
-    from_colour, from_colours, nth_band, quant_from, quant_to, quantise, quantise_plane, to_colour,
-    to_colours, to_colours_narrow, truncate, truncate_plane,
+    Quant, Rounding, band_of, band_size, band_start, check_base, cut_plane, dequantise,
+    dequantise_plane, from_colour, from_colours, nth_band, quant_from, quant_to, quantise,
+    quantise_plane, round, to_colour, to_colours, to_colours_narrow, truncate, truncate_plane,
 };
 
 fn opaque(b: u8, g: u8, r: u8) -> Pixel {
@@ -152,6 +152,81 @@ fn quantising_rounds_down_in_ll3_alone(rt: HostRuntime) {
     let least = quantise(-1, 15, Band::Ll3);
     let most = quantise(-32768, 15, Band::Hh3);
     assert_eq!(rt; (first_wrong_rounded(), least, most), (None, -1, -2));
+}
+
+// Coefficients, and their nearest values in LL3, where a half goes up, and elsewhere, where it goes away from zero.
+const NEAREST_AT_6: [(i16, i32, i32); 19] = [
+    (0, 0, 0),
+    (15, 0, 0),
+    (16, 1, 1),
+    (17, 1, 1),
+    (-15, 0, 0),
+    (-16, 0, -1),
+    (-17, -1, -1),
+    (47, 1, 1),
+    (48, 2, 2),
+    (49, 2, 2),
+    (-47, -1, -1),
+    (-48, -1, -2),
+    (-49, -2, -2),
+    // The largest magnitudes: 1,024 would stand for 32,768.
+    (32751, 1023, 1023),
+    (32752, 1023, 1023),
+    (32767, 1023, 1023),
+    (-32752, -1023, -1024),
+    (-32753, -1024, -1024),
+    (-32768, -1024, -1024),
+];
+
+const NEAREST_AT_15: [(i16, i32, i32); 12] = [
+    (8191, 0, 0),
+    (8192, 1, 1),
+    (8193, 1, 1),
+    (-8191, 0, 0),
+    (-8192, 0, -1),
+    (-8193, -1, -1),
+    (24575, 1, 1),
+    (24576, 1, 1),
+    (32767, 1, 1),
+    (-24576, -1, -2),
+    (-24577, -2, -2),
+    (-32768, -2, -2),
+];
+
+fn nearest_at_6(c: i16) -> (i32, i32) {
+    let coefficient = i32::from(c);
+    (
+        round(coefficient, 6, Band::Ll3),
+        round(coefficient, 6, Band::Hl1),
+    )
+}
+
+fn nearest_at_15(c: i16) -> (i32, i32) {
+    let coefficient = i32::from(c);
+    (
+        round(coefficient, 15, Band::Ll3),
+        round(coefficient, 15, Band::Hh3),
+    )
+}
+
+// The first coefficient that has others, if there is one.
+fn first_wrong_nearest() -> Option<i16> {
+    for (c, up, away) in &NEAREST_AT_6 {
+        if nearest_at_6(*c) != (*up, *away) {
+            return Some(*c);
+        }
+    }
+    for (c, up, away) in &NEAREST_AT_15 {
+        if nearest_at_15(*c) != (*up, *away) {
+            return Some(*c);
+        }
+    }
+    None
+}
+
+#[test]
+fn halves_go_up_in_ll3_and_away_from_zero_elsewhere(rt: HostRuntime) {
+    assert_eq!(rt; first_wrong_nearest(), None);
 }
 
 // Numbers, and what is left of them without three bits, rounded down, and toward zero.
@@ -304,11 +379,11 @@ const LEFT_OUT: Quant = Quant {
 };
 
 // What a plane's corners are quantised to, and what is left of them.
-fn corners_of(plane: &[i32; 4096]) -> [(i32, i32, i32); 2]
+fn corners_of(rounding: Rounding, plane: &[i32; 4096]) -> [(i32, i32, i32); 2]
     requires { AllCoefficients plane.now }
 {
     let mut coded = [0; 4096];
-    quantise_plane(plane, Transform::Reduced, &CODED, &mut coded);
+    quantise_plane(rounding, plane, Transform::Reduced, &CODED, &mut coded);
     let mut shown = [0; 4096];
     truncate_plane(&coded, Transform::Reduced, &LEFT_OUT, &mut shown);
     [corners(&coded), corners(&shown)]
@@ -320,7 +395,27 @@ fn planes_go_place_by_place(rt: HostRuntime) {
     plane[4095] = -40000;
     cut_plane(&mut plane);
     let due = [(511, 1023, -1024), (255, 1023, -256)];
-    assert_eq!(rt; (plane[4095], corners_of(&plane)), (-32768, due));
+    let corners = corners_of(Rounding::Zero, &plane);
+    assert_eq!(rt; (plane[4095], corners), (-32768, due));
+}
+
+// A half in each of the corners, and the same toward zero.
+fn halves() -> [[(i32, i32, i32); 2]; 2] {
+    let mut plane = [16; 4096];
+    plane[0] = 32;
+    plane[4095] = -16;
+    cut_plane(&mut plane);
+    [
+        corners_of(Rounding::Nearest, &plane),
+        corners_of(Rounding::Zero, &plane),
+    ]
+}
+
+#[test]
+fn halves_go_place_by_place(rt: HostRuntime) {
+    let nearest = [(1, 1, 0), (0, 1, 0)];
+    let zero = [(0, 0, -1), (0, 0, -1)];
+    assert_eq!(rt; halves(), [nearest, zero]);
 }
 
 // The samples of the second of pixels, and its colour again.

@@ -2,7 +2,7 @@
 ghost use Rattle.std.specs.Prelude.{◌<◌};
 
 use gfx_dwt::Transform;
-use gfx_quant::{Component, Level, Levels, Quant, Setting, quant_from};
+use gfx_quant::{Component, Level, Levels, Quant, Rounding, Setting, quant_from};
 
 // The same number, 0 to 15, in each band.
 fn even(number: u8) -> Quant {
@@ -32,6 +32,7 @@ fn is_accepted(base: u8, left_out: &[u8]) -> bool {
     }
     let setting = Setting {
         transform: Transform::Plain,
+        rounding: Rounding::Nearest,
         y: even(base),
         cb: even(base),
         cr: even(base),
@@ -44,6 +45,7 @@ fn is_accepted(base: u8, left_out: &[u8]) -> bool {
 fn is_accepted_in(component: Component, base: Quant, left_out: Quant) -> bool {
     let mut setting = Setting {
         transform: Transform::Reduced,
+        rounding: Rounding::Zero,
         y: even(6),
         cb: even(6),
         cr: even(6),

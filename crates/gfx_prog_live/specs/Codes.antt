@@ -1,12 +1,14 @@
 -- How live tiles are coded, as the value of a model has to be: this project's own words.
-use mathlib.Core.Bool.{Bool-set, true}
+use mathlib.Core.Bool.{Bool-set, true, false}
 use base.Stored.{coded_sub}
-use Rattle.std.specs.Prelude.{refl, ℕ, ℤ, Bool, IsTrue, List}
+use Rattle.std.specs.Prelude.{◌≡◌, refl, ℕ, ℤ, Bool, IsTrue, List}
 use Rattle.std.specs.Coded.{Coded, code_by, coded×, coded_ℕ, coded_ℤ, coded_bool, coded_list}
 use Rattle.std.specs.FinMap as finmap
 use Rattle.gfx_base.specs.declared.geometry.Rect.{Rect}
 use Rattle.gfx_dwt.specs.declared.layout.Transform.{Transform}
 use Rattle.gfx_quant.specs.declared.quant.Quant.{Quant}
+use Rattle.gfx_quant.specs.declared.rounding.Rounding.{Rounding}
+use Rattle.gfx_quant.specs.declared.rounding.Rounding.TheVariants.{Zero, Nearest}
 use Rattle.gfx_quant.specs.declared.setting.Level.{Level}
 use Rattle.gfx_quant.specs.declared.setting.Setting.{Setting}
 use Rattle.gfx_quant.specs.Quant.{are_nibbles}
@@ -32,12 +34,25 @@ level_code =
     code_by (Quant × (Quant × Quant)) (coded× quant_code (coded× quant_code quant_code))
     (λ l. (l.y, (l.cb, l.cr))) (λ t. record { y = t.0; cb = t.1.0; cr = t.1.1 }) (λ _. refl)
 
--- a setting as its transform, its quants and its levels
+abbrev is_zero : Rounding → Bool
+is_zero Zero = true
+is_zero Nearest = false
+
+abbrev zero_where : Bool → Rounding
+zero_where true = Zero
+zero_where false = Nearest
+
+abbrev same_rounding : (rounding : Rounding) → zero_where (is_zero rounding) ≡ rounding
+same_rounding Zero = refl
+same_rounding Nearest = refl
+
+-- a setting as its transform, its rounding, its quants and its levels
 abbrev setting_code : Coded Setting
 setting_code =
-    code_by (Transform × (Quant × (Quant × (Quant × List Level)))) (coded× transform_code (coded× quant_code (coded× quant_code (coded× quant_code (coded_list level_code)))))
-    (λ s. (s.transform, (s.y, (s.cb, (s.cr, s.levels)))))
-    (λ t. record { transform = t.0; y = t.1.0; cb = t.1.1.0; cr = t.1.1.1.0; levels = t.1.1.1.1 }) (λ _. refl)
+    code_by (Transform × (Rounding × (Quant × (Quant × (Quant × List Level)))))
+    (coded× transform_code (coded× (code_by Bool coded_bool is_zero zero_where same_rounding) (coded× quant_code (coded× quant_code (coded× quant_code (coded_list level_code))))))
+    (λ s. (s.transform, (s.rounding, (s.y, (s.cb, (s.cr, s.levels))))))
+    (λ t. record { transform = t.0; rounding = t.1.0; y = t.1.1.0; cb = t.1.1.1.0; cr = t.1.1.1.1.0; levels = t.1.1.1.1.1 }) (λ _. refl)
 
 abbrev planes_code : Coded Planes
 planes_code =

@@ -5,6 +5,7 @@ pub mod InBands
 pub mod InRange
 pub mod Quotients
 pub mod Everywhere
+pub mod Nearest
 pub mod Smaller
 pub mod Nibbles
 pub mod Numbers

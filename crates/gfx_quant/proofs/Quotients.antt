@@ -10,7 +10,7 @@ use Rattle.std.proofs.Math.Nat.{add-div_right, div-eq_of_lt, one-le-pow}
 next_quotient : (a d : ℕ) → 0 < d → (a + d) / d ≡ suc (a / d)
 next_quotient a d h = add-div_right a h ∙ omega arith
 
-raised_shift : (m d : ℕ) → 0 < d → shr_z (negsuc m +ℤ pos (d - 1)) d ≡ int_div (negsuc m) (pos d)
+pub raised_shift : (m d : ℕ) → 0 < d → shr_z (negsuc m +ℤ pos (d - 1)) d ≡ int_div (negsuc m) (pos d)
 raised_shift m d h = elim (cases_lt (suc m) d) [
   | inl small ↦
       let e : negsuc m +ℤ pos (d - 1) ≡ pos (d - 1 - suc m) = omega (arith, ints) in

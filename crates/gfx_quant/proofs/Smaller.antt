@@ -9,10 +9,13 @@ use Rattle.gfx_dwt.specs.declared.layout.Band.{Band}
 use Rattle.gfx_dwt.specs.declared.layout.Band.TheVariants.{Ll3}
 use Rattle.gfx_dwt.specs.Place.{LiesIn}
 use Rattle.gfx_dwt.specs.Ranges.{AllCoefficients, AllWithin, IsCoefficient, Within, at}
+use Rattle.gfx_quant.specs.declared.rounding.Rounding.{Rounding}
+use Rattle.gfx_quant.specs.declared.rounding.Rounding.TheVariants.{Zero, Nearest}
 use Rattle.gfx_quant.specs.Coefficient.{truncated, quantised}
 use Rattle.gfx_quant.specs.Planes.{MapsBands}
 use Rattle.gfx_quant.specs.Quant.{value_of}
 use Rattle.gfx_quant.proofs.Everywhere.{some_band}
+use Rattle.gfx_quant.proofs.Nearest.{nearest_small}
 
 minus_within : (b x : ℕ) → x ≤ b → Within b (neg_ℤ (pos x))
 minus_within b zero h = record { low = omega (arith, ints); high = omega (arith, ints) }
@@ -71,19 +74,20 @@ unfolding truncated
 truncated_small Ll3 z bits h l = floor_small z bits h l
 truncated_small _ z bits h l = quotient_small z bits h l
 
--- a coefficient is quantised by a base of at least 6 to at most 1,024
-pub quantised_small : (band : Band) (c : ℤ) (base : ℕ) → 6 ≤ base → IsCoefficient c → Within 1024 (quantised band c base)
-quantised_small band c base h l = truncated_small band c (base - 1) (omega arith) l
+-- a coefficient is quantised by a base of 6 to 15 to at most 1,024
+pub quantised_small : (rounding : Rounding) (band : Band) (c : ℤ) (base : ℕ) → 6 ≤ base → base < 16 → IsCoefficient c → Within 1024 (quantised rounding band c base)
+quantised_small Zero band c base h m l = truncated_small band c (base - 1) (omega arith) l
+quantised_small Nearest band c base h m l = nearest_small band c base h (omega arith) l
 
 pub plane_truncated_within : (t : Transform) (numbers : List ℕ) (b : ℕ) (source new : List ℤ) → length source ≡ 4096 → length new ≡ 4096 → MapsBands t (λ band v. truncated band v (value_of numbers band)) source new → AllWithin b source → AllWithin b new
 plane_truncated_within t numbers b source new len len' maps small k h =
     let place : (band : Band) × LiesIn t band k = some_band t k (omega arith) in
     rw (maps place.0 k place.1) (truncated_within place.0 b (at source k) (value_of numbers place.0) (small k (omega arith)))
 
-pub plane_quantised_small : (t : Transform) (numbers : List ℕ) (source new : List ℤ) → length source ≡ 4096 → length new ≡ 4096 → ((band : Band) → 6 ≤ value_of numbers band) → MapsBands t (λ band c. quantised band c (value_of numbers band)) source new → AllCoefficients source → AllWithin 1024 new
-plane_quantised_small t numbers source new len len' least maps small k h =
+pub plane_quantised_small : (rounding : Rounding) (t : Transform) (numbers : List ℕ) (source new : List ℤ) → length source ≡ 4096 → length new ≡ 4096 → ((band : Band) → 6 ≤ value_of numbers band) → ((band : Band) → value_of numbers band < 16) → MapsBands t (λ band c. quantised rounding band c (value_of numbers band)) source new → AllCoefficients source → AllWithin 1024 new
+plane_quantised_small rounding t numbers source new len len' least most maps small k h =
     let place : (band : Band) × LiesIn t band k = some_band t k (omega arith) in
-    rw (maps place.0 k place.1) (quantised_small place.0 (at source k) (value_of numbers place.0) (least place.0) (small k (omega arith)))
+    rw (maps place.0 k place.1) (quantised_small rounding place.0 (at source k) (value_of numbers place.0) (least place.0) (most place.0) (small k (omega arith)))
 
 pub fewer_by_none : (t : Transform) (numbers : List ℕ) (source new : List ℤ) → MapsBands t (λ band v. truncated band v (value_of numbers band - 0)) source new → MapsBands t (λ band v. truncated band v (value_of numbers band)) source new
 fewer_by_none t numbers source new maps band k lies =

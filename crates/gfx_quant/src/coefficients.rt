@@ -1,6 +1,7 @@
 ghost use Rattle.std.specs.Prelude.{◌≡◌, ◌≤◌, ◌-◌, ◌^◌, pos, ◌+ℤ◌, ◌*ℤ◌, ◌<ℤ◌, ◌≤ℤ◌, int_div};
 ghost use Rattle.std.specs.Int.{int_shr};
 ghost use Rattle.gfx_dwt.specs.Ranges.{IsCoefficient};
+ghost use Rattle.gfx_quant.specs.declared.rounding.Rounding.TheVariants.{Zero};
 ghost use Rattle.gfx_quant.specs.Coefficient.{coefficient_of, dequantised, quantised, truncated};
 
 use gfx_dwt::Band;
@@ -76,12 +77,12 @@ pub fn truncate(v: i32, p: u8, band: Band) -> i32
     }
 }
 
-/// The value that is coded for a coefficient, in a band of this base.
+/// The value that is coded for a coefficient, in a band of this base, where it is rounded toward zero.
 pub fn quantise(c: i32, q: u8, band: Band) -> i32
     requires coefficient { IsCoefficient c }
     requires low { 6 ≤ q }
     requires high { q ≤ 15 }
-    ensures { result ≡ quantised band c q }
+    ensures { result ≡ quantised Zero band c q }
 {
     truncate(c, q - 1, band)
 }

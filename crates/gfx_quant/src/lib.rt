@@ -14,6 +14,7 @@ mod greys;
 mod halves;
 mod quant;
 mod quantising;
+mod rounding;
 mod rows;
 mod setting;
 
@@ -25,5 +26,6 @@ pub use dequantising::dequantise_plane;
 pub use gfx_dwt::Band;
 pub use quant::{Component, LEAST_BASE, MOST_BITS, Quant, check_base, quant_from, quant_to};
 pub use quantising::{cut_plane, quantise_plane, truncate_plane};
+pub use rounding::{Rounding, nearest_is_near, round};
 pub use rows::{to_colours, to_colours_narrow};
 pub use setting::{Level, Levels, MOST_FALL, MOST_LEVELS, Setting};

@@ -1,6 +1,7 @@
 ghost use Rattle.std.specs.Prelude.{◌≡◌, ◌≤◌, ◌<◌, ◌==◌, [], ◌∷◌, ◌++◌, length, slice_get, List, take};
 
 use crate::quant::Quant;
+use crate::rounding::Rounding;
 use gfx_dwt::Transform;
 use std::marker::Model;
 
@@ -95,11 +96,12 @@ impl Levels {
     }
 }
 
-/// How a server codes its progressive tiles: the transform, what each component's bands are quantised
-/// by, and the levels of quality before the last, which leaves nothing out.
+/// How a server codes its progressive tiles: the transform, how coefficients are quantised, what each
+/// component's bands are quantised by, and the levels of quality before the last, which leaves nothing out.
 #[derive(Debug, Drop)]
 pub struct Setting {
     pub transform: Transform,
+    pub rounding: Rounding,
     pub y: Quant,
     pub cb: Quant,
     pub cr: Quant,

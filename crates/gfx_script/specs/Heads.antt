@@ -11,6 +11,7 @@ use Rattle.gfx_caps.specs.Offers.{IsOffer, is_offer, small_of, thin_of}
 use Rattle.gfx_dwt.specs.declared.layout.Transform.TheVariants.{Reduced}
 use Rattle.gfx_quant.specs.declared.quant.Quant.{Quant}
 use Rattle.gfx_quant.specs.declared.setting.Level.{Level}
+use Rattle.gfx_quant.specs.declared.rounding.Rounding.TheVariants.{Nearest}
 use Rattle.gfx_quant.specs.declared.setting.Setting.{Setting}
 use Rattle.gfx_quant.specs.declared.setting.TheConstants.{MOST_LEVELS}
 use Rattle.gfx_quant.specs.Setting.{IsSetting, is_accepted}
@@ -38,7 +39,7 @@ is_setting setting =
     is_accepted setting
     && ((is_ten setting.y && (is_ten setting.cb && is_ten setting.cr)) && (list_all is_level setting.levels && nat_le (length setting.levels) MOST_LEVELS))
 
--- how paints are coded where a script says nothing
+-- how paints are coded where nothing is said; scripts in text round toward zero there
 abbrev pub usual_base : Quant
 usual_base = record { values = 6 ∷ 6 ∷ 6 ∷ 6 ∷ 6 ∷ 6 ∷ 6 ∷ 6 ∷ 6 ∷ 6 ∷ []; nibbles = refl }
 
@@ -49,7 +50,7 @@ abbrev pub usual_level : Level
 usual_level = record { y = usual_left_out; cb = usual_left_out; cr = usual_left_out }
 
 abbrev pub usual_setting : Setting
-usual_setting = record { transform = Reduced; y = usual_base; cb = usual_base; cr = usual_base; levels = usual_level ∷ [] }
+usual_setting = record { transform = Reduced; rounding = Nearest; y = usual_base; cb = usual_base; cr = usual_base; levels = usual_level ∷ [] }
 
 -- ---- heads
 
@@ -79,7 +80,7 @@ offer_chosen chosen = record { version = chosen.version; small = has_flag chosen
 abbrev pub ChosenAreOffers : Type 0
 ChosenAreOffers = (sets : List CapsSet) (chosen : Chosen) → choice sets ≡ Ok chosen → IsOffer (offer_chosen chosen)
 
--- the head for a client of a chosen version, as scripts have it that say nothing
+-- the head for a client of a chosen version, where nothing is said
 abbrev pub head_for : Chosen → HeadParts
 head_for chosen = record {
   window = USUAL_WINDOW;

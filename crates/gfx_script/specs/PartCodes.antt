@@ -13,6 +13,8 @@ use Rattle.gfx_caps.specs.declared.offer.Offer.{Offer}
 use Rattle.gfx_dwt.specs.declared.layout.Transform.{Transform}
 use Rattle.gfx_dwt.specs.declared.layout.Transform.TheVariants as transforms
 use Rattle.gfx_quant.specs.declared.quant.Quant.{Quant}
+use Rattle.gfx_quant.specs.declared.rounding.Rounding.{Rounding}
+use Rattle.gfx_quant.specs.declared.rounding.Rounding.TheVariants as roundings
 use Rattle.gfx_quant.specs.declared.setting.Level.{Level}
 use Rattle.gfx_quant.specs.declared.setting.Setting.{Setting}
 use Rattle.gfx_quant.specs.Quant.{are_nibbles}
@@ -211,6 +213,18 @@ abbrev same_transform : (transform : Transform) → plain_where (is_plain transf
 same_transform transforms.Plain = refl
 same_transform transforms.Reduced = refl
 
+abbrev is_zero : Rounding → Bool
+is_zero roundings.Zero = true
+is_zero roundings.Nearest = false
+
+abbrev zero_where : Bool → Rounding
+zero_where true = roundings.Zero
+zero_where false = roundings.Nearest
+
+abbrev same_rounding : (rounding : Rounding) → zero_where (is_zero rounding) ≡ rounding
+same_rounding roundings.Zero = refl
+same_rounding roundings.Nearest = refl
+
 abbrev quant_code : Coded Quant
 quant_code =
     code_by ((values : List ℕ) × IsTrue (are_nibbles values)) (coded_sub (coded_list coded_ℕ) (λ values. IsTrue (are_nibbles values)) (λ values. Bool-set (are_nibbles values) true))
@@ -223,10 +237,10 @@ level_code =
 
 abbrev setting_code : Coded Setting
 setting_code =
-    code_by (Transform × (Quant × (Quant × (Quant × List Level))))
-    (coded× (code_by Bool coded_bool is_plain plain_where same_transform) (coded× quant_code (coded× quant_code (coded× quant_code (coded_list level_code)))))
-    (λ s. (s.transform, (s.y, (s.cb, (s.cr, s.levels)))))
-    (λ t. record { transform = t.0; y = t.1.0; cb = t.1.1.0; cr = t.1.1.1.0; levels = t.1.1.1.1 }) (λ _. refl)
+    code_by (Transform × (Rounding × (Quant × (Quant × (Quant × List Level)))))
+    (coded× (code_by Bool coded_bool is_plain plain_where same_transform) (coded× (code_by Bool coded_bool is_zero zero_where same_rounding) (coded× quant_code (coded× quant_code (coded× quant_code (coded_list level_code))))))
+    (λ s. (s.transform, (s.rounding, (s.y, (s.cb, (s.cr, s.levels))))))
+    (λ t. record { transform = t.0; rounding = t.1.0; y = t.1.1.0; cb = t.1.1.1.0; cr = t.1.1.1.1.0; levels = t.1.1.1.1.1 }) (λ _. refl)
 
 abbrev is_one : Entropy → Bool
 is_one entropies.One = true

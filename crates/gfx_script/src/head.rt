@@ -21,7 +21,7 @@ use gfx_caps::{
     offers_small, offers_thin,
 };
 use gfx_dwt::Transform;
-use gfx_quant::{Level, Levels, MOST_LEVELS, Quant, Setting};
+use gfx_quant::{Level, Levels, MOST_LEVELS, Quant, Rounding, Setting};
 use std::alloc::Global;
 use std::marker::Model;
 
@@ -80,8 +80,8 @@ impl Head {
         Ok(Head { parts })
     }
 
-    /// The head for a client to which this version was confirmed, as scripts have it that say nothing: two frames in
-    /// flight, the usual setting, no differences, RLGR1.
+    /// The head for a client to which this version was confirmed: two frames in flight, the usual setting, no
+    /// differences, RLGR1. Scripts in text that say nothing have the same, but coefficients rounded toward zero.
     pub fn for_client(alloc: Global, chosen: Chosen) -> Result<Head, NoMemory>
         requires { IsOffer (offer_chosen chosen) }
         ensures { IfOk result (λ head. head ≡ head_for chosen) }
@@ -309,13 +309,14 @@ fn is_ten(quant: Quant) -> bool
     quant.values.len() == 10
 }
 
-/// How paints are coded where a script says nothing.
+/// How paints are coded where nothing is said.
 fn usual_setting() -> Setting
     ensures { result ≡ usual_setting }
 {
     let base = usual_base();
     Setting {
         transform: Transform::Reduced,
+        rounding: Rounding::Nearest,
         y: base,
         cb: base,
         cr: base,

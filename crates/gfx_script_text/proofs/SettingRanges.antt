@@ -7,6 +7,7 @@ use Rattle.toml.specs.Data.{Data, Members}
 use Rattle.gfx_base.specs.Results.{Has}
 use Rattle.gfx_base.proofs.ResultLemmas.{and_then_ok, chain, gives, check_ok, length-each}
 use Rattle.gfx_dwt.specs.declared.layout.Transform.{Transform}
+use Rattle.gfx_quant.specs.declared.rounding.Rounding.{Rounding}
 use Rattle.gfx_quant.specs.declared.quant.Component.{Component}
 use Rattle.gfx_quant.specs.declared.quant.Component.TheVariants.{Y, Cb, Cr}
 use Rattle.gfx_quant.specs.declared.quant.Quant.{Quant}
@@ -147,15 +148,15 @@ good_setting setting fine y cb cr levels = record {
   few = levels.few;
 }
 
-setting_with-good : (transform : Transform) (y cb cr levels : Option (List Data)) → Has (setting_with transform y cb cr levels) IsSetting
+setting_with-good : (transform : Transform) (rounding : Rounding) (y cb cr levels : Option (List Data)) → Has (setting_with transform rounding y cb cr levels) IsSetting
 unfolding setting_with accepted
-setting_with-good transform y cb cr levels =
+setting_with-good transform rounding y cb cr levels =
     chain _ _ IsSetting (λ bases found_bases.
     chain _ _ IsSetting (λ levels_in found_levels.
     chain _ _ IsSetting (λ fine is_fine.
     let tens = (bases_of-ten y cb cr).each bases found_bases in
     gives _ IsSetting
-    (good_setting record { transform = transform; y = bases.y; cb = bases.cb; cr = bases.cr; levels = levels_in } (check_ok Range _ is_fine) tens.y tens.cb tens.cr
+    (good_setting record { transform = transform; rounding = rounding; y = bases.y; cb = bases.cb; cr = bases.cr; levels = levels_in } (check_ok Range _ is_fine) tens.y tens.cb tens.cr
     ((levels_of-good bases levels).each levels_in found_levels)))))
 
 usual_setting-good : IsSetting usual_setting
@@ -171,13 +172,14 @@ unfolding progressive_in
 progressive_in-good table =
     chain _ _ HasSetting (λ known passed.
     chain _ _ HasSetting (λ transform found_transform.
+    chain _ _ HasSetting (λ rounding found_rounding.
     chain _ _ HasSetting (λ y found_y.
     chain _ _ HasSetting (λ cb found_cb.
     chain _ _ HasSetting (λ cr found_cr.
     chain _ _ HasSetting (λ levels found_levels.
     chain _ _ HasSetting (λ differences found_differences.
     chain _ _ HasSetting (λ setting found_setting.
-    gives _ HasSetting ((setting_with-good transform y cb cr levels).each setting found_setting)))))))))
+    gives _ HasSetting ((setting_with-good transform rounding y cb cr levels).each setting found_setting))))))))))
 
 pub progressive_of-good : (table : Option Members) → Has (progressive_of table) HasSetting
 unfolding progressive_of

@@ -10,6 +10,8 @@ use Rattle.gfx_dwt.specs.declared.layout.Transform.{Transform}
 use Rattle.gfx_dwt.specs.declared.layout.Transform.TheVariants.{Plain, Reduced}
 use Rattle.gfx_quant.specs.declared.quant.Quant.{Quant}
 use Rattle.gfx_quant.specs.declared.quant.TheConstants.{LEAST_BASE, MOST_BITS}
+use Rattle.gfx_quant.specs.declared.rounding.Rounding.{Rounding}
+use Rattle.gfx_quant.specs.declared.rounding.Rounding.TheVariants.{Zero, Nearest}
 use Rattle.gfx_quant.specs.declared.setting.Level.{Level}
 use Rattle.gfx_quant.specs.declared.setting.Setting.{Setting}
 use Rattle.gfx_quant.specs.declared.setting.TheConstants.{MOST_LEVELS}
@@ -37,7 +39,7 @@ usual_level = record { y = usual_left_out; cb = usual_left_out; cr = usual_left_
 
 -- how paints are coded without `progressive`
 abbrev pub usual_setting : Setting
-usual_setting = record { transform = Reduced; y = usual_base; cb = usual_base; cr = usual_base; levels = usual_level ∷ [] }
+usual_setting = record { transform = Reduced; rounding = Zero; y = usual_base; cb = usual_base; cr = usual_base; levels = usual_level ∷ [] }
 
 abbrev pub usual_progressive : Progressive
 usual_progressive = record { setting = usual_setting; differences = false }
@@ -57,6 +59,20 @@ transform_or_usual None = Ok Reduced
 transform_or_usual (Some value) = do
   word ← ok_or (as_str value) Key
   transform_named word
+
+-- the rounding that a word names
+abbrev pub rounding_named : List ℕ → Result Rounding ScriptKind
+rounding_named word =
+    if bytes_eq word (codes "zero") then Ok Zero
+    else if bytes_eq word (codes "nearest") then Ok Nearest
+    else Err Key
+
+-- the rounding, which may be missing
+abbrev pub rounding_or_usual : Option Data → Result Rounding ScriptKind
+rounding_or_usual None = Ok Zero
+rounding_or_usual (Some value) = do
+  word ← ok_or (as_str value) Key
+  rounding_named word
 
 -- the array of whole numbers that may be missing
 abbrev pub numbers_if_any : Option Data → Result (Option (List Data)) ScriptKind
@@ -167,23 +183,24 @@ accepted setting = do
   Ok setting
 
 -- the setting of these parts, whose types are right
-unfoldable pub setting_with : Transform → Option (List Data) → Option (List Data) → Option (List Data) → Option (List Data) → Result Setting ScriptKind
-setting_with transform y cb cr levels = do
+unfoldable pub setting_with : Transform → Rounding → Option (List Data) → Option (List Data) → Option (List Data) → Option (List Data) → Result Setting ScriptKind
+setting_with transform rounding y cb cr levels = do
   bases ← bases_of y cb cr
   levels ← levels_of bases levels
-  accepted record { transform = transform; y = bases.y; cb = bases.cb; cr = bases.cr; levels = levels }
+  accepted record { transform = transform; rounding = rounding; y = bases.y; cb = bases.cb; cr = bases.cr; levels = levels }
 
 -- what a table says
 unfoldable pub progressive_in : Members → Result Progressive ScriptKind
 progressive_in table = do
-  known ← check Key (has_only (codes "transform" ∷ codes "y" ∷ codes "cb" ∷ codes "cr" ∷ codes "level" ∷ codes "difference" ∷ []) table)
+  known ← check Key (has_only (codes "transform" ∷ codes "rounding" ∷ codes "y" ∷ codes "cb" ∷ codes "cr" ∷ codes "level" ∷ codes "difference" ∷ []) table)
   transform ← transform_or_usual (get_member (codes "transform") table)
+  rounding ← rounding_or_usual (get_member (codes "rounding") table)
   y ← numbers_if_any (get_member (codes "y") table)
   cb ← numbers_if_any (get_member (codes "cb") table)
   cr ← numbers_if_any (get_member (codes "cr") table)
   levels ← items_if_any (get_member (codes "level") table)
   differences ← flag_or_false (get_member (codes "difference") table)
-  setting ← setting_with transform y cb cr levels
+  setting ← setting_with transform rounding y cb cr levels
   Ok record { setting = setting; differences = differences }
 
 -- the same of the table under `progressive`, if there is one

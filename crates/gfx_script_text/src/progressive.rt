@@ -4,14 +4,14 @@ ghost use Rattle.std.specs.Prelude.{◌≡◌, map, option_map, codes};
 ghost use Rattle.gfx_base.specs.Outcome.{Says};
 ghost use Rattle.toml.specs.Data.{get_member};
 ghost use Rattle.toml.specs.View.{table_view, view};
-ghost use Rattle.gfx_script_text.specs.Progressive.{usual_base, usual_progressive, transform_named, transform_or_usual, numbers_if_any, base_of, bases_of, accepted, setting_with, progressive_in, progressive_of};
+ghost use Rattle.gfx_script_text.specs.Progressive.{usual_base, usual_progressive, transform_named, transform_or_usual, rounding_named, rounding_or_usual, numbers_if_any, base_of, bases_of, accepted, setting_with, progressive_in, progressive_of};
 
 use crate::bands::quant_of;
 use crate::levels::{Bases, levels_of, usual_levels};
 use crate::members::{check_keys, flag_or_false, items_if_any, items_in, member};
 use crate::places::all_whole;
 use gfx_dwt::Transform;
-use gfx_quant::{LEAST_BASE, MOST_BITS, Quant, Setting};
+use gfx_quant::{LEAST_BASE, MOST_BITS, Quant, Rounding, Setting};
 use gfx_script::ScriptKind;
 use toml::{Table, Value};
 
@@ -41,6 +41,7 @@ fn usual_progressive() -> Progressive
     Progressive {
         setting: Setting {
             transform: Transform::Reduced,
+            rounding: Rounding::Zero,
             y: usual_base(),
             cb: usual_base(),
             cr: usual_base(),
@@ -57,15 +58,24 @@ fn progressive_in(table: &Table) -> Result<Progressive, ScriptKind>
 {
     check_keys(
         table,
-        &["transform", "y", "cb", "cr", "level", "difference"],
+        &[
+            "transform",
+            "rounding",
+            "y",
+            "cb",
+            "cr",
+            "level",
+            "difference",
+        ],
     )?;
     let transform = read_transform(table)?;
+    let rounding = read_rounding(table)?;
     let y = numbers_if_any(table, "y")?;
     let cb = numbers_if_any(table, "cb")?;
     let cr = numbers_if_any(table, "cr")?;
     let levels = items_if_any(table, "level")?;
     let differences = flag_or_false(table, "difference")?;
-    let setting = setting_with(transform, y, cb, cr, levels)?;
+    let setting = setting_with(transform, rounding, y, cb, cr, levels)?;
     Ok(Progressive {
         setting,
         differences,
@@ -76,17 +86,19 @@ fn progressive_in(table: &Table) -> Result<Progressive, ScriptKind>
 #[tactic(auto, unfolding(crate::specs::Progressive::setting_with, gfx_base::specs::Results::and_then))]
 fn setting_with(
     transform: Transform,
+    rounding: Rounding,
     y: Option<&[Value]>,
     cb: Option<&[Value]>,
     cr: Option<&[Value]>,
     levels: Option<&[Value]>,
 ) -> Result<Setting, ScriptKind>
-    ensures { result ≡ setting_with transform (option_map (λ x. map view x.now) y.entry) (option_map (λ x. map view x.now) cb.entry) (option_map (λ x. map view x.now) cr.entry) (option_map (λ x. map view x.now) levels.entry) }
+    ensures { result ≡ setting_with transform rounding (option_map (λ x. map view x.now) y.entry) (option_map (λ x. map view x.now) cb.entry) (option_map (λ x. map view x.now) cr.entry) (option_map (λ x. map view x.now) levels.entry) }
 {
     let bases = bases_of(y, cb, cr)?;
     let levels = levels_of(bases, levels)?;
     accepted(Setting {
         transform,
+        rounding,
         y: bases.y,
         cb: bases.cb,
         cr: bases.cr,
@@ -125,6 +137,29 @@ fn transform_named(word: &str) -> Result<Transform, ScriptKind>
     match word {
         "plain" => Ok(Transform::Plain),
         "reduced" => Ok(Transform::Reduced),
+        _ => Err(ScriptKind::Key),
+    }
+}
+
+/// The rounding, which may be missing.
+#[tactic(auto, unfolding(gfx_base::specs::Results::and_then))]
+fn read_rounding(table: &Table) -> Result<Rounding, ScriptKind>
+    ensures { result ≡ rounding_or_usual (get_member (codes "rounding") (table_view table.now)) }
+{
+    match member(table, "rounding") {
+        None => Ok(Rounding::Zero),
+        Some(Value::String(word)) => rounding_named(word.as_str()),
+        Some(_) => Err(ScriptKind::Key),
+    }
+}
+
+/// The rounding that a word names.
+fn rounding_named(word: &str) -> Result<Rounding, ScriptKind>
+    ensures { result ≡ rounding_named word.now }
+{
+    match word {
+        "zero" => Ok(Rounding::Zero),
+        "nearest" => Ok(Rounding::Nearest),
         _ => Err(ScriptKind::Key),
     }
 }

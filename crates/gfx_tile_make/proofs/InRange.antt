@@ -1,16 +1,20 @@
 -- The sums of a tile stay in range, and its values are small.
-use Rattle.std.proofs.Common.{◌≡◌, ◌∙◌, ℕ, zero, suc, ◌+◌, ◌-◌, ◌*◌, ◌/◌, ◌^◌, ◌<◌, ◌≤◌, true, ℤ, pos, negsuc, neg_ℤ, ◌*ℤ◌, refl, sym, ap, subst, arith, lit<}
+use Rattle.std.proofs.Common.{◌≡◌, ◌∙◌, ℕ, zero, suc, ◌+◌, ◌-◌, ◌*◌, ◌/◌, ◌^◌, ◌<◌, ◌≤◌, true, ℤ, pos, negsuc, neg_ℤ, ◌*ℤ◌, refl, sym, ap, subst, arith, lit<, mul-div_cancel}
 use Rattle.std.specs.Prelude.{int_div}
 use Rattle.std.specs.Int.{int_shr}
+use Rattle.std.specs.Int.Signed.{shr_z}
 use Rattle.std.proofs.lemmas.Int.{ints}
-use Rattle.std.proofs.lemmas.Nat.{pow-add, pow_pos}
+use Rattle.std.proofs.lemmas.Nat.{le-div, pow-add, pow_pos}
 use Rattle.std.proofs.lemmas.List.{get_or-replicate}
 use Rattle.std.proofs.Math.Nat.{div-mul-le_self, div-lt_iff_lt-mul, mul-le-mul_left, mul-le-mul_right, pow-le-pow_right, zero-div}
 use Rattle.std.proofs.Math.IntN.{pos-*ℤ-pos, negsuc-*ℤ-pos}
 use Rattle.gfx_dwt.specs.declared.layout.Band.{Band}
 use Rattle.gfx_dwt.specs.declared.layout.Band.TheVariants.{Ll3}
 use Rattle.gfx_dwt.specs.Ranges.{IsCoefficient, Within, at}
+use Rattle.gfx_quant.specs.declared.rounding.Rounding.{Rounding}
+use Rattle.gfx_quant.specs.declared.rounding.Rounding.TheVariants.{Zero, Nearest}
 use Rattle.gfx_quant.specs.Coefficient.{coefficient_of, cut, is_coefficient, quantised, truncated}
+use Rattle.gfx_quant.proofs.Nearest.{nearest_fits}
 use Rattle.gfx_tile_state.specs.Passes.{blank}
 use Rattle.gfx_tile_state.proofs.Places.{is-coefficient, tests}
 use Rattle.gfx_tile_make.proofs.Gains.{two-steps, minus-times}
@@ -71,12 +75,41 @@ cut-coefficient : (z : ℤ) → IsCoefficient (cut z)
 cut-coefficient (pos n) = record { least = omega (arith, ints); most = omega (arith, ints) }
 cut-coefficient (negsuc n) = record { least = omega (arith, ints); most = omega (arith, ints) }
 
+-- so the sum of a coefficient's value at a level is in range
+twice-fits : (band : Band) (c : ℤ) (base level : ℕ) → 1 ≤ base → base + level ≤ 15 → IsCoefficient c → is_coefficient (coefficient_of (truncated band (truncated band c (base - 1)) level) (base + level)) ≡ true
+twice-fits band c base level some h l =
+    ap (λ v. is_coefficient (coefficient_of v (base + level))) (truncated-twice band c (base - 1) level)
+    ∙ ap (λ n. is_coefficient (truncated band c n *ℤ pos (2 ^ (base + level - 1)))) {x = base - 1 + level} {y = base + level - 1} (omega arith)
+    ∙ tests _ (kept-small band c (base + level - 1) (omega arith) l)
+
+-- a multiple and its quotient
+floor-back : (v : ℤ) (d : ℕ) → 0 < d → shr_z (v *ℤ pos d) d ≡ v
+floor-back (pos n) d some = ap (λ q. pos q) (mul-div_cancel n some)
+floor-back (negsuc n) d some =
+    let e : suc n * d ≡ suc (suc n * d - 1) = omega arith in
+    let least : n ≤ (suc n * d - 1) / d = le-div n (suc n * d - 1) d some (omega arith) in
+    let most : (suc n * d - 1) / d < suc n = (div-lt_iff_lt-mul some).1 (omega arith) in
+    rw (negsuc-*ℤ-pos n d, e) (ap negsuc {x = (suc n * d - 1) / d} {y = n} (omega arith))
+
+quotient-back : (v : ℤ) (d : ℕ) → 0 < d → int_div (v *ℤ pos d) (pos d) ≡ v
+quotient-back (pos n) d some = ap (λ q. pos q) (mul-div_cancel n some)
+quotient-back (negsuc n) d some = rw (negsuc-*ℤ-pos n d) (quotient-minus (suc n * d) d ∙ ap (λ q. neg_ℤ (pos q)) (mul-div_cancel (suc n) some))
+
+truncated-back : (band : Band) (v : ℤ) (e : ℕ) → truncated band (v *ℤ pos (2 ^ e)) e ≡ v
+unfolding truncated
+truncated-back Ll3 v e = floor-back v (2 ^ e) (pow_pos e)
+truncated-back _ v e = quotient-back v (2 ^ e) (pow_pos e)
+
+-- the sum at a level of a value that has a coefficient
+value-fits : (band : Band) (v : ℤ) (base level : ℕ) → 1 ≤ base → base + level ≤ 15 → IsCoefficient (coefficient_of v base) → is_coefficient (coefficient_of (truncated band v level) (base + level)) ≡ true
+value-fits band v base level some h l =
+    ap (λ z. is_coefficient (coefficient_of (truncated band z level) (base + level))) (sym (truncated-back band v (base - 1)))
+    ∙ twice-fits band (coefficient_of v base) base level some h l
+
 -- the sum of a quantised coefficient at a level is in range
-pub quantised-fits : (band : Band) (z : ℤ) (base level : ℕ) → 1 ≤ base → base + level ≤ 15 → is_coefficient (coefficient_of (truncated band (quantised band (cut z) base) level) (base + level)) ≡ true
-quantised-fits band z base level some h =
-    ap (λ v. is_coefficient (coefficient_of v (base + level))) (truncated-twice band (cut z) (base - 1) level)
-    ∙ ap (λ n. is_coefficient (truncated band (cut z) n *ℤ pos (2 ^ (base + level - 1)))) {x = base - 1 + level} {y = base + level - 1} (omega arith)
-    ∙ tests _ (kept-small band (cut z) (base + level - 1) (omega arith) (cut-coefficient z))
+pub quantised-fits : (rounding : Rounding) (band : Band) (z : ℤ) (base level : ℕ) → 2 ≤ base → base + level ≤ 15 → is_coefficient (coefficient_of (truncated band (quantised rounding band (cut z) base) level) (base + level)) ≡ true
+quantised-fits Zero band z base level some h = twice-fits band (cut z) base level (omega arith) h (cut-coefficient z)
+quantised-fits Nearest band z base level some h = value-fits band (quantised Nearest band (cut z) base) base level (omega arith) h (nearest_fits band (cut z) base some (omega arith) (cut-coefficient z))
 
 -- ---- values are small
 

@@ -12,6 +12,7 @@ use Rattle.gfx_dwt.specs.declared.layout.Band.TheVariants.{Hl1, Lh1, Hh1, Hl2, L
 use Rattle.gfx_dwt.specs.Coefficients.{transformed}
 use Rattle.gfx_dwt.specs.Place.{LiesIn, coefficient, columns, rows, start}
 use Rattle.gfx_dwt.specs.Ranges.{at}
+use Rattle.gfx_quant.specs.declared.rounding.Rounding.{Rounding}
 use Rattle.gfx_quant.specs.Coefficient.{cut, quantised}
 use Rattle.gfx_quant.specs.Planes.{EachIs, MapsBands}
 use Rattle.gfx_quant.specs.Quant.{value_of}
@@ -52,21 +53,21 @@ by-row t band plane k lies =
     ap (at plane) {x = start t band + ((k - start t band) / columns t band * columns t band + (k - start t band) % columns t band)} {y = k} (omega (arith, div-add-mod' (k - start t band) (columns t band), lies.0))
 
 -- transformed, cut and quantised: the plane of the definition
-pub quantised-is : (t : Transform) (base : List ℕ) (samples forward cuts out : List ℤ)
+pub quantised-is : (rounding : Rounding) (t : Transform) (base : List ℕ) (samples forward cuts out : List ℤ)
     → ((band : Band) (row column : ℕ) → row < rows t band → column < columns t band → coefficient t forward band row column ≡ transformed t samples band row column)
-    → ((k : ℕ) → k < 4096 → at cuts k ≡ cut (at forward k)) → MapsBands t (λ band c. quantised band c (value_of base band)) cuts out → length out ≡ 4096
-    → out ≡ quantised_samples t base samples
+    → ((k : ℕ) → k < 4096 → at cuts k ≡ cut (at forward k)) → MapsBands t (λ band c. quantised rounding band c (value_of base band)) cuts out → length out ≡ 4096
+    → out ≡ quantised_samples rounding t base samples
 unfolding quantised_at quantised_in
-quantised-is t base samples forward cuts out is cutting maps long =
-    same-planes out (quantised_samples t base samples) 4096 long (quantised-whole t base samples) (λ k h. here k h ∙ sym (at-quantised t base samples k h))
+quantised-is rounding t base samples forward cuts out is cutting maps long =
+    same-planes out (quantised_samples rounding t base samples) 4096 long (quantised-whole rounding t base samples) (λ k h. here k h ∙ sym (at-quantised rounding t base samples k h))
   where
-    here : (k : ℕ) → k < 4096 → at out k ≡ quantised_at t base samples k
+    here : (k : ℕ) → k < 4096 → at out k ≡ quantised_at rounding t base samples k
     here k h =
         let band : Band = band_at t k in
         let lies : LiesIn t band k = lies-at t k h in
         let i : ℕ = k - start t band in
         maps band k lies
-        ∙ ap (λ z. quantised band z (value_of base band)) (cutting k h ∙ ap cut (sym (by-row t band forward k lies) ∙ is band (i / columns t band) (i % columns t band) (in-rows t band k lies) (mod_below i (columns t band) (some-columns t band))))
+        ∙ ap (λ z. quantised rounding band z (value_of base band)) (cutting k h ∙ ap cut (sym (by-row t band forward k lies) ∙ is band (i / columns t band) (i % columns t band) (in-rows t band k lies) (mod_below i (columns t band) (some-columns t band))))
 
 -- the samples of pixels
 pub samples-are : (sample : Pixel → ℤ) (pixels : List Pixel) (samples : List ℤ) → length pixels ≡ 4096 → length samples ≡ 4096 → EachIs sample pixels samples → samples ≡ map sample pixels

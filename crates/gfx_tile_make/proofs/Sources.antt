@@ -14,6 +14,7 @@ use Rattle.gfx_dwt.specs.Ranges.{Within, at}
 use Rattle.gfx_dwt.specs.Samples.{sample}
 use Rattle.gfx_quant.specs.declared.quant.Component.{Component}
 use Rattle.gfx_quant.specs.declared.quant.Component.TheVariants.{Y, Cb, Cr}
+use Rattle.gfx_quant.specs.declared.rounding.Rounding.{Rounding}
 use Rattle.gfx_quant.specs.declared.setting.Setting.{Setting}
 use Rattle.gfx_quant.specs.Coefficient.{coefficient_of, is_coefficient, truncated}
 use Rattle.gfx_quant.specs.Colour.{colour_of}
@@ -68,13 +69,13 @@ sent-within source component k may h =
 
 -- ---- tiles of pixels
 
-pub quantised-whole : (t : Transform) (base : List ℕ) (samples : List ℤ) → length (quantised_samples t base samples) ≡ 4096
+pub quantised-whole : (rounding : Rounding) (t : Transform) (base : List ℕ) (samples : List ℤ) → length (quantised_samples rounding t base samples) ≡ 4096
 unfolding quantised_samples
-quantised-whole t base samples = length-map-range_with_len (quantised_at t base samples) 0 4096
+quantised-whole rounding t base samples = length-map-range_with_len (quantised_at rounding t base samples) 0 4096
 
-pub at-quantised : (t : Transform) (base : List ℕ) (samples : List ℤ) (k : ℕ) → k < 4096 → at (quantised_samples t base samples) k ≡ quantised_at t base samples k
+pub at-quantised : (rounding : Rounding) (t : Transform) (base : List ℕ) (samples : List ℤ) (k : ℕ) → k < 4096 → at (quantised_samples rounding t base samples) k ≡ quantised_at rounding t base samples k
 unfolding quantised_samples
-at-quantised t base samples k h = get_or-map-range_with_len (quantised_at t base samples) 0 4096 k k (pos 0) h (omega arith)
+at-quantised rounding t base samples k h = get_or-map-range_with_len (quantised_at rounding t base samples) 0 4096 k k (pos 0) h (omega arith)
 
 minus-nothing : (z : ℤ) → z -ℤ pos 0 ≡ z
 minus-nothing z = omega (arith, ints)
@@ -91,24 +92,24 @@ blank-kept t base =
     sym (is-by_band t (λ band v. coefficient_of v (value_of base band)) blank blank (length-replicate 4096 (pos 0)) (length-replicate 4096 (pos 0))
     (λ k h. at-blank k h ∙ sym (ap (λ v. coefficient_of v (value_of base (band_at t k))) (at-blank k h) ∙ nothing-of (value_of base (band_at t k)))))
 
-quantised-sum : (t : Transform) (base level : List ℕ) (samples : List ℤ) (k : ℕ) → k < 4096 → 1 ≤ value_of base (band_at t k) → value_of base (band_at t k) + value_of level (band_at t k) ≤ 15
-    → is_coefficient (at (record_by t base level (plain (quantised_samples t base samples))).sums k) ≡ true
+quantised-sum : (rounding : Rounding) (t : Transform) (base level : List ℕ) (samples : List ℤ) (k : ℕ) → k < 4096 → 2 ≤ value_of base (band_at t k) → value_of base (band_at t k) + value_of level (band_at t k) ≤ 15
+    → is_coefficient (at (record_by t base level (plain (quantised_samples rounding t base samples))).sums k) ≡ true
 unfolding quantised_at quantised_in
-quantised-sum t base level samples k h some most =
+quantised-sum rounding t base level samples k h some most =
     let band : Band = band_at t k in
-    let own : List ℤ = quantised_samples t base samples in
+    let own : List ℤ = quantised_samples rounding t base samples in
     ap is_coefficient
-    (ap (λ l. at (by_band t (summed_at base level) l) k) (plain-sent own (quantised-whole t base samples))
-    ∙ at-by_band t (summed_at base level) own k (omega (arith, quantised-whole t base samples))
-    ∙ ap (summed_at base level band) (at-quantised t base samples k h))
-    ∙ quantised-fits band (transformed t samples band ((k - start t band) / columns t band) ((k - start t band) % columns t band)) (value_of base band) (value_of level band) some most
+    (ap (λ l. at (by_band t (summed_at base level) l) k) (plain-sent own (quantised-whole rounding t base samples))
+    ∙ at-by_band t (summed_at base level) own k (omega (arith, quantised-whole rounding t base samples))
+    ∙ ap (summed_at base level band) (at-quantised rounding t base samples k h))
+    ∙ quantised-fits rounding band (transformed t samples band ((k - start t band) / columns t band) ((k - start t band) % columns t band)) (value_of base band) (value_of level band) some most
 
-plain-stays : (t : Transform) (base level : List ℕ) (samples : List ℤ) → AreWithin 6 15 base → ((k : ℕ) → k < 10 → slice_index base k + slice_index level k ≤ 15)
-    → StaysWithin (record_by t base level (plain (quantised_samples t base samples)))
-plain-stays t base level samples wide most k h =
+plain-stays : (rounding : Rounding) (t : Transform) (base level : List ℕ) (samples : List ℤ) → AreWithin 6 15 base → ((k : ℕ) → k < 10 → slice_index base k + slice_index level k ≤ 15)
+    → StaysWithin (record_by t base level (plain (quantised_samples rounding t base samples)))
+plain-stays rounding t base level samples wide most k h =
     let band : Band = band_at t k in
-    let sum = quantised-sum t base level samples k h (omega (arith, (wide (number band) (few band)).0)) (most (number band) (few band)) in
-    let sums : List ℤ = (record_by t base level (plain (quantised_samples t base samples))).sums in
+    let sum = quantised-sum rounding t base level samples k h (omega (arith, (wide (number band) (few band)).0)) (most (number band) (few band)) in
+    let sums : List ℤ = (record_by t base level (plain (quantised_samples rounding t base samples))).sums in
     (sum, ap is_coefficient (ap (λ l. at l k +ℤ at sums k) (blank-kept t base) ∙ ap (λ z. z +ℤ at sums k) (at-blank k h) ∙ +ℤ_idl (at sums k)) ∙ sum)
 
 pub plain-may : (setting : Setting) (pixels : List Pixel) → is_accepted setting ≡ true → ((component : Component) → length (base_of component setting) ≡ 10) → MayBeSent (source_of setting pixels)
@@ -121,9 +122,9 @@ plain-may setting pixels ok ten = record {
 }
   where
     own : (component : Component) → length (planes_of (source_of setting pixels) component).own ≡ 4096
-    own Y = quantised-whole _ _ _
-    own Cb = quantised-whole _ _ _
-    own Cr = quantised-whole _ _ _
+    own Y = quantised-whole _ _ _ _
+    own Cb = quantised-whole _ _ _ _
+    own Cr = quantised-whole _ _ _ _
 
     kept : (component : Component) → length (planes_of (source_of setting pixels) component).kept ≡ 4096
     kept Y = length-replicate 4096 (pos 0)
@@ -131,9 +132,9 @@ plain-may setting pixels ok ten = record {
     kept Cr = length-replicate 4096 (pos 0)
 
     fits : (component : Component) (level : ℕ) → level ≤ length setting.levels → StaysWithin (record_at (source_of setting pixels) component level)
-    fits Y level h = plain-stays _ _ _ _ (bases-within setting Y ok (ten Y)) (within-all setting Y level ok)
-    fits Cb level h = plain-stays _ _ _ _ (bases-within setting Cb ok (ten Cb)) (within-all setting Cb level ok)
-    fits Cr level h = plain-stays _ _ _ _ (bases-within setting Cr ok (ten Cr)) (within-all setting Cr level ok)
+    fits Y level h = plain-stays _ _ _ _ _ (bases-within setting Y ok (ten Y)) (within-all setting Y level ok)
+    fits Cb level h = plain-stays _ _ _ _ _ (bases-within setting Cb ok (ten Cb)) (within-all setting Cb level ok)
+    fits Cr level h = plain-stays _ _ _ _ _ (bases-within setting Cr ok (ten Cr)) (within-all setting Cr level ok)
 
 -- ---- the last level
 

@@ -8,6 +8,7 @@ use Rattle.gfx_dwt.specs.Coefficients.{transformed}
 use Rattle.gfx_dwt.specs.Place.{columns, start}
 use Rattle.gfx_quant.specs.declared.quant.Component.{Component}
 use Rattle.gfx_quant.specs.declared.quant.Component.TheVariants.{Y, Cb, Cr}
+use Rattle.gfx_quant.specs.declared.rounding.Rounding.{Rounding}
 use Rattle.gfx_quant.specs.declared.setting.Setting.{Setting}
 use Rattle.gfx_quant.specs.Coefficient.{cut, quantised}
 use Rattle.gfx_quant.specs.Colour.{luma, chroma_blue, chroma_red}
@@ -22,18 +23,18 @@ sample_of Cb = chroma_blue
 sample_of Cr = chroma_red
 
 -- the value of a place i of a band: its coefficient, cut to 16 bits, by the base of its band
-unfoldable pub quantised_in : Transform → List ℕ → List ℤ → Band → ℕ → ℤ
-quantised_in t base samples band i =
-    quantised band (cut (transformed t samples band (i / columns t band) (i % columns t band))) (value_of base band)
+unfoldable pub quantised_in : Rounding → Transform → List ℕ → List ℤ → Band → ℕ → ℤ
+quantised_in rounding t base samples band i =
+    quantised rounding band (cut (transformed t samples band (i / columns t band) (i % columns t band))) (value_of base band)
 
 -- the value of a place of the plane
-unfoldable pub quantised_at : Transform → List ℕ → List ℤ → ℕ → ℤ
-quantised_at t base samples k = quantised_in t base samples (band_at t k) (k - start t (band_at t k))
+unfoldable pub quantised_at : Rounding → Transform → List ℕ → List ℤ → ℕ → ℤ
+quantised_at rounding t base samples k = quantised_in rounding t base samples (band_at t k) (k - start t (band_at t k))
 
 -- the values of some samples, row by row
-unfoldable pub quantised_samples : Transform → List ℕ → List ℤ → List ℤ
-quantised_samples t base samples = map (quantised_at t base samples) (range_with_len 0 4096)
+unfoldable pub quantised_samples : Rounding → Transform → List ℕ → List ℤ → List ℤ
+quantised_samples rounding t base samples = map (quantised_at rounding t base samples) (range_with_len 0 4096)
 
 -- the quantised values of a component of a tile
 abbrev pub quantised_plane : Setting → Component → List Pixel → List ℤ
-quantised_plane setting component pixels = quantised_samples setting.transform (base_of component setting) (map (sample_of component) pixels)
+quantised_plane setting component pixels = quantised_samples setting.rounding setting.transform (base_of component setting) (map (sample_of component) pixels)

@@ -7,7 +7,7 @@ ghost use Rattle.gfx_tile_make.specs.Source.{onto, plain, sent};
 use crate::planes::{store, subtract};
 use gfx_base::NoMemory;
 use gfx_dwt::{Transform, forward_with};
-use gfx_quant::{Quant, cut_plane, quantise_plane};
+use gfx_quant::{Quant, Rounding, cut_plane, quantise_plane};
 use std::alloc::Global;
 use std::marker::Model;
 
@@ -35,6 +35,7 @@ impl SourcePart {
     /// afterwards.
     pub fn from_samples(
         alloc: Global,
+        rounding: Rounding,
         samples: &mut [i32; 4096],
         transform: Transform,
         base: &Quant,
@@ -42,11 +43,11 @@ impl SourcePart {
     ) -> Result<Self, NoMemory>
         requires samples { AllSamples samples.old }
         requires base { IsTrue (is_base base.now.values) }
-        ensures { IfOk result (λ part. part ≡ plain (quantised_samples transform base.now.values samples.old)) }
+        ensures { IfOk result (λ part. part ≡ plain (quantised_samples rounding transform base.now.values samples.old)) }
     {
         forward_with(samples, transform, tmp);
         cut_plane(samples);
-        quantise_plane(samples, transform, base, tmp);
+        quantise_plane(rounding, samples, transform, base, tmp);
         let mut own = vec![in alloc; 0i16; 4096]?;
         put(tmp, &mut own);
         Ok(SourcePart {

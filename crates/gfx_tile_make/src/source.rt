@@ -56,12 +56,27 @@ impl SourceTile {
         let mut cr = [0; 4096];
         let mut tmp = [0; 4096];
         from_colours(pixels, &mut y, &mut cb, &mut cr);
+        let rounding = setting.rounding;
         let transform = setting.transform;
         Ok(SourceTile {
             setting: copy_of(setting),
-            y: SourcePart::from_samples(alloc, &mut y, transform, &setting.y, &mut tmp)?,
-            cb: SourcePart::from_samples(alloc, &mut cb, transform, &setting.cb, &mut tmp)?,
-            cr: SourcePart::from_samples(alloc, &mut cr, transform, &setting.cr, &mut tmp)?,
+            y: SourcePart::from_samples(alloc, rounding, &mut y, transform, &setting.y, &mut tmp)?,
+            cb: SourcePart::from_samples(
+                alloc,
+                rounding,
+                &mut cb,
+                transform,
+                &setting.cb,
+                &mut tmp,
+            )?,
+            cr: SourcePart::from_samples(
+                alloc,
+                rounding,
+                &mut cr,
+                transform,
+                &setting.cr,
+                &mut tmp,
+            )?,
             difference: false,
         })
     }
@@ -199,6 +214,7 @@ fn copy_of(setting: &Setting) -> Setting
 {
     Setting {
         transform: setting.transform,
+        rounding: setting.rounding,
         y: setting.y,
         cb: setting.cb,
         cr: setting.cr,

@@ -23,6 +23,7 @@ pub(crate) fn video_setting(setting: &Setting) -> Setting
 {
     Setting {
         transform: Transform::Plain,
+        rounding: setting.rounding,
         y: setting.y,
         cb: setting.cb,
         cr: setting.cr,

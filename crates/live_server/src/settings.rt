@@ -7,7 +7,7 @@ use crate::bodies::BodyFault;
 use gfx_caps::{Chosen, VERSION_10};
 use gfx_dwt::Transform;
 use gfx_layout::{Fields, Stop};
-use gfx_quant::{Level, Levels, MOST_LEVELS, Quant, Setting, quant_from};
+use gfx_quant::{Level, Levels, MOST_LEVELS, Quant, Rounding, Setting, quant_from};
 use gfx_script::{Entropy, Flaw, Head, ScriptKind, USUAL_WINDOW};
 use gfx_session::Digests;
 use std::alloc::Global;
@@ -77,6 +77,7 @@ impl Settings {
 fn copy_of(setting: &Setting) -> Setting {
     Setting {
         transform: setting.transform,
+        rounding: setting.rounding,
         y: setting.y,
         cb: setting.cb,
         cr: setting.cr,
@@ -108,12 +109,14 @@ fn read_settings(body: &[u8]) -> Result<Settings, BodyFault> {
 /// Reads how progressive paints are coded, to the end.
 fn read_setting(fields: &mut Fields<'_>) -> Result<Setting, BodyFault> {
     let transform = transform_of(fields.u8()?)?;
+    let rounding = rounding_of(fields.u8()?)?;
     let y = read_quant(fields)?;
     let cb = read_quant(fields)?;
     let cr = read_quant(fields)?;
     let levels = read_levels(fields)?;
     Ok(Setting {
         transform,
+        rounding,
         y,
         cb,
         cr,
@@ -165,6 +168,14 @@ fn transform_of(number: u8) -> Result<Transform, ScriptKind> {
     match number {
         0 => Ok(Transform::Plain),
         1 => Ok(Transform::Reduced),
+        _ => Err(ScriptKind::Range),
+    }
+}
+
+fn rounding_of(number: u8) -> Result<Rounding, ScriptKind> {
+    match number {
+        0 => Ok(Rounding::Zero),
+        1 => Ok(Rounding::Nearest),
         _ => Err(ScriptKind::Range),
     }
 }

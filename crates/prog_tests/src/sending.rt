@@ -4,7 +4,7 @@ ghost use Rattle.std.specs.Prelude.{◌≡◌, ◌∷◌, [], IfSome, length};
 use gfx_base::{Bytes, Cell, Pixel, Rect};
 use gfx_dwt::Transform;
 use gfx_prog_encode::{TileSend, improve_message, paint_message};
-use gfx_quant::{Level, Levels, Quant, Setting};
+use gfx_quant::{Level, Levels, Quant, Rounding, Setting};
 use gfx_tile_make::SourceTile;
 use std::alloc::Global;
 use std::test::Fail;
@@ -47,6 +47,7 @@ fn usual() -> Setting
     });
     Setting {
         transform: Transform::Reduced,
+        rounding: Rounding::Zero,
         y: base,
         cb: base,
         cr: base,

@@ -4,7 +4,7 @@ ghost use Rattle.gfx_tile_state.specs.Shape.{are_positions};
 
 use gfx_base::{Bytes, Pixel, Refusal};
 use gfx_dwt::Transform;
-use gfx_quant::{Component, Level, Levels, Quant, Setting};
+use gfx_quant::{Component, Level, Levels, Quant, Rounding, Setting};
 use gfx_rlgr::encode;
 use gfx_tile_make::{Pass, SourceTile};
 use gfx_tile_state::{PassShape, Scratch, TileState};
@@ -39,6 +39,7 @@ fn setting(transform: Transform, left_out: &[u8]) -> Setting {
     let base = Quant { values: [6; 10] };
     Setting {
         transform,
+        rounding: Rounding::Zero,
         y: base,
         cb: base,
         cr: base,

@@ -5,7 +5,7 @@ ghost use Rattle.gfx_dwt.specs.declared.layout.Transform.TheVariants.{Plain};
 use crate::messages::GREY;
 use gfx_base::{Bytes, Pixel};
 use gfx_dwt::Transform;
-use gfx_quant::{Level, Levels, Quant, Setting};
+use gfx_quant::{Level, Levels, Quant, Rounding, Setting};
 use gfx_rfx_video::{Entropy, VideoTile, VideoTiles, video_message};
 use gfx_tile_make::SourceTile;
 use std::alloc::Global;
@@ -20,6 +20,7 @@ fn plain() -> Setting
     levels.push(Level::whole());
     Setting {
         transform: Transform::Plain,
+        rounding: Rounding::Zero,
         y: base,
         cb: base,
         cr: base,

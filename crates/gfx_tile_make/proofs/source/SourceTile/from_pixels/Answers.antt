@@ -20,9 +20,9 @@ from_samples-requires-3-clause-base c = is-base c.args.setting.now Cr c.requires
 
 pub returns : goal.returns
 returns c =
-    let y = c.in_ok-from_samples.ensures ∙ ap (λ s. plain (quantised_samples c.args.setting.now.transform c.args.setting.now.y.values s)) (samples-are luma c.args.pixels.now c.from_colours.new.y c.told-pixels c.from_colours.array_long c.from_colours.ensures.luma) in
-    let cb = c.in_ok-from_samples-2.ensures ∙ ap (λ s. plain (quantised_samples c.args.setting.now.transform c.args.setting.now.cb.values s)) (samples-are chroma_blue c.args.pixels.now c.from_colours.new.cb c.told-pixels c.from_colours.array_long2 c.from_colours.ensures.blue) in
-    let cr = c.in_ok-from_samples-3.ensures ∙ ap (λ s. plain (quantised_samples c.args.setting.now.transform c.args.setting.now.cr.values s)) (samples-are chroma_red c.args.pixels.now c.from_colours.new.cr c.told-pixels c.from_colours.array_long3 c.from_colours.ensures.red) in
+    let y = c.in_ok-from_samples.ensures ∙ ap (λ s. plain (quantised_samples c.args.setting.now.rounding c.args.setting.now.transform c.args.setting.now.y.values s)) (samples-are luma c.args.pixels.now c.from_colours.new.y c.told-pixels c.from_colours.array_long c.from_colours.ensures.luma) in
+    let cb = c.in_ok-from_samples-2.ensures ∙ ap (λ s. plain (quantised_samples c.args.setting.now.rounding c.args.setting.now.transform c.args.setting.now.cb.values s)) (samples-are chroma_blue c.args.pixels.now c.from_colours.new.cb c.told-pixels c.from_colours.array_long2 c.from_colours.ensures.blue) in
+    let cr = c.in_ok-from_samples-3.ensures ∙ ap (λ s. plain (quantised_samples c.args.setting.now.rounding c.args.setting.now.transform c.args.setting.now.cr.values s)) (samples-are chroma_red c.args.pixels.now c.from_colours.new.cr c.told-pixels c.from_colours.array_long3 c.from_colours.ensures.red) in
     λ i. record { setting = c.copy_of.ensures i; y = y i; cb = cb i; cr = cr i; difference = false }
 
 pub invariant_of-result : goal.invariant_of-result

@@ -35,7 +35,10 @@ from gfxtools import live, recording, scripted
 from gfxtools.live import Turned
 
 MADE = range(1, 51)
-ADVERTISE, ACKNOWLEDGE, CONFIRM, END_FRAME = 0x12, 0x0D, 0x13, 0x0C
+ADVERTISE, ACKNOWLEDGE, CONFIRM, END_FRAME, OFFER, QOE = 0x12, 0x0D, 0x13, 0x0C, 0x10, 0x16
+SUSPENDS = 0xFFFFFFFF
+# The reply that takes nothing of an offer.
+NOTHING_TAKEN = bytes((0x11, 0, 0, 0, 10, 0, 0, 0, 0, 0))
 PLAIN = [(scripted.VERSIONS["10"], scripted.AVC_DISABLED)]
 MOST_STEPS = 100000
 # A script with fills that later ones of their frame cover: a server's end leaves them out, and `encode` doesn't.
@@ -75,8 +78,17 @@ def advertise(offers):
     return message(ADVERTISE, struct.pack("<H", len(offers)) + sets)
 
 
-def acknowledgement(frame, total):
-    return message(ACKNOWLEDGE, struct.pack("<III", 0, frame, total))
+def acknowledgement(frame, total, depth=0):
+    return message(ACKNOWLEDGE, struct.pack("<III", depth, frame, total))
+
+
+def offer_of(kept):
+    """The offer of kept bitmaps, by their keys and lengths."""
+    return message(OFFER, struct.pack("<H", len(kept)) + b"".join(struct.pack("<QI", *one) for one in kept))
+
+
+def times_of(frame):
+    return message(QOE, struct.pack("<IIHH", frame, 1000, 5, 2))
 
 
 class Client:
@@ -471,6 +483,73 @@ class Fed:
         same("frames that were sent", 2, len(feeding.client.frames))
         feeding.end()
 
+    def client_that_suspends(self):
+        """Frames go unwatched, as many as come, and their acknowledgements are taken and not told; behind one at another
+        depth frames are watched again. No acknowledgement of a frame that wasn't sent is taken."""
+        with live.LiveServer(self.program) as server:
+            server.settle(window=1)
+            client = Client(PLAIN)
+            client.sent(server.take(client.says(65536)).data)
+            server.surface(1, 4, 4)
+
+            def sends(count):
+                server.frame()
+                same("how many frames went", count, client.sent(server.serve().data))
+
+            def says(frame, depth, shown):
+                taken = server.take(acknowledgement(frame, frame, depth))
+                same("what is answered", b"", taken.data)
+                same("the frames that are told", shown, [one[0] for one in taken.shown])
+
+            sends(1)
+            sends(0)
+            says(1, SUSPENDS, [1])
+            for _ in range(5):
+                sends(1)
+            says(3, SUSPENDS, [])
+            says(2, SUSPENDS, [])
+            sends(1)
+            says(3, 7, [])
+            sends(1)
+            sends(0)
+            says(6, 0, [])
+            sends(0)
+            says(8, 0, [8])
+            sends(1)
+            same("the frames that were sent", list(range(1, 10)), client.frames)
+            self.refused(server, "R", "AckUnknown", lambda s: s.take(acknowledgement(10, 10, SUSPENDS)))
+            same("the end", (0, ""), server.close())
+
+    def client_with_kept_bitmaps(self):
+        """It offers them once it is confirmed, and is told that none is taken, however often; before that it is refused."""
+        for kept in ([], [(5, 4)], [(key, 256) for key in range(5461)]):
+            with live.LiveServer(self.program) as server:
+                server.take(advertise(PLAIN))
+                for _ in range(2):
+                    data = server.take(offer_of(kept)).data
+                    replies = [recording.Channel(0, one).payload for one in channels(data)]
+                    same("the reply", [NOTHING_TAKEN], replies)
+                self.refused(server, "R", "CountMismatch", lambda s: s.take(message(OFFER, b"\1\0")))
+                same("the end", (0, ""), server.close())
+            with live.LiveServer(self.program) as server:
+                self.refused(server, "R", "PduUnknown", lambda s: s.take(offer_of(kept[:5])))
+                same("the end", (0, ""), server.close())
+
+    def client_that_tells_times(self):
+        """How long its frames took is passed over, at any time; a frame is acknowledged by nothing else than before."""
+        with live.LiveServer(self.program) as server:
+            for words in (times_of(1)[:9], times_of(1)[9:]):
+                same("what is answered", live.Taken([], b""), server.take(words))
+            client = Client(PLAIN)
+            client.sent(server.take(times_of(1) + client.says(65536)).data)
+            server.surface(1, 4, 4)
+            server.frame()
+            same("how many frames went", 1, client.sent(server.serve().data))
+            same("what is answered", live.Taken([], b""), server.take(times_of(1)))
+            same("the frames that are told", [1], [one[0] for one in server.take(client.says(65536)).shown])
+            self.refused(server, "R", "CountMismatch", lambda s: s.take(message(QOE, bytes(11))))
+            same("the end", (0, ""), server.close())
+
     def client_that_stops(self):
         """A client whose words end inside a message, before it is known and behind that."""
         for count in (1, 4, 11, len(advertise(PLAIN)) - 1):
@@ -491,6 +570,7 @@ class Fed:
         """A wrong acknowledgement, and what else is no client's word: nothing more is taken."""
         for words, name in ((acknowledgement(9, 1), "AckUnknown"), (message(0x12, b"\1"), "CountMismatch"),
                             (message(0x77, b""), "PduUnknown"), (bytes(4), "ChannelLength"),
+                            (acknowledgement(2, 1, SUSPENDS), "AckUnknown"),
                             (acknowledgement(1, 1) * 2, "AckUnknown")):
             feeding = Feeding(self.program, {}, PLAIN)
             feeding.meet()

@@ -16,7 +16,7 @@ struct Message {
     text: &'static str,
 }
 
-const MESSAGES: [Message; 3] = [
+const MESSAGES: [Message; 6] = [
     // What a client says that offers version 10 and is small.
     Message {
         bytes: b"\x12\x00\x00\x00\x16\x00\x00\x00\x01\x00\x02\x00\x0a\x00\x04\x00\x00\x00\x22\x00\x00\x00",
@@ -29,6 +29,20 @@ const MESSAGES: [Message; 3] = [
     Message {
         bytes: b"\x0d\x00\x00\x00\x14\x00\x00\x00\x04\x03\x02\x01\x09\x00\x00\x00\x00\x01\x00\x00",
         text: "Ack { depth: 16909060, frame: 9, total: 256 }",
+    },
+    // What a client says that kept two bitmaps, and one that kept none.
+    Message {
+        bytes: b"\x10\x00\x00\x00\x22\x00\x00\x00\x02\x00\x08\x07\x06\x05\x04\x03\x02\x01\x40\x00\x00\x00\x01\x00\x00\x00\x00\x00\x00\x00\x00\x01\x00\x00",
+        text: "ImportOffer { entries: Items { items: [CacheEntry { key: 72623859790382856, length: 64 }, CacheEntry { key: 1, length: 256 }] } }",
+    },
+    Message {
+        bytes: b"\x10\x00\x00\x00\x0a\x00\x00\x00\x00\x00",
+        text: "ImportOffer { entries: Items { items: [] } }",
+    },
+    // How long a frame took at the client.
+    Message {
+        bytes: b"\x16\x00\x00\x00\x14\x00\x00\x00\x09\x00\x00\x00\x04\x03\x02\x01\x05\x00\x06\x01",
+        text: "QoeAck { frame: 9, timestamp: 16909060, decoding: 5, rendering: 262 }",
     },
 ];
 
@@ -70,6 +84,65 @@ fn first_wrong(alloc: Global) -> Result<Option<&'static str>, Fault> {
 #[test]
 fn each_client_message_is_read_and_written_back(rt: HostRuntime) {
     assert_eq!(rt; first_wrong(rt.alloc()), Ok(None));
+}
+
+/// Bytes that are no message of a client, and why.
+struct Wrong {
+    bytes: &'static [u8],
+    refusal: Refusal,
+}
+
+const WRONG: [Wrong; 5] = [
+    // An entry less than the count says, and a byte more.
+    Wrong {
+        bytes: b"\x10\x00\x00\x00\x16\x00\x00\x00\x02\x00\x01\x00\x00\x00\x00\x00\x00\x00\x40\x00\x00\x00",
+        refusal: Refusal::CountMismatch,
+    },
+    Wrong {
+        bytes: b"\x10\x00\x00\x00\x0b\x00\x00\x00\x00\x00\x00",
+        refusal: Refusal::CountMismatch,
+    },
+    // A message that is longer than its bytes.
+    Wrong {
+        bytes: b"\x10\x00\x00\x00\x16\x00\x00\x00\x00\x00",
+        refusal: Refusal::PduTruncated,
+    },
+    // The last time is missing.
+    Wrong {
+        bytes: b"\x16\x00\x00\x00\x12\x00\x00\x00\x09\x00\x00\x00\x04\x03\x02\x01\x05\x00",
+        refusal: Refusal::CountMismatch,
+    },
+    // The reply is a message of the server.
+    Wrong {
+        bytes: b"\x11\x00\x00\x00\x0a\x00\x00\x00\x00\x00",
+        refusal: Refusal::PduUnknown,
+    },
+];
+
+/// Why bytes are refused that are no message of a client.
+fn refusal_of(alloc: Global, bytes: &[u8]) -> Option<Fault> {
+    match read_client(alloc, bytes) {
+        Ok(pdu) => {
+            drop(pdu);
+            None
+        }
+        Err(fault) => Some(fault),
+    }
+}
+
+/// Whether each is refused for its reason.
+fn all_are_refused(alloc: Global) -> bool {
+    for wrong in &WRONG {
+        if refusal_of(alloc, wrong.bytes) != Some(Fault::Refused(wrong.refusal)) {
+            return false;
+        }
+    }
+    true
+}
+
+#[test]
+fn messages_that_are_none_of_a_client(rt: HostRuntime) {
+    assert!(rt; all_are_refused(rt.alloc()));
 }
 
 /// A set that is offered: its version, and the bytes of its flags.

@@ -1,6 +1,7 @@
 //! Pending steps that a later one covers, and frames in flight.
 use crate::claiming::claim;
 use gfx_base::{Fault, NoMemory};
+use gfx_caps::SUSPENDS;
 use gfx_script::Script;
 use gfx_script_text::read_script;
 use gfx_window::{AckUnknown, Queued, Window};
@@ -153,7 +154,7 @@ fn what_a_later_step_covers(rt: HostRuntime) {
 
 /// Whether a window says that a frame isn't the oldest in flight, which is this.
 fn is_unknown(window: &mut Window, id: u32, oldest: Option<u32>) -> bool {
-    window.acknowledge(id) == Err(AckUnknown { id, oldest })
+    window.acknowledge(0, id) == Err(AckUnknown { id, oldest })
 }
 
 /// Sends a frame, where there is room for it.
@@ -171,8 +172,8 @@ fn are_in_flight(window: &mut Window) -> Result<bool, NoMemory> {
     send(window, 2, 9)?;
     let full = (window.in_flight(), window.can_send()) == (2, false);
     let later = is_unknown(window, 9, Some(1));
-    let first = window.acknowledge(1) == Ok(6);
-    let second = window.acknowledge(2) == Ok(9);
+    let first = window.acknowledge(0, 1) == Ok(Some(6));
+    let second = window.acknowledge(0, 2) == Ok(Some(9));
     Ok(none && full && later && first && second && window.can_send())
 }
 
@@ -180,6 +181,147 @@ fn are_in_flight(window: &mut Window) -> Result<bool, NoMemory> {
 fn frames_in_flight(rt: HostRuntime) {
     let mut window = Window::new(rt.alloc(), 2);
     let right = are_in_flight(&mut window);
+    let_go_of_window(window);
+    assert_eq!(rt; right, Ok(true));
+}
+
+/// What happens to a window of one frame.
+#[derive(Clone, Copy)]
+enum Event {
+    /// A frame goes.
+    Goes(u32),
+    /// A frame is acknowledged at a depth.
+    Says(u32, u32),
+}
+
+/// An event, and what is known of the window behind it: the answer to an acknowledgement, how many frames are in
+/// flight, and whether there is room for one.
+struct Moment {
+    event: Event,
+    answer: Option<Result<Option<u32>, AckUnknown>>,
+    flying: usize,
+    room: bool,
+}
+
+const SUSPENDED: [Moment; 12] = [
+    Moment {
+        event: Event::Goes(1),
+        answer: None,
+        flying: 1,
+        room: false,
+    },
+    // The frame is shown, and acknowledgements are suspended.
+    Moment {
+        event: Event::Says(SUSPENDS, 1),
+        answer: Some(Ok(Some(10))),
+        flying: 0,
+        room: true,
+    },
+    // It isn't acknowledged twice, and none is yet that wasn't sent.
+    Moment {
+        event: Event::Says(SUSPENDS, 1),
+        answer: Some(Err(AckUnknown {
+            id: 1,
+            oldest: None,
+        })),
+        flying: 0,
+        room: true,
+    },
+    Moment {
+        event: Event::Goes(2),
+        answer: None,
+        flying: 0,
+        room: true,
+    },
+    Moment {
+        event: Event::Goes(3),
+        answer: None,
+        flying: 0,
+        room: true,
+    },
+    Moment {
+        event: Event::Says(0, 4),
+        answer: Some(Err(AckUnknown {
+            id: 4,
+            oldest: None,
+        })),
+        flying: 0,
+        room: true,
+    },
+    // Frames that went unwatched are acknowledged, and the client goes on by the second.
+    Moment {
+        event: Event::Says(SUSPENDS, 2),
+        answer: Some(Ok(None)),
+        flying: 0,
+        room: true,
+    },
+    Moment {
+        event: Event::Says(7, 2),
+        answer: Some(Ok(None)),
+        flying: 0,
+        room: true,
+    },
+    // The next frame is watched.
+    Moment {
+        event: Event::Goes(4),
+        answer: None,
+        flying: 1,
+        room: false,
+    },
+    Moment {
+        event: Event::Says(0, 3),
+        answer: Some(Ok(None)),
+        flying: 1,
+        room: false,
+    },
+    Moment {
+        event: Event::Says(0, 5),
+        answer: Some(Err(AckUnknown {
+            id: 5,
+            oldest: Some(4),
+        })),
+        flying: 1,
+        room: false,
+    },
+    Moment {
+        event: Event::Says(0, 4),
+        answer: Some(Ok(Some(40))),
+        flying: 0,
+        room: true,
+    },
+];
+
+/// Lets an event happen, and tells what an acknowledgement is answered.
+fn happens(
+    window: &mut Window,
+    event: Event,
+) -> Result<Option<Result<Option<u32>, AckUnknown>>, NoMemory> {
+    match event {
+        Event::Goes(frame) => {
+            send(window, frame, 10 * frame.min(9))?;
+            Ok(None)
+        }
+        Event::Says(depth, frame) => Ok(Some(window.acknowledge(depth, frame))),
+    }
+}
+
+/// Whether each of these moments is as it is due.
+fn goes_so(window: &mut Window, moments: &[Moment]) -> Result<bool, NoMemory> {
+    for moment in moments {
+        let answer = happens(window, moment.event)?;
+        if answer != moment.answer
+            || (window.in_flight(), window.can_send()) != (moment.flying, moment.room)
+        {
+            return Ok(false);
+        }
+    }
+    Ok(true)
+}
+
+#[test]
+fn suspended_acknowledgements(rt: HostRuntime) {
+    let mut window = Window::new(rt.alloc(), 1);
+    let right = goes_so(&mut window, &SUSPENDED);
     let_go_of_window(window);
     assert_eq!(rt; right, Ok(true));
 }

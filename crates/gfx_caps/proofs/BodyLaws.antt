@@ -28,6 +28,8 @@ sets-made (set ∷ sets) = ap (λ others. set ∷ others) (sets-made sets)
 parts-made : (pdu : ClientPdu) → made (layout_of (id_of pdu)) (parts_of pdu) ≡ pdu
 parts-made (pdus.Advertise sets) = ap (λ s. pdus.Advertise s) (sets-made sets)
 parts-made (pdus.Ack depth frame total) = refl
+parts-made (pdus.ImportOffer entries) = refl
+parts-made (pdus.QoeAck frame timestamp decoding rendering) = refl
 
 -- sets fit whose versions do, since none is longer than all together
 sets-fit : (sets : List CapsSet) → AllByRecursion (λ (set : CapsSet). set.version < 2 ^ 32) sets → sum_by set_size sets < 2 ^ 32 → AllByRecursion (Fit caps_set) (map set_parts sets)
@@ -45,6 +47,9 @@ parts-fit (pdus.Advertise sets) fits =
     ((fits.spellable.count, tt), (length-map sets set_parts, (sets-fit sets fits.numbers together, tt)))
 parts-fit (pdus.Ack depth frame total) fits =
     let n = fits.numbers in ((n.0, tt), ((n.1, tt), ((n.2, tt), tt)))
+parts-fit (pdus.ImportOffer entries) fits = (fits.spellable.count, (fits.numbers, tt))
+parts-fit (pdus.QoeAck frame timestamp decoding rendering) fits =
+    let n = fits.numbers in ((n.0, tt), ((n.1, tt), ((n.2, tt), ((n.3, tt), tt))))
 
 pub body_of-again : (pdu : ClientPdu) → Fits pdu → body_of (id_of pdu) (body pdu) ≡ Ok pdu
 unfolding body_of
@@ -72,6 +77,18 @@ found_body : (id : ClientId) (p : Parts (layout_of id)) → Fit (layout_of id) p
 found_body ids.FrameAcknowledge p fit = record {
   same = refl;
   numbers = (fit.0.0, fit.1.0.0, fit.1.1.0.0);
+  count = tt;
+  spelled_so = refl;
+}
+found_body ids.CacheImportOffer p fit = record {
+  same = refl;
+  numbers = fit.1.0;
+  count = fit.0;
+  spelled_so = refl;
+}
+found_body ids.QoeFrameAcknowledge p fit = record {
+  same = refl;
+  numbers = (fit.0.0, fit.1.0.0, fit.1.1.0.0, fit.1.1.1.0.0);
   count = tt;
   spelled_so = refl;
 }

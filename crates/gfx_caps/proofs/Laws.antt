@@ -32,11 +32,15 @@ use Rattle.gfx_caps.proofs.BodyLaws.{body_of-again, IsBody, body_of-read}
 id_of_number-again : (id : ClientId) → id_of_number (number_of id) ≡ Some id
 unfolding id_of_number
 id_of_number-again ids.FrameAcknowledge = refl
+id_of_number-again ids.CacheImportOffer = refl
 id_of_number-again ids.CapsAdvertise = refl
+id_of_number-again ids.QoeFrameAcknowledge = refl
 
 number_of-fits : (id : ClientId) → number_of id < 2 ^ 16
 number_of-fits ids.FrameAcknowledge = lit< tt
+number_of-fits ids.CacheImportOffer = lit< tt
 number_of-fits ids.CapsAdvertise = lit< tt
+number_of-fits ids.QoeFrameAcknowledge = lit< tt
 
 -- ---- what is written is a spelling
 

@@ -1,5 +1,6 @@
 -- The constants as numbers, so that another number is another definition.
 use Rattle.std.proofs.Common.{◌≡◌, refl}
+use Rattle.gfx_caps.specs.declared.message.TheConstants.{SUSPENDS}
 use Rattle.gfx_caps.specs.declared.offer.TheConstants.{MOST_OFFERS}
 use Rattle.gfx_caps.specs.declared.versions.TheConstants.{VERSION_8, VERSION_8_1, VERSION_10, FLAGS_SIZE, THIN_CLIENT, SMALL_CACHE, AVC_DISABLED}
 
@@ -11,3 +12,6 @@ flags = (refl, refl, refl, refl)
 
 pub most : MOST_OFFERS ≡ 65535
 most = refl
+
+pub suspending : SUSPENDS ≡ 0xFFFFFFFF
+suspending = refl

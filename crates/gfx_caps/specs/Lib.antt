@@ -1,4 +1,5 @@
 pub mod ClientId
+pub mod Entries
 pub mod Layouts
 pub mod Reading
 pub mod Spelling

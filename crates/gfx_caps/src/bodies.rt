@@ -8,10 +8,11 @@ ghost use Rattle.gfx_caps.specs.declared.message.ClientPdu.TheVariants as pdus;
 ghost use Rattle.gfx_caps.specs.Spelling.{spelling, IsSpellable, set_text, set_size};
 
 use crate::client_id::ClientId;
+use crate::entries::{CacheEntries, CacheEntry};
 use crate::header::put_header;
 use crate::sets::{CapsSet, CapsSets};
 use gfx_base::{Bytes, NoMemory};
-use gfx_layout::{Part, put_sized};
+use gfx_layout::{Part, put_list, put_sized};
 
 /// Puts RDPGFX_FRAME_ACKNOWLEDGE_PDU at the end.
 pub(crate) fn put_frame_acknowledge(
@@ -26,6 +27,41 @@ pub(crate) fn put_frame_acknowledge(
     depth.put(out)?;
     frame.put(out)?;
     total.put(out)
+}
+
+/// Puts RDPGFX_CACHE_IMPORT_OFFER_PDU at the end.
+pub(crate) fn put_import_offer(out: &mut Bytes, entries: &CacheEntries) -> Result<(), NoMemory>
+    requires { IsSpellable (pdus.ImportOffer entries.now) }
+    ensures { Puts result out.old out.new (spelling (pdus.ImportOffer entries.now)) }
+{
+    let offered = entries.as_slice();
+    put_header(
+        out,
+        ClientId::CacheImportOffer,
+        u16::SIZE + offered.len() * CacheEntry::SIZE,
+    )?;
+    put_list(out, offered)
+}
+
+/// Puts RDPGFX_QOE_FRAME_ACKNOWLEDGE_PDU at the end.
+pub(crate) fn put_qoe_frame_acknowledge(
+    out: &mut Bytes,
+    frame: u32,
+    timestamp: u32,
+    decoding: u16,
+    rendering: u16,
+) -> Result<(), NoMemory>
+    ensures { Puts result out.old out.new (spelling (pdus.QoeAck frame timestamp decoding rendering)) }
+{
+    put_header(
+        out,
+        ClientId::QoeFrameAcknowledge,
+        2 * u32::SIZE + 2 * u16::SIZE,
+    )?;
+    frame.put(out)?;
+    timestamp.put(out)?;
+    decoding.put(out)?;
+    rendering.put(out)
 }
 
 /// Puts RDPGFX_CAPS_ADVERTISE_PDU at the end.

@@ -6,8 +6,12 @@ ghost use Rattle.gfx_caps.specs.ClientId.{number_of, id_of_number};
 pub enum ClientId {
     /// RDPGFX_CMDID_FRAMEACKNOWLEDGE.
     FrameAcknowledge = 0xD,
+    /// RDPGFX_CMDID_CACHEIMPORTOFFER.
+    CacheImportOffer = 0x10,
     /// RDPGFX_CMDID_CAPSADVERTISE.
     CapsAdvertise = 0x12,
+    /// RDPGFX_CMDID_QOEFRAMEACKNOWLEDGE.
+    QoeFrameAcknowledge = 0x16,
 }
 
 impl ClientId {
@@ -18,7 +22,9 @@ impl ClientId {
     {
         match number {
             0xD => Some(ClientId::FrameAcknowledge),
+            0x10 => Some(ClientId::CacheImportOffer),
             0x12 => Some(ClientId::CapsAdvertise),
+            0x16 => Some(ClientId::QoeFrameAcknowledge),
             _ => None,
         }
     }

@@ -5,7 +5,8 @@ ghost use Rattle.gfx_base.specs.Outcome.{Gives, WantsOnlyIf};
 ghost use Rattle.gfx_layout.specs.Header.{is_headed};
 ghost use Rattle.gfx_layout.specs.Reading.{read, read_whole, take_each};
 ghost use Rattle.gfx_caps.specs.ClientId.{id_of_number};
-ghost use Rattle.gfx_caps.specs.Layouts.{frame_acknowledge, caps_advertise, caps_set, layout_of};
+ghost use Rattle.gfx_caps.specs.declared.message.ClientPdu.TheVariants as pdus;
+ghost use Rattle.gfx_caps.specs.Layouts.{frame_acknowledge, cache_import_offer, caps_advertise, caps_set, qoe_frame_acknowledge, layout_of};
 ghost use Rattle.gfx_caps.specs.Reading.{body_of, front, client_of};
 ghost use Rattle.gfx_caps.specs.Spelling.{Spells, Fits};
 
@@ -69,13 +70,45 @@ fn read_caps_advertise(alloc: Global, body: &[u8]) -> Result<ClientPdu, Cause<St
     Ok(ClientPdu::Advertise { sets })
 }
 
+/// Reads the body of RDPGFX_CACHE_IMPORT_OFFER_PDU ([MS-RDPEGFX] 2.2.2.16).
+#[tactic(auto, unfolding(gfx_layout::specs::Reading::read_whole, gfx_layout::specs::Reading::read, gfx_base::specs::Results::and_then))]
+fn read_import_offer(alloc: Global, body: &[u8]) -> Result<ClientPdu, Cause<Stop>>
+    ensures { Gives (λ p. p) result (read_whole (cache_import_offer (λ entries. pdus.ImportOffer entries)) body.now) }
+{
+    let mut fields = Fields::new(body);
+    let entries = fields.list(alloc)?;
+    fields.end()?;
+    Ok(ClientPdu::ImportOffer { entries })
+}
+
+/// Reads the body of RDPGFX_QOE_FRAME_ACKNOWLEDGE_PDU ([MS-RDPEGFX] 2.2.2.21).
+#[tactic(auto, unfolding(gfx_layout::specs::Reading::read_whole, gfx_layout::specs::Reading::read, gfx_base::specs::Results::and_then))]
+fn read_qoe_frame_acknowledge(body: &[u8]) -> Result<ClientPdu, Stop>
+    ensures { result ≡ read_whole qoe_frame_acknowledge body.now }
+{
+    let mut fields = Fields::new(body);
+    let frame = fields.u32()?;
+    let timestamp = fields.u32()?;
+    let decoding = fields.u16()?;
+    let rendering = fields.u16()?;
+    fields.end()?;
+    Ok(ClientPdu::QoeAck {
+        frame,
+        timestamp,
+        decoding,
+        rendering,
+    })
+}
+
 /// Reads the body of a message with this id by its layout.
 fn read_by_layout(alloc: Global, id: ClientId, body: &[u8]) -> Result<ClientPdu, Cause<Stop>>
     ensures { Gives (λ p. p) result (read_whole (layout_of id) body.now) }
 {
     match id {
         ClientId::FrameAcknowledge => Ok(read_frame_acknowledge(body)?),
+        ClientId::CacheImportOffer => read_import_offer(alloc, body),
         ClientId::CapsAdvertise => read_caps_advertise(alloc, body),
+        ClientId::QoeFrameAcknowledge => Ok(read_qoe_frame_acknowledge(body)?),
     }
 }
 

@@ -4,12 +4,14 @@ ghost use Rattle.std.specs.Prelude.{◌≡◌, ◌++◌, OnOk, OnErr};
 ghost use Rattle.gfx_layout.specs.Writing.{Puts};
 ghost use Rattle.gfx_caps.specs.Spelling.{spelling, IsSpellable};
 
-use crate::bodies::{put_caps_advertise, put_frame_acknowledge};
+use crate::bodies::{
+    put_caps_advertise, put_frame_acknowledge, put_import_offer, put_qoe_frame_acknowledge,
+};
 use crate::message::ClientPdu;
 use gfx_base::{Bytes, NoMemory};
 
-/// Puts the one spelling of a message at the end: the header's flags are zero. The count of sets, the
-/// lengths and the whole length must fit their fields.
+/// Puts the one spelling of a message at the end: the header's flags are zero. The count of sets or
+/// entries, the lengths and the whole length must fit their fields.
 pub fn write_client(pdu: &ClientPdu, out: &mut Bytes) -> Result<(), NoMemory>
     requires { IsSpellable pdu.now }
     ensures ok { OnOk result (out.new ≡ out.old ++ spelling pdu.now) }
@@ -35,5 +37,12 @@ fn put_client(pdu: &ClientPdu, out: &mut Bytes) -> Result<(), NoMemory>
             frame,
             total,
         } => put_frame_acknowledge(out, *depth, *frame, *total),
+        ClientPdu::ImportOffer { entries } => put_import_offer(out, entries),
+        ClientPdu::QoeAck {
+            frame,
+            timestamp,
+            decoding,
+            rendering,
+        } => put_qoe_frame_acknowledge(out, *frame, *timestamp, *decoding, *rendering),
     }
 }

@@ -19,7 +19,8 @@ use Rattle.gfx_layout.proofs.Headers.{head, size_of-head, kind_by-head}
 use Rattle.gfx_bitmap_cache.specs.Slots.{Entry, bytes_of}
 use Rattle.gfx_import.specs.declared.limits.TheConstants.{OFFER, REPLY}
 use Rattle.gfx_import.specs.Entries.{IsEntry, IsKept}
-use Rattle.gfx_import.specs.Offered.{offered, offered_of, offers_of}
+use Rattle.gfx_caps.specs.Entries.{cache_entry}
+use Rattle.gfx_import.specs.Offered.{offered_of, offers_of}
 use Rattle.gfx_import.specs.Imported.{imported}
 use Rattle.gfx_import.specs.Messages.{import_offer, import_reply, message_of, message_text, offer_of, offer_text, reply_of, reply_text, numbers_from, slots_of, taken_of, is_headed}
 use Rattle.gfx_import.proofs.WritingLemmas.{length-numbers}
@@ -50,7 +51,7 @@ unfolding message_text header
 message-read number layout parts small fits fit =
     message-head number (8 + measured layout parts) layout (spelled layout parts) (made layout parts) small (ap (λ n. 8 + n) (sym (length-spelled layout parts))) fits (read_whole-spelled layout parts fit)
 
-offers-fit : (client : List Entry) → AllByRecursion IsEntry client → AllByRecursion (PartFits offered) (offers_of client)
+offers-fit : (client : List Entry) → AllByRecursion IsEntry client → AllByRecursion (PartFits cache_entry) (offers_of client)
 offers-fit [] all = tt
 offers-fit (one ∷ client) all =
     let short : bytes_of one < 2 ^ 32 = omega (arith, all.0.image.few) in

@@ -8,7 +8,7 @@ use Rattle.std.proofs.lemmas.Option.{slice_get-map}
 use Rattle.gfx_base.specs.declared.bitmap.Bitmap.{Bitmap}
 use Rattle.gfx_bitmap_cache.specs.Slots.{Image, Entry, entry, image_of, bytes_for, bytes_of, last_slot, budget}
 use Rattle.gfx_import.specs.declared.limits.TheConstants.{MOST_ENTRIES}
-use Rattle.gfx_import.specs.declared.offer.Offered.{Offered}
+use Rattle.gfx_caps.specs.declared.entries.CacheEntry.{CacheEntry}
 use Rattle.gfx_import.specs.Entries.{entry_keys, has_key, are_distinct, image_at, takes, with_entry, IsKept}
 use Rattle.gfx_import.specs.Offered.{offered_of, offers_of}
 use Rattle.gfx_import.specs.Imported.{with_length, match_of, while_some, within, taken, answered, imported}
@@ -62,7 +62,7 @@ pub not_chosen : {X : Type 0} (b : Bool) (x : X) → cond b (Some x) None ≡ No
 not_chosen true x e = absurd cc
 not_chosen false x e = refl
 
-module _ (server : List Entry) (one : Offered) (rest : List Offered) where
+module _ (server : List Entry) (one : CacheEntry) (rest : List CacheEntry) where
   -- what is taken of the others
   abbrev others : ℕ → List Entry
   others room = within room (while_some (map (match_of server) rest))
@@ -118,7 +118,7 @@ pub record Found (server : List Entry) (key size slots less room left : ℕ) (r 
   pub slots_left : IfSome r (λ _. less + 1 ≡ slots)
   pub room_left : IfSome r (λ (b : Bor Bitmap). left ≡ room - bytes_for b.now.width b.now.height)
 
-module _ (server : List Entry) (one : Offered) (rest : List Offered) (slots less room left : ℕ) where
+module _ (server : List Entry) (one : CacheEntry) (rest : List CacheEntry) (slots less room left : ℕ) where
   -- nothing: the list ends
   pub stopped : (r : Option (Bor Bitmap)) → Found server one.key one.length slots less room left r → is_some r ≡ false → taken server slots room (one ∷ rest) ≡ []
   stopped None is e = taken-none server one rest slots room (sym is.found)
@@ -141,18 +141,18 @@ module _ (server : List Entry) (one : Offered) (rest : List Offered) (slots less
 -- ---- counting
 
 -- so many were taken, and what is taken of the rest are all
-pub record Counts (server : List Entry) (offers rest : List Offered) (small : Bool) (count slots room : ℕ) : Type 0 where
+pub record Counts (server : List Entry) (offers rest : List CacheEntry) (small : Bool) (count slots room : ℕ) : Type 0 where
   pub so_far : count + length (taken server slots room rest) ≡ length (answered server offers small)
   pub slots_left : count + slots ≡ last_slot small
 
-pub counts-none : (server : List Entry) (offers : List Offered) (small : Bool) (slots room : ℕ) → slots ≡ last_slot small → room ≡ budget small → Counts server offers offers small 0 slots room
+pub counts-none : (server : List Entry) (offers : List CacheEntry) (small : Bool) (slots room : ℕ) → slots ≡ last_slot small → room ≡ budget small → Counts server offers offers small 0 slots room
 counts-none server offers small slots room e f =
     let all : length (taken server slots room offers) ≡ length (answered server offers small) = λ i. length (taken server (e i) (f i) offers) in record {
       so_far = omega (arith, all);
       slots_left = omega (arith, e);
     }
 
-module _ (server : List Entry) (offers rest after : List Offered) (small : Bool) (count slots room : ℕ) (one : Offered) (is : rest ≡ one ∷ after) (so : Counts server offers rest small count slots room) where
+module _ (server : List Entry) (offers rest after : List CacheEntry) (small : Bool) (count slots room : ℕ) (one : CacheEntry) (is : rest ≡ one ∷ after) (so : Counts server offers rest small count slots room) where
   pub counts-more : (less left : ℕ) (r : Option (Bor Bitmap)) → Found server one.key one.length slots less room left r → is_some r ≡ true → Counts server offers after small (count + 1) less left
   counts-more less left r found e =
       let n = counted server one after slots less room left r found e in
@@ -167,7 +167,7 @@ module _ (server : List Entry) (offers rest after : List Offered) (small : Bool)
       let none : length (taken server slots room rest) ≡ 0 = ap (λ z. length (taken server slots room z)) is ∙ ap length (stopped server one after slots less room left r found e) in
       omega (arith, none, so.so_far)
 
-pub counts-end : (server : List Entry) (offers rest : List Offered) (small : Bool) (count slots room : ℕ) → rest ≡ [] → Counts server offers rest small count slots room → count ≡ length (answered server offers small)
+pub counts-end : (server : List Entry) (offers rest : List CacheEntry) (small : Bool) (count slots room : ℕ) → rest ≡ [] → Counts server offers rest small count slots room → count ≡ length (answered server offers small)
 counts-end server offers rest small count slots room e so =
     let none : length (taken server slots room rest) ≡ 0 = ap (λ z. length (taken server slots room z)) e ∙ ap length (taken-end server slots room) in
     omega (arith, none, so.so_far)
@@ -231,21 +231,21 @@ gathers-end server client kept rest small slots room e so =
 -- ---- one of them, without the others
 
 -- what is taken at a place
-pub record TakenAt (server : List Entry) (offers : List Offered) (taken_are : List Entry) (place : ℕ) : Type 0 where
-  pub one : Offered
+pub record TakenAt (server : List Entry) (offers : List CacheEntry) (taken_are : List Entry) (place : ℕ) : Type 0 where
+  pub one : CacheEntry
   pub image : Image
   pub there : slice_get offers place ≡ Some one
   pub theirs : image_at server one.key ≡ Some image
   pub same : slice_get taken_are place ≡ Some (entry one.key image)
 
-longer : (server : List Entry) (one : Offered) (rest : List Offered) (taken_are : List Entry) (place : ℕ) (first : Entry) → TakenAt server rest taken_are place → TakenAt server (one ∷ rest) (first ∷ taken_are) (suc place)
+longer : (server : List Entry) (one : CacheEntry) (rest : List CacheEntry) (taken_are : List Entry) (place : ℕ) (first : Entry) → TakenAt server rest taken_are place → TakenAt server (one ∷ rest) (first ∷ taken_are) (suc place)
 longer server one rest taken_are place first is = record { one = is.one; image = is.image; there = is.there; theirs = is.theirs; same = is.same }
 
 sized : (size : ℕ) (found : Option Image) (image : Image) → with_length size found ≡ Some image → found ≡ Some image
 sized size None image e = absurd cc
 sized size (Some there) image e = let is = chosen _ there image e in ap Some is.1
 
-pub taken-at : (server : List Entry) (offers : List Offered) (slots room place : ℕ) → place < length (taken server slots room offers) → TakenAt server offers (taken server slots room offers) place
+pub taken-at : (server : List Entry) (offers : List CacheEntry) (slots room place : ℕ) → place < length (taken server slots room offers) → TakenAt server offers (taken server slots room offers) place
 taken-at server [] slots room place below = absurd (omega (arith, ap length (taken-end server slots room)))
 taken-at server (one ∷ rest) slots room place below = by (found_in slots room (with_length one.length (image_at server one.key))) refl (λ less left place below. taken-at server rest less left place below)
   where
@@ -277,12 +277,12 @@ taken-at server (one ∷ rest) slots room place below = by (found_in slots room 
         (at_place image (slots - 1) (room - bytes_for image.width image.height) place (sized one.length _ image (inside _ image e)) others within_it)
 
 -- a place of an offer of all that a client keeps
-pub client-at : (client : List Entry) (place : ℕ) (one : Offered) → slice_get (offers_of client) place ≡ Some one → (held : Entry) × (slice_get client place ≡ Some held) × (one.key ≡ held.key)
+pub client-at : (client : List Entry) (place : ℕ) (one : CacheEntry) → slice_get (offers_of client) place ≡ Some one → (held : Entry) × (slice_get client place ≡ Some held) × (one.key ≡ held.key)
 client-at client place one e = by (slice_get client place) refl (sym (slice_get-map offered_of client place) ∙ e)
   where
     by : (found : Option Entry) → slice_get client place ≡ found → option_map offered_of found ≡ Some one → (held : Entry) × (slice_get client place ≡ Some held) × (one.key ≡ held.key)
     by None g f = absurd cc
-    by (Some held) g f = let same : offered_of held ≡ one = cc in (held, g, ap (λ (z : Offered). z.key) (sym same))
+    by (Some held) g f = let same : offered_of held ≡ one = cc in (held, g, ap (λ (z : CacheEntry). z.key) (sym same))
 
 -- what is imported at a place, by what the two ends have
 pub imported-at : (server client : List Entry) (small : Bool) (place key : ℕ) (first : Image) (found : Option Image) → slice_get client place ≡ Some (entry key first) → found ≡ image_at server key

@@ -4,7 +4,7 @@
 use Rattle.std.specs.Prelude.{ℕ, ◌-◌, ◌==◌, nat_le, List, [], ◌∷◌, map, take, Option, Some, None, Bool, if◌then◌else◌}
 use Rattle.std.specs.Option.{option_map}
 use Rattle.gfx_bitmap_cache.specs.Slots.{Image, Entry, entry, bytes_for, bytes_of, last_slot, budget}
-use Rattle.gfx_import.specs.declared.offer.Offered.{Offered}
+use Rattle.gfx_caps.specs.declared.entries.CacheEntry.{CacheEntry}
 use Rattle.gfx_import.specs.Entries.{image_at}
 use Rattle.gfx_import.specs.Offered.{offers_of}
 
@@ -14,7 +14,7 @@ with_length size None = None
 with_length size (Some image) = if bytes_for image.width image.height == size then Some image else None
 
 -- the server's entry for one that is offered: of this key, with as many bytes
-abbrev pub match_of : List Entry → Offered → Option Entry
+abbrev pub match_of : List Entry → CacheEntry → Option Entry
 match_of server one = option_map (entry one.key) (with_length one.length (image_at server one.key))
 
 -- what stands in front of the first that is missing
@@ -29,11 +29,11 @@ within room [] = []
 within room (one ∷ rest) = if nat_le (bytes_of one) room then one ∷ within (room - bytes_of one) rest else []
 
 -- the first entries of an offer that are taken, where so many slots are free and there is room for so many bytes
-unfoldable pub taken : List Entry → ℕ → ℕ → List Offered → List Entry
+unfoldable pub taken : List Entry → ℕ → ℕ → List CacheEntry → List Entry
 taken server slots room offers = take slots (within room (while_some (map (match_of server) offers)))
 
 -- those that are taken of an offer by a server that has nothing in its cache: slots 1, 2 and so on are theirs
-abbrev pub answered : List Entry → List Offered → Bool → List Entry
+abbrev pub answered : List Entry → List CacheEntry → Bool → List Entry
 answered server offers small = taken server (last_slot small) (budget small) offers
 
 -- what is imported of two kept files: the client's first keys, each with the server's bitmap

@@ -10,14 +10,14 @@ use Rattle.gfx_layout.specs.Layout.{Layout, Parts, done, list, spelled, measured
 use Rattle.gfx_layout.specs.Header.{size_of, refused, header, no_flags}
 use Rattle.gfx_layout.specs.Reading.{read_whole}
 use Rattle.gfx_bitmap_cache.specs.Slots.{Entry}
+use Rattle.gfx_caps.specs.declared.entries.CacheEntry.{CacheEntry}
+use Rattle.gfx_caps.specs.Layouts.{cache_import_offer}
 use Rattle.gfx_import.specs.declared.limits.TheConstants.{OFFER, REPLY}
-use Rattle.gfx_import.specs.declared.offer.Offered.{Offered}
-use Rattle.gfx_import.specs.Offered.{offered}
 use Rattle.gfx_import.specs.Imported.{answered}
 
 -- the body of RDPGFX_CACHE_IMPORT_OFFER_PDU, 2.2.2.16
-abbrev pub import_offer : Layout (List Offered)
-import_offer = list u16 offered λ offers. done offers
+abbrev pub import_offer : Layout (List CacheEntry)
+import_offer = cache_import_offer (λ offers. offers)
 
 -- the body of RDPGFX_CACHE_IMPORT_REPLY_PDU, 2.2.2.17
 abbrev pub import_reply : Layout (List ℕ)
@@ -34,7 +34,7 @@ message_of number layout bytes = do
   Ok says
 
 -- what an offer offers, and which slots a reply announces
-abbrev pub offer_of : List ℕ → Result (List Offered) Refusal
+abbrev pub offer_of : List ℕ → Result (List CacheEntry) Refusal
 offer_of bytes = message_of OFFER import_offer bytes
 
 abbrev pub reply_of : List ℕ → Result (List ℕ) Refusal
@@ -49,7 +49,7 @@ unfoldable pub message_text : {X : Type 0} → ℕ → (layout : Layout X) → P
 message_text number layout parts = header number no_flags (8 + measured layout parts) ++ spelled layout parts
 
 -- the message that offers these
-abbrev pub offer_text : List Offered → List ℕ
+abbrev pub offer_text : List CacheEntry → List ℕ
 offer_text offers = message_text OFFER import_offer (offers, tt)
 
 -- so many numbers, one after another

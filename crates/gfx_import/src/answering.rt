@@ -41,8 +41,9 @@ fn put_reply(out: &mut Bytes, count: u16) -> Result<(), NoMemory>
     put_slots(out, count)
 }
 
-/// Appends the reply that announces so many entries. Without memory `out` stays as it was.
-fn write_reply(count: u16, out: &mut Bytes) -> Result<(), NoMemory>
+/// Appends the reply that announces so many entries (RDPGFX_CACHE_IMPORT_REPLY_PDU), in slots from 1 on. Without
+/// memory `out` stays as it was.
+pub fn write_reply(count: u16, out: &mut Bytes) -> Result<(), NoMemory>
     ensures ok { OnOk result (out.new ≡ out.old ++ reply_text count) }
     ensures err { OnErr result (out.new ≡ out.old) }
 {

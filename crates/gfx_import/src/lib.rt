@@ -4,7 +4,7 @@
 //!
 //! What goes in are two kept files, or one and an offer or a reply. What comes out is the list of imported bitmaps,
 //! the reply that announces them, or the cache that an end begins with. The crate stands on `gfx_layout` for its
-//! formats and on `gfx_bitmap_cache` for the caches and their limits; a cache that is made is the caller's.
+//! formats, on `gfx_caps` for what an offer says of an entry, and on `gfx_bitmap_cache` for the caches and their limits; a cache that is made is the caller's.
 #![tactic(auto)]
 
 mod agreement;
@@ -20,7 +20,7 @@ mod room;
 mod taking;
 
 pub use agreement::{agree, have_same_sides};
-pub use answering::{Slots, read_reply, reply};
+pub use answering::{Slots, read_reply, reply, write_reply};
 pub use file::{read_kept, write_kept};
 pub use importing::{fill_cache, import_cache};
 pub use kept::Kept;

@@ -1,6 +1,6 @@
 //! The offer of a client ([MS-RDPEGFX] 2.2.2.16), written and read.
 
-ghost use Rattle.std.specs.Prelude.{◌≡◌, ◌++◌, ◌*◌, ◌≤◌, refl, OnOk, OnErr};
+ghost use Rattle.std.specs.Prelude.{◌≡◌, ◌++◌, ◌*◌, ◌≤◌, OnOk, OnErr};
 ghost use Rattle.std.specs.List.{flat_map};
 ghost use Rattle.gfx_base.specs.Outcome.{Gives, WantsOnlyIf};
 ghost use Rattle.gfx_layout.specs.Reading.{read_whole};
@@ -8,57 +8,25 @@ ghost use Rattle.gfx_layout.specs.Shape.{text};
 ghost use Rattle.gfx_layout.specs.Writing.{Puts};
 ghost use Rattle.gfx_layout.specs.Header.{refused};
 ghost use Rattle.gfx_bitmap_cache.specs.Slots.{entry, image_of};
+ghost use Rattle.gfx_caps.specs.Entries.{cache_entry};
 ghost use Rattle.gfx_import.specs.Entries.{IsKept};
-ghost use Rattle.gfx_import.specs.Offered.{offered, offered_of, offers_of};
+ghost use Rattle.gfx_import.specs.Offered.{offered_of, offers_of};
 ghost use Rattle.gfx_import.specs.Messages.{import_offer, offer_of, offer_text, is_headed};
 
 use crate::kept::Kept;
 use crate::limits::{MOST_PIXELS, OFFER};
 use gfx_base::{Bitmap, Bytes, Cause, Fault, Items, NoMemory, Refusal};
 use gfx_bitmap_cache::bytes_for;
+use gfx_caps::CacheEntry;
 use gfx_layout::{Fields, HEADER, Part, Stop, put_header, read_number, read_size};
 use std::alloc::Global;
 
-/// What is offered of an entry ([MS-RDPEGFX] 2.2.2.16.1, RDPGFX_CACHE_ENTRY_METADATA).
-#[derive(Clone, Copy, Debug)]
-pub(crate) struct Offered {
-    pub(crate) key: u64,
-    /// How many bytes the bitmap has, four a pixel (bitmapLength).
-    pub(crate) length: u32,
-}
-
-impl Part for Offered {
-    ghost shape = { offered };
-
-    const SIZE: usize = 12;
-
-    ghost SIZE = { 12 };
-
-    ghost sized = { refl };
-
-    #[inline(always)]
-    #[tactic(auto, unfolding(gfx_layout::specs::Shape::part_in))]
-    fn read(bytes: &[u8]) -> Offered {
-        Offered {
-            key: u64::read(bytes),
-            length: u32::read(&bytes[8..]),
-        }
-    }
-
-    #[tactic(auto, unfolding(gfx_layout::specs::Shape::text))]
-    fn put(self, out: &mut Bytes) -> Result<(), NoMemory> {
-        let [k0, k1, k2, k3, k4, k5, k6, k7] = self.key.to_le_bytes();
-        let [first, second, third, fourth] = self.length.to_le_bytes();
-        out.append(&[k0, k1, k2, k3, k4, k5, k6, k7, first, second, third, fourth])
-    }
-}
-
 /// What is offered of a bitmap under a key.
-pub(crate) fn offered_of(key: u64, bitmap: &Bitmap) -> Offered
+pub(crate) fn offered_of(key: u64, bitmap: &Bitmap) -> CacheEntry
     requires { bitmap.now.width * bitmap.now.height ≤ MOST_PIXELS }
     ensures { result ≡ offered_of (entry key (image_of bitmap.now)) }
 {
-    Offered {
+    CacheEntry {
         key,
         length: bytes_for(bitmap.width, bitmap.height) as u32,
     }
@@ -66,7 +34,7 @@ pub(crate) fn offered_of(key: u64, bitmap: &Bitmap) -> Offered
 
 /// Puts what is offered at the end, one after the other.
 fn put_offers(out: &mut Bytes, kept: &Kept) -> Result<(), NoMemory>
-    ensures { Puts result out.old out.new (flat_map (text offered) (offers_of kept.now)) }
+    ensures { Puts result out.old out.new (flat_map (text cache_entry) (offers_of kept.now)) }
 {
     let mut place = 0;
     'entries: while let Some((key, bitmap)) = kept.at(place) {
@@ -83,7 +51,7 @@ fn put_offer(out: &mut Bytes, kept: &Kept) -> Result<(), NoMemory>
     ensures kept { IsKept kept.now }
 {
     let count = kept.len();
-    put_header(out, OFFER, u16::SIZE + Offered::SIZE * count)?;
+    put_header(out, OFFER, u16::SIZE + CacheEntry::SIZE * count)?;
     (count as u16).put(out)?;
     put_offers(out, kept)
 }
@@ -105,7 +73,7 @@ pub fn write_offer(kept: &Kept, out: &mut Bytes) -> Result<(), NoMemory>
 
 /// Reads the body of an offer.
 #[tactic(auto, unfolding(gfx_layout::specs::Reading::read_whole, gfx_layout::specs::Reading::read, gfx_base::specs::Results::and_then))]
-fn read_offers(alloc: Global, body: &[u8]) -> Result<Items<Offered>, Cause<Stop>>
+fn read_offers(alloc: Global, body: &[u8]) -> Result<Items<CacheEntry>, Cause<Stop>>
     ensures { Gives (λ offers. offers) result (read_whole import_offer body.now) }
 {
     let mut fields = Fields::new(body);
@@ -115,7 +83,7 @@ fn read_offers(alloc: Global, body: &[u8]) -> Result<Items<Offered>, Cause<Stop>
 }
 
 /// Reads the body of an offer. One that doesn't end with its fields is CountMismatch.
-fn read_body(alloc: Global, body: &[u8]) -> Result<Items<Offered>, Fault>
+fn read_body(alloc: Global, body: &[u8]) -> Result<Items<CacheEntry>, Fault>
     ensures { Gives (λ offers. offers) result (refused (read_whole import_offer body.now)) }
 {
     match read_offers(alloc, body) {
@@ -129,7 +97,7 @@ fn read_body(alloc: Global, body: &[u8]) -> Result<Items<Offered>, Fault>
 /// Reads bytes that are an offer. Refusals are PduTruncated, PduLength, PduUnknown and CountMismatch, by the
 /// first of the checks of `specs/Messages` that fails. Memory is wanted only behind a header that is accepted.
 #[tactic(auto, unfolding(crate::specs::Messages::message_of, gfx_base::specs::Results::and_then))]
-pub(crate) fn read_offer(alloc: Global, bytes: &[u8]) -> Result<Items<Offered>, Fault>
+pub(crate) fn read_offer(alloc: Global, bytes: &[u8]) -> Result<Items<CacheEntry>, Fault>
     ensures value { Gives (λ offers. offers) result (offer_of bytes.now) }
     ensures memory { WantsOnlyIf result (is_headed OFFER bytes.now) }
 {

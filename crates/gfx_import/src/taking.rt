@@ -8,14 +8,14 @@ ghost use Rattle.gfx_import.specs.Imported.{answered, imported};
 
 use crate::kept::Kept;
 use crate::limits::MOST_PIXELS;
-use crate::offer::Offered;
 use crate::room::Room;
 use gfx_base::{Bitmap, Items, NoMemory, Pixels};
 use gfx_bitmap_cache::bytes_for;
+use gfx_caps::CacheEntry;
 use std::alloc::Global;
 
 /// How many of the first entries of an offer are taken. It takes no memory.
-pub(crate) fn count_taken(server: &Kept, offers: &Items<Offered>, small: bool) -> u16
+pub(crate) fn count_taken(server: &Kept, offers: &Items<CacheEntry>, small: bool) -> u16
     ensures { result ≡ length (answered server.now offers.now small) }
 {
     let mut room = Room::new(small);

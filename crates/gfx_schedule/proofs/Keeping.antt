@@ -1,5 +1,5 @@
 -- What every turn of a session keeps.
-use Rattle.std.proofs.Common.{◌≡◌, ℕ, ◌<◌, ◌^◌, ◌==◌, true, List, [], ◌∷◌, ◌++◌, map, None, refl, sym, ap, ◌∙◌, subst, append_assoc, eq-eqb}
+use Rattle.std.proofs.Common.{◌≡◌, ℕ, ◌<◌, ◌^◌, ◌==◌, true, false, List, [], ◌∷◌, ◌++◌, map, None, refl, sym, ap, ◌∙◌, subst, append_assoc, eq-eqb}
 use Rattle.std.specs.List.{AllByRecursion}
 use Rattle.std.proofs.lemmas.List.{append-nil}
 use Rattle.std.proofs.lemmas.Grind.{flat_map-append}
@@ -71,10 +71,11 @@ having heard done left = record heard {
   states = heard.states ++ map (λ (f : Flight). f.server) done;
 }
 
--- a server's end that has these frames in flight
+-- a server's end that has these frames in flight, and watches them
 pub record HasFlying (end : ScheduledEnd) (flights : List Flight) : Type 0 where
   pub flying : end.window.flying ≡ map (λ (f : Flight). f.sent_as) flights
   pub ends : end.ends ≡ map (λ (f : Flight). f.server) flights
+  pub watched : end.window.suspended ≡ false
 
 same_frame : (frame : ℕ) → (frame == frame) ≡ true
 same_frame frame = eq-eqb frame frame refl
@@ -82,7 +83,7 @@ same_frame frame = eq-eqb frame frame refl
 -- one acknowledgement
 tells_one : (script : Script) (heard : Heard) (flight : Flight) (left : List Flight) → HasFlying heard.end (flight ∷ left) → tell script heard (word_of flight) ≡ having heard (flight ∷ []) left
 unfolding told acknowledges acknowledged
-tells_one script heard flight left has = rw (has.flying, has.ends, same_frame flight.sent_as.frame) refl
+tells_one script heard flight left has = rw (has.flying, has.ends, has.watched, same_frame flight.sent_as.frame) refl
 
 pub tells_all : (script : Script) (heard : Heard) (done left : List Flight) → heard.end.heard ≡ [] → HasFlying heard.end (done ++ left) → tells script heard (map word_of done) ≡ having heard done left
 tells_all script heard [] left none has =
@@ -94,7 +95,7 @@ tells_all script heard [] left none has =
 tells_all script heard (flight ∷ done) left none has =
     let next : Heard = having heard (flight ∷ []) (done ++ left) in
     ap (λ z. tells script z (map word_of done)) (tells_one script heard flight (done ++ left) has)
-    ∙ tells_all script next done left refl record { flying = refl; ends = refl }
+    ∙ tells_all script next done left refl record { flying = refl; ends = refl; watched = has.watched }
     ∙ (λ i. record (having heard (flight ∷ done) left) {
       taken = append_assoc heard.taken (flight.sent_as ∷ []) (map (λ (f : Flight). f.sent_as) done) i;
       states = append_assoc heard.states (flight.server ∷ []) (map (λ (f : Flight). f.server) done) i;
@@ -106,5 +107,5 @@ takes_all script heard (flight ∷ done) left goes has =
     let one = tells_one script heard flight (done ++ left) has in
     let next : Heard = having heard (flight ∷ []) (done ++ left) in (
       ap (λ z. z.end.stopped) one ∙ goes,
-      subst (λ z. TakesAll script z (map word_of done)) (sym one) (takes_all script next done left goes record { flying = refl; ends = refl }),
+      subst (λ z. TakesAll script z (map word_of done)) (sym one) (takes_all script next done left goes record { flying = refl; ends = refl; watched = has.watched }),
     )

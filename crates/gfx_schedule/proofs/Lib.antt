@@ -1,4 +1,5 @@
 pub mod Lists
+pub mod Numbered
 pub mod LeavingPictures
 pub mod LeavingTiles
 pub mod LeavingStates
@@ -23,3 +24,5 @@ pub mod Queueing
 pub mod Fed
 pub mod FedPromises
 pub mod Growing
+pub mod Unwatched
+pub mod Suspended

@@ -1,5 +1,6 @@
 -- Rounds end a session.
-use Rattle.std.proofs.Common.{◌≡◌, ℕ, zero, suc, ◌+◌, ◌≤◌, Bool, true, false, ◌&&◌, not, cond, List, [], ◌∷◌, ◌++◌, length, map, refl, sym, ap, ◌∙◌, subst, arith, length-append, inl, inr}
+use Rattle.std.proofs.Common.{◌≡◌, ℕ, zero, suc, ◌+◌, ◌≤◌, Bool, true, false, ◌&&◌, ◌||◌, not, cond, List, [], ◌∷◌, ◌++◌, length, map, refl, sym, ap, ◌∙◌, subst, arith, length-append, inl, inr}
+use Rattle.std.specs.Prelude.{nat_lt}
 use Rattle.std.specs.List.{AllByRecursion}
 use Rattle.std.proofs.lemmas.Bool.{cases_Bool, lt-ltb, eqb-true}
 use Rattle.std.proofs.lemmas.List.{append-nil, take_all, drop_all, nil_from_length, length-map}
@@ -197,7 +198,7 @@ served_all R start script kinded w good keeps settled =
           (ap (λ z. z.window.pending) is, ap (λ z. z.left) is, ap (λ z. z.confirmed) is ∙ settled.confirmed)
       | inr can ↦
           let is = (sends_no script (queued w.server) can).0 in
-          let room : has_room (queued w.server).window ≡ true = lt-ltb (length w.server.window.flying) w.server.window.size (omega (arith, ap length settled.flying, keeps.size, good.good.window_from)) in
+          let room : has_room (queued w.server).window ≡ true = ap (λ b. b || nat_lt (length w.server.window.flying) w.server.window.size) keeps.flying.watched ∙ lt-ltb (length w.server.window.flying) w.server.window.size (omega (arith, ap length settled.flying, keeps.size, good.good.window_from)) in
           (ap (λ z. z.window.pending) is ∙ empty (queued w.server).window.pending (refused (queued w.server) settled.confirmed room can), ap (λ z. z.left) is, ap (λ z. z.confirmed) is ∙ settled.confirmed)
     ]
   where

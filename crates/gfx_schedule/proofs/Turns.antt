@@ -1,6 +1,7 @@
 -- Every turn keeps what a session promises.
-use Rattle.std.proofs.Common.{◌≡◌, ℕ, ◌+◌, ◌≤◌, ◌<◌, ◌^◌, Bool, true, false, ◌&&◌, not, cond, if◌then◌else◌, List, [], ◌∷◌, ◌++◌, length, fold, map, take, drop, None, Ok, inl, inr, refl, sym, ap, ◌∙◌, subst, append_assoc, arith, length-append}
+use Rattle.std.proofs.Common.{◌≡◌, ℕ, ◌+◌, ◌≤◌, ◌<◌, ◌^◌, Bool, true, false, ◌&&◌, ◌||◌, not, cond, if◌then◌else◌, List, [], ◌∷◌, ◌++◌, length, fold, map, take, drop, None, Ok, inl, inr, refl, sym, ap, ◌∙◌, subst, append_assoc, arith, length-append}
 use Rattle.std.specs.FinMap.{get}
+use Rattle.std.specs.Prelude.{nat_lt}
 use Rattle.std.specs.List.{AllByRecursion}
 use Rattle.std.proofs.lemmas.Bool.{cases_Bool, ltb-true}
 use Rattle.std.proofs.lemmas.List.{append-nil, map-append, length-map, take-append-drop}
@@ -43,7 +44,7 @@ use Rattle.gfx_planner.proofs.Lists.{all_both, all_front, all_behind}
 use Rattle.gfx_planner.proofs.Streams.{stands_at_start}
 use Rattle.gfx_planner.proofs.TilesFollow.{has-records}
 use Rattle.gfx_window.specs.declared.window.Sent.{Sent}
-use Rattle.gfx_window.specs.Window.{has_room}
+use Rattle.gfx_window.specs.Window.{has_room, watched}
 use Rattle.gfx_schedule.specs.Frames.{frames_of}
 use Rattle.gfx_schedule.specs.Hearing.{Heard, listening, confirm, hears}
 use Rattle.gfx_schedule.specs.Plan.{InPlanFrom}
@@ -57,6 +58,7 @@ use Rattle.gfx_schedule.proofs.Confirming.{Confirms, confirm_extends, confirms, 
 use Rattle.gfx_schedule.proofs.Flights.{frames_of-append, end_states-frames, Flight, pair_of, Downward, draws, follows, Extends}
 use Rattle.gfx_schedule.proofs.Items.{length-numbered}
 use Rattle.gfx_schedule.proofs.Keeping.{word_in, replies_said, said-append, word_of, words_of, FitsWord, words_carried, having, HasFlying, tells_all, takes_all}
+use Rattle.gfx_schedule.proofs.Numbered.{IsUpTo, upto-more, upto-behind}
 use Rattle.gfx_schedule.proofs.Lists.{nil_parts, splits, rises_on, rises_first, all_within}
 use Rattle.gfx_schedule.proofs.Planning.{queues, ahead, joins, goes, flight_of, extends, decoded_fits}
 use Rattle.gfx_schedule.proofs.Words.{words_are_heard_in_pieces}
@@ -107,6 +109,7 @@ pub record Keeps (R : State → State → Type 0) (start : Start) (script : Scri
   pub drawn : List Flight
   pub coming : List Flight
   pub flying : HasFlying w.server (drawn ++ coming)
+  pub numbered : IsUpTo w.server.server.frames w.server.window.flying
   pub flights : AllByRecursion (IsFlight R start script kinded) (drawn ++ coming)
   pub downward : Downward R (run_from w.start w.taken) w.down w.server.server.state coming
   pub words : List ClientPdu
@@ -196,6 +199,7 @@ takes R start script kinded w bytes behind cut keeps =
       drawn = keeps.drawn ++ d.now;
       coming = d.later;
       flying = subst (HasFlying w.server) all keeps.flying;
+      numbered = keeps.numbered;
       flights = subst (AllByRecursion (IsFlight R start script kinded)) all keeps.flights;
       downward = subst (λ z. Downward R z behind w.server.server.state d.later) (sym ran) d.downward;
       words = keeps.words ++ map word_of d.now;
@@ -231,7 +235,8 @@ queueing R start script kinded w keeps = record {
   plan = queues start script kinded w.server keeps.gone keeps.waiting keeps.plan;
   drawn = keeps.drawn;
   coming = keeps.coming;
-  flying = record { flying = keeps.flying.flying; ends = keeps.flying.ends };
+  flying = record { flying = keeps.flying.flying; ends = keeps.flying.ends; watched = keeps.flying.watched };
+  numbered = keeps.numbered;
   flights = keeps.flights;
   downward = keeps.downward;
   words = keeps.words;
@@ -264,11 +269,17 @@ not_none : {X : Type 0} (items : List X) → not (is_none items) ≡ true → 0 
 not_none [] e = absurd cc
 not_none (x ∷ items) e = omega arith
 
-pub may_go : (end : ScheduledEnd) → can_send end ≡ true → MayGo end
-may_go end can =
+-- some step waits
+pub some_waits : (end : ScheduledEnd) → can_send end ≡ true → 0 < length end.window.pending
+some_waits end can =
+    let first = both_true end.confirmed (not (is_none end.window.pending) && has_room end.window) can in
+    not_none end.window.pending (both_true (not (is_none end.window.pending)) (has_room end.window) first.1).0
+
+pub may_go : (end : ScheduledEnd) → end.window.suspended ≡ false → can_send end ≡ true → MayGo end
+may_go end watched can =
     let first = both_true end.confirmed (not (is_none end.window.pending) && has_room end.window) can in
     let second = both_true (not (is_none end.window.pending)) (has_room end.window) first.1 in
-    record { confirmed = first.0; some = not_none end.window.pending second.0; room = ltb-true (length end.window.flying) end.window.size second.1 }
+    record { confirmed = first.0; some = not_none end.window.pending second.0; room = ltb-true (length end.window.flying) end.window.size (ap (λ b. b || nat_lt (length end.window.flying) end.window.size) (sym watched) ∙ second.1) }
 
 -- once it goes, it goes on
 still_going : (start : Start) (script : Script) (old new : ScheduledEnd) (drawn coming more : List Flight) (words : List ClientPdu) → old.confirmed ≡ true → new.confirmed ≡ true → Phase start script old drawn coming words → Phase start script new drawn more words
@@ -296,8 +307,8 @@ pub sending : (R : State → State → Type 0) (start : Start) (script : Script)
     → Keeps R start script kinded (record w { server = with_sent w.server (after_frame script w.server.server (due script w.server)); down = w.down ++ sent (frame_of script w.server.server (due script w.server)) })
 unfolding with_sent
 sending R start script kinded w good fits can keeps =
-    let may = may_go w.server can in
     let end : ScheduledEnd = w.server in
+    let may = may_go end keeps.flying.watched can in
     let plan = keeps.plan in
     let next = ahead start script kinded end keeps.gone keeps.waiting good.good fits plan in
     let frame = joins start script kinded end keeps.gone keeps.waiting good.good fits plan next in
@@ -307,6 +318,7 @@ sending R start script kinded w good fits can keeps =
     let more = λ (last : State). flight_of server end.last last ∷ [] in
     let f = follows R (run_from w.start w.taken) w.down end.server.state server.state keeps.coming pdus more keeps.downward frame.carried (λ client related. extends R good.alike script end.server (due script end) next.after _ end.last client frame related) in
     let flight : Flight = flight_of server end.last f.last in
+    let in_flight : end.window.flying ++ watched end.window.suspended (flight.sent_as ∷ []) ≡ end.window.flying ++ flight.sent_as ∷ [] = ap (λ b. end.window.flying ++ watched b (flight.sent_as ∷ [])) keeps.flying.watched in
     let steps : List ℕ = map (λ (a : Acknowledged). a.step) w.acks ++ map step_of (keeps.drawn ++ keeps.coming) in
     let all : keeps.drawn ++ (keeps.coming ++ flight ∷ []) ≡ (keeps.drawn ++ keeps.coming) ++ flight ∷ [] = sym (append_assoc keeps.drawn keeps.coming (flight ∷ [])) in
     let gone : List KindedStep = keeps.gone ++ keeps.waiting in
@@ -322,9 +334,11 @@ sending R start script kinded w good fits can keeps =
       drawn = keeps.drawn;
       coming = keeps.coming ++ flight ∷ [];
       flying = record {
-        flying = ap (λ z. z ++ flight.sent_as ∷ []) keeps.flying.flying ∙ sym (map-append (λ (f : Flight). f.sent_as) (keeps.drawn ++ keeps.coming) (flight ∷ [])) ∙ ap (map (λ (f : Flight). f.sent_as)) (sym all);
-        ends = ap (λ z. z ++ server.state ∷ []) keeps.flying.ends ∙ sym (map-append (λ (f : Flight). f.server) (keeps.drawn ++ keeps.coming) (flight ∷ [])) ∙ ap (map (λ (f : Flight). f.server)) (sym all);
+        flying = in_flight ∙ ap (λ z. z ++ flight.sent_as ∷ []) keeps.flying.flying ∙ sym (map-append (λ (f : Flight). f.sent_as) (keeps.drawn ++ keeps.coming) (flight ∷ [])) ∙ ap (map (λ (f : Flight). f.sent_as)) (sym all);
+        ends = ap (λ b. end.ends ++ watched b (server.state ∷ [])) keeps.flying.watched ∙ ap (λ z. z ++ server.state ∷ []) keeps.flying.ends ∙ sym (map-append (λ (f : Flight). f.server) (keeps.drawn ++ keeps.coming) (flight ∷ [])) ∙ ap (map (λ (f : Flight). f.server)) (sym all);
+        watched = keeps.flying.watched;
       };
+      numbered = subst (λ n. IsUpTo n (end.window.flying ++ watched end.window.suspended (flight.sent_as ∷ []))) (sym frame.frames) (subst (IsUpTo (end.server.frames + 1)) (sym in_flight) (upto-more end.server.frames end.window.flying flight.sent_as frame.frames keeps.numbered));
       flights = subst (AllByRecursion (IsFlight R start script kinded)) (sym all) (all_both (IsFlight R start script kinded) (keeps.drawn ++ keeps.coming) (flight ∷ []) keeps.flights (
         record {
           related = f.related;
@@ -341,7 +355,7 @@ sending R start script kinded w good fits can keeps =
       there = keeps.there;
       acks = keeps.acks;
       size = keeps.size;
-      window = omega (arith, may.room, keeps.size, length-append end.window.flying (flight.sent_as ∷ []));
+      window = omega (arith, may.room, keeps.size, ap length in_flight, length-append end.window.flying (flight.sent_as ∷ []));
       rising = subst (AreRising 0) (sym steps_are) (rises_on 0 (length keeps.gone) end.last steps keeps.rising keeps.within (omega arith) (omega (arith, plan.last, some)));
       within = subst (AllByRecursion (λ step. step ≤ length gone)) (sym steps_are)
           (all_both (λ step. step ≤ length gone) steps (end.last ∷ []) (all_within (length keeps.gone) (length gone) steps (omega (arith, length-append keeps.gone keeps.waiting)) keeps.within) (omega (arith, plan.last, length-append keeps.gone keeps.waiting), tt));
@@ -439,7 +453,7 @@ frames_heard R start script kinded w bytes behind cut keeps are =
       held = h.held;
       is =
           h.is ∙ held_again script (listening end) h.done h.held ∙ ap (λ z. holding (tells script (holding (listening end) []) z) h.held) (sym s.first_is)
-          ∙ ap (λ z. holding z h.held) (tells_all script (holding (listening end) []) s.first (s.second ++ keeps.coming) refl (record { flying = flying.flying; ends = flying.ends }));
+          ∙ ap (λ z. holding z h.held) (tells_all script (holding (listening end) []) s.first (s.second ++ keeps.coming) refl (record { flying = flying.flying; ends = flying.ends; watched = flying.watched }));
       listens = subst (IsListening script (hears script (listening end) bytes) behind) (sym s.second_is) h.listens;
     }
 
@@ -480,7 +494,8 @@ hears_frames R start script kinded w bytes behind cut keeps confirmed are =
       plan = heard_plan start script kinded end keeps.gone keeps.waiting (map (λ (f : Flight). f.sent_as) (later ++ keeps.coming)) (map (λ (f : Flight). f.server) (later ++ keeps.coming)) s.held end.confirmed keeps.plan;
       drawn = later;
       coming = keeps.coming;
-      flying = record { flying = refl; ends = refl };
+      flying = record { flying = refl; ends = refl; watched = keeps.flying.watched };
+      numbered = upto-behind end.server.frames (map (λ (f : Flight). f.sent_as) now) (map (λ (f : Flight). f.sent_as) (later ++ keeps.coming)) (subst (IsUpTo end.server.frames) (flying.flying ∙ map-append (λ (f : Flight). f.sent_as) now (later ++ keeps.coming)) keeps.numbered);
       flights = all_behind (IsFlight R start script kinded) now (later ++ keeps.coming) flights;
       downward = subst (λ z. Downward R (run_from w.start w.taken) z end.server.state keeps.coming) (sym (append-nil w.down)) keeps.downward;
       words = map word_of later;
@@ -551,7 +566,8 @@ hears_offers R start script kinded w bytes behind good cut keeps unconfirmed at 
           plan = heard_plan start script kinded w.server keeps.gone keeps.waiting w.server.window.flying w.server.ends held w.server.confirmed keeps.plan;
           drawn = keeps.drawn;
           coming = keeps.coming;
-          flying = record { flying = keeps.flying.flying; ends = keeps.flying.ends };
+          flying = record { flying = keeps.flying.flying; ends = keeps.flying.ends; watched = keeps.flying.watched };
+          numbered = keeps.numbered;
           flights = keeps.flights;
           downward = subst (λ z. Downward R (run_from w.start w.taken) z w.server.server.state keeps.coming) (sym (append-nil w.down)) keeps.downward;
           words = left;
@@ -580,7 +596,8 @@ hears_offers R start script kinded w bytes behind good cut keeps unconfirmed at 
           plan = heard_plan start script kinded w.server keeps.gone keeps.waiting w.server.window.flying w.server.ends held true keeps.plan;
           drawn = keeps.drawn;
           coming = keeps.coming;
-          flying = record { flying = keeps.flying.flying; ends = keeps.flying.ends };
+          flying = record { flying = keeps.flying.flying; ends = keeps.flying.ends; watched = keeps.flying.watched };
+          numbered = keeps.numbered;
           flights = keeps.flights;
           downward = subst (Downward R (run_from w.start w.taken) (w.down ++ sent (confirm c.chosen ∷ [])) w.server.server.state) (append-nil keeps.coming) f.downward;
           words = left;
@@ -656,7 +673,8 @@ beginning R start script kinded good fits =
       };
       drawn = [];
       coming = [];
-      flying = record { flying = refl; ends = refl };
+      flying = record { flying = refl; ends = refl; watched = refl };
+      numbered = tt;
       flights = tt;
       downward = record {
         todo = [];

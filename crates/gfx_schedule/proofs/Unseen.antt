@@ -1,5 +1,5 @@
 -- What kinds the steps go as that aren't queued yet isn't seen by anything else.
-use Rattle.std.proofs.Common.{◌≡◌, ℕ, ◌+◌, ◌≤◌, Bool, true, false, ◌&&◌, not, cond, List, [], ◌∷◌, ◌++◌, length, fold, map, take, drop, is_some, Result, Ok, Err, refl, sym, ap, ◌∙◌, arith, length-append}
+use Rattle.std.proofs.Common.{◌≡◌, ℕ, ◌+◌, ◌≤◌, Bool, true, false, ◌&&◌, not, cond, List, [], ◌∷◌, ◌++◌, length, fold, map, take, drop, is_some, Option, Some, None, Result, Ok, Err, refl, sym, ap, ◌∙◌, arith, length-append}
 use Rattle.std.proofs.lemmas.List.{drop-drop, drop-map, drop-take, length-drop, take-take}
 use Rattle.std.proofs.Math.Seq.{take-append_seam, drop-append_seam}
 use Rattle.gfx_base.specs.declared.refusal.Refusal.{Refusal}
@@ -8,7 +8,7 @@ use Rattle.gfx_caps.specs.Choice.{binds_small, choice}
 use Rattle.gfx_caps.specs.Reading.{client_of}
 use Rattle.gfx_caps.specs.declared.choice.Chosen.{Chosen}
 use Rattle.gfx_caps.specs.declared.message.ClientPdu.{ClientPdu}
-use Rattle.gfx_caps.specs.declared.message.ClientPdu.TheVariants.{Advertise, Ack}
+use Rattle.gfx_caps.specs.declared.message.ClientPdu.TheVariants.{Advertise, Ack, ImportOffer, QoeAck}
 use Rattle.gfx_script.specs.Kinds.{KindedStep}
 use Rattle.gfx_script.specs.Script.{is_frame}
 use Rattle.gfx_script.specs.Scripted.{Script}
@@ -20,7 +20,7 @@ use Rattle.gfx_planner.specs.Joined.{after_frame}
 use Rattle.gfx_planner.proofs.Streams.{bare}
 use Rattle.gfx_window.specs.Window.{Window, with_pending, acknowledged}
 use Rattle.gfx_window.specs.declared.window.AckUnknown.{AckUnknown}
-use Rattle.gfx_schedule.specs.Hearing.{Heard, listening, stop, confirm, confirms, acknowledges, told, judge, hear, hears}
+use Rattle.gfx_schedule.specs.Hearing.{Heard, listening, stop, confirm, confirms, acknowledges, declines, told, judge, hear, hears}
 use Rattle.gfx_schedule.specs.ServerEnd.{ScheduledEnd, Refused, first_frame, behind_frame, numbered, queued, can_send, due, with_sent, sends, bytes_sent, serves}
 use Rattle.gfx_schedule.specs.Starts.{Start}
 use Rattle.gfx_schedule.specs.World.{World, begin_from, server_turns, client_takes, server_heard, happens, world_from}
@@ -49,16 +49,24 @@ confirms_same script left last heard (Err r) = refl
 confirms_same script left last heard (Ok chosen) =
     either_heard left last (binds_small chosen.flags && not script.small) (stop heard (Refused CapsVersion)) (record heard { end = record heard.end { confirmed = true }; out = heard.out ++ sent (confirm chosen ∷ []) })
 
-acknowledges_same : (left : List KindedStep) (last : ℕ) (heard : Heard) (frame : ℕ) (found : Result (ℕ × Window) AckUnknown) → acknowledges (heard_leaving left last heard) frame found ≡ heard_leaving left last (acknowledges heard frame found)
+acknowledges_same : (left : List KindedStep) (last : ℕ) (heard : Heard) (frame : ℕ) (found : Result (Option ℕ × Window) AckUnknown) → acknowledges (heard_leaving left last heard) frame found ≡ heard_leaving left last (acknowledges heard frame found)
 unfolding acknowledges
 acknowledges_same left last heard frame (Err unknown) = refl
-acknowledges_same left last heard frame (Ok found) = refl
+acknowledges_same left last heard frame (Ok (None, window)) = refl
+acknowledges_same left last heard frame (Ok (Some step, window)) = refl
+
+declines_same : (left : List KindedStep) (last : ℕ) (heard : Heard) (confirmed : Bool) → declines (heard_leaving left last heard) confirmed ≡ heard_leaving left last (declines heard confirmed)
+unfolding declines
+declines_same left last heard true = refl
+declines_same left last heard false = refl
 
 told_same : (script : Script) (left : List KindedStep) (last : ℕ) (heard : Heard) (word : Result ClientPdu Refusal) → told script (heard_leaving left last heard) word ≡ heard_leaving left last (told script heard word)
 unfolding told
 told_same script left last heard (Err r) = refl
 told_same script left last heard (Ok (Advertise sets)) = confirms_same script left last heard (choice sets)
-told_same script left last heard (Ok (Ack depth frame total)) = acknowledges_same left last heard frame (acknowledged heard.end.window heard.end.window.flying frame)
+told_same script left last heard (Ok (Ack depth frame total)) = acknowledges_same left last heard frame (acknowledged heard.end.window heard.end.window.flying depth frame)
+told_same script left last heard (Ok (ImportOffer entries)) = declines_same left last heard heard.end.confirmed
+told_same script left last heard (Ok (QoeAck frame timestamp decoding rendering)) = refl
 
 judge_same : (script : Script) (left : List KindedStep) (last : ℕ) (heard : Heard) (bytes : List ℕ) (found : Front) → judge script (heard_leaving left last heard) bytes found ≡ heard_leaving left last (judge script heard bytes found)
 unfolding judge

@@ -1,11 +1,11 @@
 -- The server's end and whole messages of its client, cut anywhere.
-use Rattle.std.proofs.Common.{◌≡◌, ℕ, List, [], ◌∷◌, ◌++◌, Bool, true, false, cond, ◌&&◌, not, Result, Ok, Err, refl, sym, ap, ◌∙◌, subst, append_assoc}
+use Rattle.std.proofs.Common.{◌≡◌, ℕ, List, [], ◌∷◌, ◌++◌, Bool, true, false, cond, ◌&&◌, not, Option, Some, None, Result, Ok, Err, refl, sym, ap, ◌∙◌, subst, append_assoc}
 use Rattle.gfx_base.specs.declared.refusal.Refusal.{Refusal}
 use Rattle.gfx_base.specs.declared.refusal.Refusal.TheVariants.{CapsVersion}
 use Rattle.gfx_caps.specs.Choice.{binds_small, choice}
 use Rattle.gfx_caps.specs.declared.choice.Chosen.{Chosen}
 use Rattle.gfx_caps.specs.declared.message.ClientPdu.{ClientPdu}
-use Rattle.gfx_caps.specs.declared.message.ClientPdu.TheVariants.{Advertise, Ack}
+use Rattle.gfx_caps.specs.declared.message.ClientPdu.TheVariants.{Advertise, Ack, ImportOffer, QoeAck}
 use Rattle.gfx_caps.specs.Spelling.{spelling}
 use Rattle.gfx_caps.specs.Reading.{client_of}
 use Rattle.gfx_client.specs.Replies.{alone}
@@ -16,7 +16,7 @@ use Rattle.gfx_state.specs.Sending.{sent}
 use Rattle.gfx_window.specs.declared.window.AckUnknown.{AckUnknown}
 use Rattle.gfx_window.specs.Window.{Window}
 use Rattle.gfx_schedule.specs.ServerEnd.{Refused}
-use Rattle.gfx_schedule.specs.Hearing.{Heard, stop, confirm, confirms, acknowledges, told, hears}
+use Rattle.gfx_schedule.specs.Hearing.{Heard, stop, confirm, confirms, acknowledges, declines, told, hears}
 use Rattle.gfx_schedule.specs.Words.{said, IsWord, holding, tell, TakesAll, IsListening, HasHeard, WordsAreHeardInPieces}
 use Rattle.gfx_schedule.proofs.Listening.{hears_short, hears_whole}
 use Rattle.gfx_schedule.proofs.Lists.{nil_parts}
@@ -94,15 +94,23 @@ confirms_holds script heard (Ok chosen) none = by (binds_small chosen.flags && n
     by true = refl
     by false = none
 
-acknowledges_holds : (heard : Heard) (frame : ℕ) (due : Result (ℕ × Window) AckUnknown) → heard.end.heard ≡ [] → (acknowledges heard frame due).end.heard ≡ []
+acknowledges_holds : (heard : Heard) (frame : ℕ) (due : Result (Option ℕ × Window) AckUnknown) → heard.end.heard ≡ [] → (acknowledges heard frame due).end.heard ≡ []
 unfolding acknowledges
 acknowledges_holds heard frame (Err unknown) none = refl
-acknowledges_holds heard frame (Ok found) none = none
+acknowledges_holds heard frame (Ok (None, window)) none = none
+acknowledges_holds heard frame (Ok (Some step, window)) none = none
+
+declines_holds : (heard : Heard) (confirmed : Bool) → heard.end.heard ≡ [] → (declines heard confirmed).end.heard ≡ []
+unfolding declines
+declines_holds heard true none = none
+declines_holds heard false none = refl
 
 nothing_held : (script : Script) (heard : Heard) (word : ClientPdu) → (tell script heard word).end.heard ≡ []
 unfolding told
 nothing_held script heard (Advertise sets) = confirms_holds script (holding heard []) (choice sets) refl
 nothing_held script heard (Ack depth frame total) = acknowledges_holds (holding heard []) frame _ refl
+nothing_held script heard (ImportOffer entries) = declines_holds (holding heard []) heard.end.confirmed refl
+nothing_held script heard (QoeAck frame timestamp decoding rendering) = refl
 
 pub words_are_heard_in_pieces : WordsAreHeardInPieces
 words_are_heard_in_pieces script heard bytes behind [] listens =

@@ -11,3 +11,4 @@ pub mod World
 pub mod Schedule
 pub mod Feeding
 pub mod Growing
+pub mod Suspending

@@ -11,7 +11,7 @@ use Rattle.gfx_state.specs.Sending.{sent}
 use Rattle.gfx_state.specs.State.{State}
 use Rattle.gfx_window.specs.declared.window.AckUnknown.{AckUnknown}
 use Rattle.gfx_window.specs.declared.window.Queued.{Queued}
-use Rattle.gfx_window.specs.Window.{Window, with_pending, has_room}
+use Rattle.gfx_window.specs.Window.{Window, no_frames, with_pending, has_room, watched}
 use Rattle.gfx_window.specs.Window.{sent as with_frame}
 use Rattle.gfx_schedule.specs.Leaving.{kept, steps_of}
 use Rattle.gfx_schedule.specs.Starts.{Start, from_nothing}
@@ -20,7 +20,7 @@ use Rattle.gfx_schedule.specs.Starts.{Start, from_nothing}
 pub data Stop : Type 0 where
   -- a message is refused
   Refused : Refusal → Stop
-  -- an acknowledgement isn't of the oldest frame in flight
+  -- an acknowledgement is of a frame that is watched and isn't the oldest in flight
   Unknown : AckUnknown → Stop
 
 pub record ScheduledEnd : Type 0 where
@@ -45,7 +45,7 @@ abbrev pub server_end_from : Start → Script → List KindedStep → ScheduledE
 server_end_from start script kinded = record {
   left = kinded;
   last = 0;
-  window = record { size = script.window; pending = []; flying = [] };
+  window = no_frames script.window;
   server = start.server;
   ends = [];
   confirmed = start.confirmed;
@@ -93,12 +93,12 @@ can_send end = may_send end.confirmed end.window
 abbrev pub due : Script → ScheduledEnd → List KindedStep
 due script end = steps_of script (kept script end.window.pending)
 
--- that frame is in flight
+-- that frame is in flight, or unwatched where acknowledgements are suspended
 unfoldable pub with_sent : ScheduledEnd → Server → ScheduledEnd
 with_sent end server = record end {
   window = with_frame end.window server.frames end.last;
   server = server;
-  ends = end.ends ++ server.state ∷ [];
+  ends = end.ends ++ watched end.window.suspended (server.state ∷ []);
 }
 
 unfoldable pub sends : Script → ScheduledEnd → ScheduledEnd

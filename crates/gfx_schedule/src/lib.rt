@@ -12,6 +12,7 @@
 mod feeding;
 mod laws;
 mod leaving;
+mod suspending;
 mod turned;
 
 pub use feeding::{
@@ -24,4 +25,5 @@ pub use laws::{
 pub use leaving::{
     leaving_is_allowed, leaving_is_not_seen, leaving_is_superseding, leaving_only_leaves,
 };
+pub use suspending::unwatched_frames_are_taken;
 pub use turned::Turned;

@@ -1,5 +1,6 @@
 -- Putting out a frame of all that waits.
-use Rattle.std.proofs.Common.{◌≡◌, ℕ, ◌+◌, ◌≤◌, ◌<◌, true, false, cond, List, [], ◌∷◌, ◌++◌, length, drop, Option, Some, None, IsSome, Ok, Err, inl, inr, zero, suc, refl, sym, ap, ◌∙◌, subst, append_assoc, arith}
+use Rattle.std.proofs.Common.{◌≡◌, ℕ, ◌+◌, ◌≤◌, ◌<◌, true, false, cond, List, [], ◌∷◌, ◌++◌, length, drop, Option, Some, None, IsSome, Result, Ok, Err, inl, inr, zero, suc, refl, sym, ap, ◌∙◌, subst, append_assoc, arith}
+use Rattle.std.specs.Prelude.{OnOk, OnErr}
 use Rattle.std.specs.List.{AllByRecursion, slice_get, filter_map}
 use Rattle.std.proofs.lemmas.List.{append-nil}
 use Rattle.std.proofs.lemmas.Option.{slice_get_cases}
@@ -19,13 +20,14 @@ use Rattle.gfx_schedule.specs.Leaving.{kept, step_of, steps_of}
 use Rattle.gfx_schedule.proofs.LeavingItems.{by_place}
 use Rattle.gfx_script.specs.Kinds.{KindedStep}
 use Rattle.gfx_script.specs.Scripted.{Script}
-use Rattle.gfx_session.specs.Frames.{MayPut, MayFrame, due_of}
+use Rattle.gfx_session.specs.Frames.{MayPut, MayFrame, Flies, HearsAsBefore, WatchesFrame, due_of}
 use Rattle.gfx_session.specs.Kept.{noted}
-use Rattle.gfx_session.specs.declared.digests.Digests.{Digests}
+use Rattle.gfx_session.specs.declared.server_end.ServerEnd.{ServerEnd}
 use Rattle.gfx_state.specs.Sending.{sent}
 use Rattle.gfx_state.proofs.Sent.{sent-append}
 use Rattle.gfx_window.specs.Superseded.{superseded}
-use Rattle.gfx_window.specs.Window.{Window}
+use Rattle.gfx_window.specs.Window.{Window, watched}
+use Rattle.gfx_window.specs.Window.{sent as with_frame}
 use Rattle.gfx_window.specs.declared.window.Queued.{Queued}
 
 -- a front of a whole, and of what is due behind what was written
@@ -260,8 +262,43 @@ pub walk_unended : (script : Script) (window : Window) (place : ℕ) (start : Se
     → PartSent new mid now (frame_end old.server ∷ []) → PutsFront before now (sent (frame_of script start (due_of script window)))
 walk_unended script window place start old new before mid now past g s = going_unended script (due_of script window) start old new before mid now (walked script window place start old before mid past g) s
 
--- what is kept of the state that it leaves --------------------------------------------------------------
+-- a frame that went is noted ----------------------------------------------------------------------------
 
-pub ends_are : (before now : List (Option (List ℕ))) (digests : Digests) (planned : Planned) (server : Server) (kept : Option (List ℕ)) → now ≡ before ++ kept ∷ [] → planned ≡ ready server → kept ≡ noted digests planned.server.state
-    → now ≡ before ++ noted digests server.state ∷ []
-ends_are before now digests planned server kept grown is keeps = grown ∙ ap (λ d. before ++ d ∷ []) (keeps ∙ ap (λ (p : Planned). noted digests p.server.state) is)
+-- while acknowledgements are suspended nothing is kept for it
+pub unwatched_frame : (result : Result (Unit {0}) NoMemory) (old : ServerEnd) (window : Window) (frame : ℕ) → old.window.suspended ≡ true → OnOk result (window ≡ with_frame old.window frame old.last) → OnErr result (window ≡ old.window)
+    → WatchesFrame result old (record old { window = window }) frame
+unwatched_frame (Ok done) old window frame suspended ok err =
+    (refl, ok, sym (append-nil old.ends.items) ∙ ap (λ b. old.ends.items ++ watched b (noted old.digests old.planner.server.state ∷ [])) (sym suspended))
+unwatched_frame (Err e) old window frame suspended ok err = (ap (λ w. record old { window = w }) err, refl)
+
+-- otherwise what is kept of the state right after it
+pub kept_frame : (old : ServerEnd) (ends : List (Option (List ℕ))) (kept : Option (List ℕ)) → old.window.suspended ≡ false → ends ≡ old.ends.items ++ kept ∷ [] → kept ≡ noted old.digests old.planner.server.state
+    → ends ≡ old.ends.items ++ watched old.window.suspended (noted old.digests old.planner.server.state ∷ [])
+kept_frame old ends kept watches grown is =
+    grown ∙ ap (λ d. old.ends.items ++ d ∷ []) is ∙ ap (λ b. old.ends.items ++ watched b (noted old.digests old.planner.server.state ∷ [])) (sym watches)
+
+-- and so it is in flight, or unwatched, by the planner that has put it out
+pub has_flown : (old new : ServerEnd) (planned : Planned) (server : Server) (frame : ℕ) → frame ≡ old.planner.server.frames + 1 → planned ≡ ready server → WatchesFrame (Ok tt) (record old { planner = planned }) new frame → Flies old new server
+has_flown old new planned server frame id is w = record {
+  script = ap (λ (z : ServerEnd). z.script) w.0;
+  last = ap (λ (z : ServerEnd). z.last) w.0;
+  window = w.1 ∙ ap (λ n. with_frame old.window n old.last) id;
+  planned = ap (λ (z : ServerEnd). z.planner) w.0 ∙ is;
+  ends = w.2 ∙ ap (λ (p : Planned). old.ends.items ++ watched old.window.suspended (noted old.digests p.server.state ∷ [])) is;
+  digests = ap (λ (z : ServerEnd). z.digests) w.0;
+  confirmed = ap (λ (z : ServerEnd). z.confirmed) w.0;
+  closed = ap (λ (z : ServerEnd). z.closed) w.0;
+  splitter = ap (λ (z : ServerEnd). z.splitter) w.0;
+  spent = ap (λ (z : ServerEnd). z.spent) w.0;
+}
+
+-- or nothing is in flight for it, and the client is heard as before
+pub has_not_flown : (old new : ServerEnd) (planned : Planned) (frame : ℕ) (e : NoMemory) → WatchesFrame (Err e) (record old { planner = planned }) new frame → HearsAsBefore old new
+has_not_flown old new planned frame e w = record {
+  window = ap (λ (z : ServerEnd). z.window) w.0;
+  ends = w.1;
+  digests = ap (λ (z : ServerEnd). z.digests) w.0;
+  confirmed = ap (λ (z : ServerEnd). z.confirmed) w.0;
+  closed = ap (λ (z : ServerEnd). z.closed) w.0;
+  splitter = ap (λ (z : ServerEnd). z.splitter) w.0;
+}

@@ -1,15 +1,15 @@
 -- What a server's end plans is left alone by its client's messages.
-use Rattle.std.proofs.Common.{◌≡◌, ℕ, Bool, true, false, cond, List, [], ◌∷◌, ◌++◌, drop, map, is_some, Result, Ok, Err, refl, sym, ap, ◌∙◌}
+use Rattle.std.proofs.Common.{◌≡◌, ℕ, Bool, true, false, cond, List, [], ◌∷◌, ◌++◌, drop, map, is_some, Option, Some, None, Result, Ok, Err, refl, sym, ap, ◌∙◌}
 use Rattle.gfx_base.specs.declared.refusal.Refusal.{Refusal}
 use Rattle.gfx_caps.specs.Choice.{choice}
 use Rattle.gfx_caps.specs.Reading.{client_of}
 use Rattle.gfx_caps.specs.declared.choice.Chosen.{Chosen}
 use Rattle.gfx_caps.specs.declared.message.ClientPdu.{ClientPdu}
-use Rattle.gfx_caps.specs.declared.message.ClientPdu.TheVariants.{Advertise, Ack}
+use Rattle.gfx_caps.specs.declared.message.ClientPdu.TheVariants.{Advertise, Ack, ImportOffer, QoeAck}
 use Rattle.gfx_schedule.proofs.Listening.{hears-nil, hears_more}
 use Rattle.gfx_planner.specs.Server.{Server}
 use Rattle.gfx_planner.specs.Planned.{ready}
-use Rattle.gfx_schedule.specs.Hearing.{Heard, listening, confirms, acknowledges, told, judge, hear, hears}
+use Rattle.gfx_schedule.specs.Hearing.{Heard, listening, confirms, acknowledges, declines, told, judge, hear, hears}
 use Rattle.gfx_schedule.specs.ServerEnd.{ScheduledEnd}
 use Rattle.gfx_script.specs.Kinds.{KindedStep}
 use Rattle.gfx_script.specs.Scripted.{Script}
@@ -32,16 +32,24 @@ unfolding confirms
 confirms_plan script heard (Err r) = refl
 confirms_plan script heard (Ok chosen) = one_plan _ _ _ (plan_of heard) refl refl
 
-acknowledges_plan : (heard : Heard) (frame : ℕ) (found : Result (ℕ × Window) AckUnknown) → plan_of (acknowledges heard frame found) ≡ plan_of heard
+acknowledges_plan : (heard : Heard) (frame : ℕ) (found : Result (Option ℕ × Window) AckUnknown) → plan_of (acknowledges heard frame found) ≡ plan_of heard
 unfolding acknowledges
 acknowledges_plan heard frame (Err unknown) = refl
-acknowledges_plan heard frame (Ok found) = refl
+acknowledges_plan heard frame (Ok (None, window)) = refl
+acknowledges_plan heard frame (Ok (Some step, window)) = refl
+
+declines_plan : (heard : Heard) (confirmed : Bool) → plan_of (declines heard confirmed) ≡ plan_of heard
+unfolding declines
+declines_plan heard true = refl
+declines_plan heard false = refl
 
 told_plan : (script : Script) (heard : Heard) (message : Result ClientPdu Refusal) → plan_of (told script heard message) ≡ plan_of heard
 unfolding told
 told_plan script heard (Err r) = refl
 told_plan script heard (Ok (Advertise sets)) = confirms_plan script heard (choice sets)
-told_plan script heard (Ok (Ack depth frame total)) = acknowledges_plan heard frame (acknowledged heard.end.window heard.end.window.flying frame)
+told_plan script heard (Ok (Ack depth frame total)) = acknowledges_plan heard frame (acknowledged heard.end.window heard.end.window.flying depth frame)
+told_plan script heard (Ok (ImportOffer entries)) = declines_plan heard heard.end.confirmed
+told_plan script heard (Ok (QoeAck frame timestamp decoding rendering)) = refl
 
 judge_plan : (script : Script) (heard : Heard) (bytes : List ℕ) (found : Front) → plan_of (judge script heard bytes found) ≡ plan_of heard
 unfolding judge

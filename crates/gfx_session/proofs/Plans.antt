@@ -27,11 +27,11 @@ use Rattle.gfx_script.specs.Scripted.{Script}
 use Rattle.gfx_session.specs.Frames.{due_of, MayFrame}
 use Rattle.gfx_script.proofs.OwnKinds.{own_steps_fit}
 use Rattle.gfx_segment.proofs.FrontLemmas.{front-nil}
-use Rattle.gfx_session.specs.Beginning.{IsOpened, no_frames}
+use Rattle.gfx_session.specs.Beginning.{IsOpened}
 use Rattle.gfx_session.specs.Kept.{GoesBy, InStep, IsServerEndFrom, Stands}
 use Rattle.gfx_session.specs.declared.digests.Digests.{Digests}
 use Rattle.gfx_session.specs.declared.server_end.ServerEnd.{ServerEnd}
-use Rattle.gfx_window.specs.Window.{Window, has_room}
+use Rattle.gfx_window.specs.Window.{Window, has_room, no_frames}
 
 -- tests -----------------------------------------------------------------------------------------------
 

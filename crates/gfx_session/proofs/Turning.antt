@@ -32,7 +32,9 @@ use Rattle.gfx_session.specs.declared.digests.Digests.{Digests}
 use Rattle.gfx_session.specs.declared.server_end.ServerEnd.{ServerEnd}
 use Rattle.gfx_session.proofs.Plans.{both_true, none_false, some_is, none_is, within, goes_at, next_id, brings}
 use Rattle.gfx_state.specs.Sending.{sent}
-use Rattle.gfx_window.specs.Window.{Window, has_room, with_pending}
+use Rattle.gfx_window.specs.declared.window.Sent.{Sent}
+use Rattle.gfx_window.specs.Window.{Window, has_room, watched, with_pending}
+use Rattle.gfx_window.proofs.Watched.{watched-map, watched-length}
 use Rattle.gfx_window.specs.Window.{sent as with_frame}
 
 -- a frame of the script is queued -----------------------------------------------------------------------------
@@ -152,11 +154,15 @@ flown mid new at server st flies id = record {
   listens = record {
     window = flies.window ∙ (λ i. with_frame (st.listens.window i) (sym id i) (st.last i));
     ends =
-        flies.ends ∙ ap (λ z. z ++ noted mid.digests server.state ∷ []) st.listens.ends ∙ sym (map-append (noted mid.digests) at.ends (server.state ∷ []))
-        ∙ ap (λ (d : Digests). map (noted d) (at.ends ++ server.state ∷ [])) (sym flies.digests);
+        flies.ends ∙ (λ i. st.listens.ends i ++ watched (st.listens.window i).suspended (noted mid.digests server.state ∷ []))
+        ∙ ap (λ z. map (noted mid.digests) at.ends ++ z) (sym (watched-map (noted mid.digests) at.window.suspended (server.state ∷ [])))
+        ∙ sym (map-append (noted mid.digests) at.ends (watched at.window.suspended (server.state ∷ [])))
+        ∙ ap (λ (d : Digests). map (noted d) (at.ends ++ watched at.window.suspended (server.state ∷ []))) (sym flies.digests);
     confirmed = flies.confirmed ∙ st.listens.confirmed;
     closed = flies.closed ∙ st.listens.closed;
-    even = omega (arith, st.listens.even, length-append at.ends (server.state ∷ []), length-append at.window.flying (record { frame = server.frames; step = at.last } ∷ []));
+    even =
+        (let flight : Sent = record { frame = server.frames; step = at.last } in
+        omega (arith, st.listens.even, length-append at.ends (watched at.window.suspended (server.state ∷ [])), length-append at.window.flying (watched at.window.suspended (flight ∷ [])), watched-length at.window.suspended (server.state ∷ []) (flight ∷ []) refl));
     heard = λ none. flies.splitter ∙ st.listens.heard none;
     short = st.listens.short;
   };

@@ -7,11 +7,7 @@ use Rattle.gfx_segment.specs.Framing.{holding}
 use Rattle.gfx_session.specs.declared.digests.Digests.{Digests}
 use Rattle.gfx_session.specs.declared.server_end.ServerEnd.{ServerEnd}
 use Rattle.gfx_session.specs.declared.session.Session.{Session}
-use Rattle.gfx_window.specs.Window.{Window}
-
--- a window of this size in which no frame is
-abbrev pub no_frames : ℕ → Window
-no_frames size = record { size = size; pending = []; flying = [] }
+use Rattle.gfx_window.specs.Window.{no_frames}
 
 -- a server's end of a script with this planner, of which no step is queued; a version is confirmed, or not, and digests are
 -- on, or not

@@ -17,7 +17,7 @@ use Rattle.gfx_script.specs.Scripted.{Script}
 use Rattle.gfx_session.specs.Kept.{noted}
 use Rattle.gfx_session.specs.declared.server_end.ServerEnd.{ServerEnd}
 use Rattle.gfx_state.specs.Sending.{sent}
-use Rattle.gfx_window.specs.Window.{Window}
+use Rattle.gfx_window.specs.Window.{Window, watched}
 use Rattle.gfx_window.specs.Window.{sent as with_frame}
 
 -- the steps of a frame of all that waits: those that no later one covers
@@ -51,13 +51,14 @@ PutsFrame (Ok frame) script steps server new before now =
     (frame ≡ server.frames + 1) × AllSent new before now (frame_of script server steps) (after_frame script server steps)
 PutsFrame (Err e) script steps server new before now = PutsFront before now (sent (frame_of script server steps))
 
--- a frame of all that waited is in flight, and the planner has what the server then has
+-- a frame of all that waited is in flight, or unwatched where acknowledgements are suspended, and the planner has what
+-- the server then has
 pub record Flies (old new : ServerEnd) (server : Server) : Type 0 where
   pub script : new.script ≡ old.script
   pub last : new.last ≡ old.last
   pub window : new.window ≡ with_frame old.window (old.planner.server.frames + 1) old.last
   pub planned : new.planner ≡ ready server
-  pub ends : new.ends.items ≡ old.ends.items ++ noted old.digests server.state ∷ []
+  pub ends : new.ends.items ≡ old.ends.items ++ watched old.window.suspended (noted old.digests server.state ∷ [])
   pub digests : new.digests ≡ old.digests
   pub confirmed : new.confirmed ≡ old.confirmed
   pub closed : new.closed ≡ old.closed
@@ -72,6 +73,13 @@ pub record HearsAsBefore (old new : ServerEnd) : Type 0 where
   pub confirmed : new.confirmed ≡ old.confirmed
   pub closed : new.closed ≡ old.closed
   pub splitter : new.splitter ≡ old.splitter
+
+-- a frame that went is noted with what is kept of the state right after it. Without memory nothing has changed
+abbrev pub WatchesFrame : Result (Unit {0}) NoMemory → ServerEnd → ServerEnd → ℕ → Type 0
+WatchesFrame (Ok done) old new frame =
+    (new ≡ record old { window = new.window; ends = new.ends }) × (new.window ≡ with_frame old.window frame old.last)
+    × (new.ends.items ≡ old.ends.items ++ watched old.window.suspended (noted old.digests old.planner.server.state ∷ []))
+WatchesFrame (Err e) old new frame = (new ≡ record old { ends = new.ends }) × (new.ends.items ≡ old.ends.items)
 
 -- the frame goes where one can, and whether it did is told. Without memory a front of it is put out, and no frame is in
 -- flight for it

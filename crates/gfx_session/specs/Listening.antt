@@ -1,8 +1,9 @@
 -- What a server's end does with its client's messages, one after another, while it takes a piece. No public clause names
 -- these words.
-use Rattle.std.specs.Prelude.{◌≡◌, ◌≤◌, ◌+◌, ℕ, List, ◌++◌, length, map, None, Result, Ok, Err}
+use Rattle.std.specs.Prelude.{◌≡◌, ◌≤◌, ◌+◌, ℕ, List, [], ◌∷◌, ◌++◌, length, map, Option, Some, None, Result, Ok, Err}
 use Rattle.gfx_schedule.specs.Hearing.{Heard}
 use Rattle.gfx_segment.specs.Framing.{Short, front, holding}
+use Rattle.gfx_window.specs.declared.window.Sent.{Sent}
 use Rattle.gfx_session.specs.Kept.{noted, PlansAsBefore}
 use Rattle.gfx_session.specs.Noting.{taken_of}
 use Rattle.gfx_session.specs.Taking.{AnswersSome, IsWhyStopped, WhenHeard}
@@ -26,6 +27,11 @@ pub record Amid (before now : List ℕ) (had has : List ShownFrame) (end : Serve
 pub record LeavesPlan (old new : ServerEnd) (had has : List ShownFrame) : Type 0 where
   pub plans : PlansAsBefore old new
   pub few : length has + length new.window.flying ≤ length had + length old.window.flying
+
+-- what is told of an acknowledged frame: its recorded step, if it was in flight
+abbrev pub told_of : ℕ → Option ℕ → List Sent
+told_of frame None = []
+told_of frame (Some step) = record { frame = frame; step = step } ∷ []
 
 -- a message does to a server's end what this does to what was heard. A fault is why the schedule's end has stopped by
 -- then; without memory nothing is put out

@@ -1,5 +1,6 @@
 -- The frames that are noted as their acknowledgements are taken: a server's end notes them with what it kept of its own
--- states, and a session adds what it kept of its client's. No public clause names these words.
+-- states, and a session adds what it kept of its client's. `LiveEnd::take` names `Listens`; of the other
+-- words no public clause names one.
 use Rattle.std.specs.Prelude.{◌≡◌, ℕ, Bool, true, false, List, [], ◌∷◌, ◌++◌, length, map, Option, None, Result, Ok, Err}
 use Rattle.gfx_schedule.specs.Hearing.{Heard, listening, hears}
 use Rattle.gfx_schedule.specs.ServerEnd.{ScheduledEnd}

@@ -40,7 +40,7 @@ pub enum ServerFault {
     /// has not.
     #[error("a message of the client is refused: {0}")]
     Refused(Refusal),
-    /// An acknowledgement isn't of the oldest frame in flight.
+    /// An acknowledgement is of a frame that is watched and isn't the oldest in flight.
     #[error("frame {} is acknowledged, which is not the oldest in flight", .0.id)]
     Ack(AckUnknown),
     /// No memory is left.
@@ -53,7 +53,8 @@ pub enum ServerFault {
 
 /// The server's end: a script whose steps it queues frame by frame, the window, and the planner, whose
 /// state is what it has sent. Of past states it keeps digests, where they are asked for, and of its client's
-/// bytes those that aren't a whole message yet.
+/// bytes those that aren't a whole message yet. While its client suspends acknowledgements, its frames go at once
+/// and none of them is told of.
 #[derive(Drop)]
 pub struct ServerEnd {
     alloc: Global,

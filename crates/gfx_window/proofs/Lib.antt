@@ -1,3 +1,5 @@
 pub mod HullLaws
 pub mod CoverLoops
 pub mod RuleLaws
+pub mod Watched
+pub mod LastFrame

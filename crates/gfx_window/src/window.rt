@@ -1,11 +1,12 @@
-ghost use Rattle.std.specs.Prelude.{◌≡◌, ◌++◌, ◌∷◌, ◌<◌, ◌≤◌, IsTrue, [], Some, length, OnOk, OnErr};
-ghost use Rattle.std.specs.List.{slice_get};
+ghost use Rattle.std.specs.Prelude.{◌≡◌, ◌++◌, ◌∷◌, ◌<◌, ◌≤◌, IsTrue, [], Some, length, map, OnOk, OnErr};
+ghost use Rattle.std.specs.List.{slice_get, last_or};
 ghost use Rattle.gfx_base.specs.Outcome.{Says};
-ghost use Rattle.gfx_window.specs.Window.{has_room, with_pending, sent, acknowledged};
+ghost use Rattle.gfx_window.specs.Window.{no_frames, has_room, with_pending, sent, is_unwatched, left_flying, acknowledged, acknowledged_late};
 ghost use Rattle.gfx_window.specs.Superseded.{superseded};
 
 use crate::covering::{is_covered, plain_write};
 use gfx_base::NoMemory;
+use gfx_caps::SUSPENDS;
 use gfx_script::{Kind, Script};
 use std::alloc::Global;
 use std::collections::VecDeque;
@@ -26,7 +27,7 @@ pub struct Sent {
     pub step: u32,
 }
 
-/// An acknowledgement that isn't of the oldest frame in flight.
+/// An acknowledgement of a frame that is watched and isn't the oldest in flight.
 #[derive(Clone, Copy, Debug, PartialEq, Eq)]
 pub struct AckUnknown {
     /// The frame that it names.
@@ -36,12 +37,15 @@ pub struct AckUnknown {
 }
 
 /// The steps that wait for a frame, and the frames in flight, of which there are at most so many as the
-/// window's size. Contracts see both as lists.
+/// window's size. Contracts see both as lists. While acknowledgements are suspended no frame is in flight: each goes
+/// unwatched.
 #[derive(Drop)]
 pub struct Window {
     size: u8,
     pending: Vec<Queued>,
     flying: VecDeque<Sent>,
+    suspended: bool,
+    unwatched: Option<u32>,
 }
 
 impl Model for Window {
@@ -50,7 +54,7 @@ impl Model for Window {
 
     ghost Value = { Window };
 
-    ghost view = { λ w. record { size = w.size; pending = w.pending.items; flying = w.flying.items } };
+    ghost view = { λ w. record { size = w.size; pending = w.pending.items; flying = w.flying.items; suspended = w.suspended; unwatched = w.unwatched } };
 
     ghost invariant = { λ w. length w.flying.items ≤ w.size };
 }
@@ -58,12 +62,14 @@ impl Model for Window {
 impl Window {
     /// A window for so many frames in flight. It takes no memory.
     pub fn new(alloc: Global, size: u8) -> Window
-        ensures { result ≡ record { size = size; pending = []; flying = [] } }
+        ensures { result ≡ no_frames size }
     {
         Window {
             size,
             pending: Vec::new(alloc),
             flying: VecDeque::new(alloc),
+            suspended: false,
+            unwatched: None,
         }
     }
 
@@ -115,45 +121,103 @@ impl Window {
         count
     }
 
+    /// Whether acknowledgements are suspended: the client answers no frame that is sent.
+    pub fn is_suspended(&self) -> bool
+        ensures { result ≡ self.now.suspended }
+    {
+        self.suspended
+    }
+
     /// Whether there is room for a frame.
     pub fn can_send(&self) -> bool
         ensures { result ≡ has_room self.now }
     {
-        self.flying.len() < usize::from(self.size)
+        self.suspended || self.flying.len() < usize::from(self.size)
     }
 
-    /// Notes a frame that goes with all items that wait, and the step that is recorded with it.
+    /// Notes a frame that goes with all items that wait, and the step that is recorded with it. While
+    /// acknowledgements are suspended it goes unwatched.
     pub fn send(&mut self, frame: u32, step: u32) -> Result<(), NoMemory>
         requires { IsTrue (has_room self.old) }
         ensures ok { OnOk result (self.new ≡ sent self.old frame step) }
         ensures err { OnErr result (self.new ≡ self.old) }
     {
-        self.flying.push_back(Sent { frame, step })?;
+        if self.suspended {
+            self.unwatched = Some(frame);
+        } else {
+            self.flying.push_back(Sent { frame, step })?;
+        }
         self.pending.clear();
         Ok(())
     }
 
-    /// Takes the acknowledgement of the oldest frame in flight, and tells its recorded step. AckUnknown
-    /// exactly where the frame isn't that one.
+    /// Takes the acknowledgement of a frame at this depth, and tells its recorded step where it is the oldest in
+    /// flight. Of a frame that went unwatched nothing is told. AckUnknown exactly where the frame is neither. A depth
+    /// of `SUSPENDS` suspends acknowledgements, so that nothing is in flight any more; any other ends that.
     #[tactic(auto, unfolding(crate::specs::Window::acknowledged))]
-    pub fn acknowledge(&mut self, frame: u32) -> Result<u32, AckUnknown>
-        ensures value { Says (λ step. (step, self.new)) result (acknowledged self.old self.old.flying frame) }
+    pub fn acknowledge(&mut self, depth: u32, frame: u32) -> Result<Option<u32>, AckUnknown>
+        ensures value { Says (λ step. (step, self.new)) result (acknowledged self.old self.old.flying depth frame) }
         ensures err { OnErr result (self.new ≡ self.old) }
     {
         let oldest = self.flying.front().copied();
         match oldest {
             Some(first) if first.frame == frame => {
                 self.flying.pop_front();
-                Ok(first.step)
+                self.leave_flying(depth == SUSPENDS);
+                Ok(Some(first.step))
             }
-            Some(first) => Err(AckUnknown {
-                id: frame,
-                oldest: Some(first.frame),
-            }),
-            None => Err(AckUnknown {
-                id: frame,
-                oldest: None,
-            }),
+            Some(first) => self.acknowledge_late(Some(first.frame), depth, frame),
+            None => self.acknowledge_late(None, depth, frame),
+        }
+    }
+
+    /// Takes the acknowledgement of a frame that isn't this, the oldest in flight. Nothing is told of one that went
+    /// unwatched; any other is AckUnknown.
+    fn acknowledge_late(
+        &mut self,
+        oldest: Option<u32>,
+        depth: u32,
+        frame: u32,
+    ) -> Result<Option<u32>, AckUnknown>
+        ensures value { Says (λ step. (step, self.new)) result (acknowledged_late self.old oldest depth frame) }
+        ensures err { OnErr result (self.new ≡ self.old) }
+    {
+        if !self.is_unwatched(frame) {
+            return Err(AckUnknown { id: frame, oldest });
+        }
+        self.leave_flying(depth == SUSPENDS);
+        Ok(None)
+    }
+
+    /// Whether a frame isn't watched: it is none behind the last that went unwatched.
+    fn is_unwatched(&self, frame: u32) -> bool
+        ensures { result ≡ is_unwatched self.now.unwatched frame }
+    {
+        match self.unwatched {
+            None => false,
+            Some(last) => frame <= last,
+        }
+    }
+
+    /// Leaves all frames in flight, or none where acknowledgements are suspended.
+    fn leave_flying(&mut self, suspends: bool)
+        ensures { self.new ≡ left_flying suspends self.old self.old.flying }
+    {
+        self.suspended = suspends;
+        if !suspends {
+            return;
+        }
+        self.unwatched = self.last_unwatched();
+        self.flying.clear();
+    }
+
+    /// The last frame that goes unwatched, where all in flight do now.
+    fn last_unwatched(&self) -> Option<u32>
+        ensures { result ≡ last_or self.now.unwatched (map (λ one. one.frame) self.now.flying) }
+    {
+        match self.flying.back() {
+            Some(last) => Some(last.frame),
+            None => self.unwatched,
         }
     }
 }

@@ -8,7 +8,7 @@ use crate::answers::{Answer, Denial};
 use crate::commands::{Command, command_of};
 use crate::records::{MOST_BODY, Record};
 use crate::settings::Settings;
-use gfx_base::Bytes;
+use gfx_base::{Bytes, Refusal};
 use gfx_caps::{CapsSets, Chosen, ClientPdu, choose_version, read_client};
 use gfx_script::{Flaw, Head, chosen_versions_are_offers};
 use gfx_segment::Splitter;
@@ -118,19 +118,27 @@ impl Opening {
         }
     }
 
-    /// What the client's first message offers, once it is whole.
+    /// What the client offers first, once that message is whole. How long frames took it is passed over.
     fn first_offers(&mut self, piece: &[u8]) -> Result<Option<CapsSets>, ServerFault> {
         self.held.append(piece)?;
         self.splitter.feed(piece)?;
-        let Some(message) = self.splitter.next_raw()? else {
-            return Ok(None);
-        };
-        match read_client(self.alloc, message.as_slice())? {
-            ClientPdu::Advertise { sets } => Ok(Some(sets)),
-            ClientPdu::Ack { frame, .. } => Err(ServerFault::Ack(AckUnknown {
-                id: frame,
-                oldest: None,
-            })),
+        'messages: loop {
+            let Some(message) = self.splitter.next_raw()? else {
+                return Ok(None);
+            };
+            match read_client(self.alloc, message.as_slice())? {
+                ClientPdu::Advertise { sets } => return Ok(Some(sets)),
+                ClientPdu::Ack { frame, .. } => {
+                    return Err(ServerFault::Ack(AckUnknown {
+                        id: frame,
+                        oldest: None,
+                    }));
+                }
+                ClientPdu::ImportOffer { .. } => {
+                    return Err(ServerFault::Refused(Refusal::PduUnknown));
+                }
+                ClientPdu::QoeAck { .. } => {}
+            }
         }
     }
 

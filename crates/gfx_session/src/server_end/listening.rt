@@ -1,21 +1,24 @@
 //! What the server's end makes of its client's messages.
 
-ghost use Rattle.std.specs.Prelude.{◌≡◌, ℕ, ◌++◌, ◌∷◌, [], ◌+◌, ◌≤◌, List, length, false, not, ◌&&◌, OnOk, OnErr};
+ghost use Rattle.std.specs.Prelude.{◌≡◌, ℕ, ◌++◌, ◌∷◌, [], ◌+◌, ◌≤◌, List, drop, length, false, not, ◌&&◌, OnOk, OnErr};
 ghost use Rattle.gfx_caps.specs.Choice.{binds_small, choice};
 ghost use Rattle.gfx_caps.specs.Reading.{client_of};
-ghost use Rattle.gfx_schedule.specs.Hearing.{confirm, confirms, acknowledges, told};
+ghost use Rattle.gfx_import.specs.Messages.{reply_text};
+ghost use Rattle.gfx_schedule.specs.Hearing.{confirm, confirms, acknowledges, declines, told};
+ghost use Rattle.gfx_segment.specs.Framing.{wrapped};
 ghost use Rattle.gfx_state.specs.Sending.{sent};
-ghost use Rattle.gfx_window.specs.Window.{acknowledged};
+ghost use Rattle.gfx_window.specs.Window.{acknowledged, watched};
 ghost use Rattle.gfx_session.specs.declared.server_end.listening.ShownFrame.{ShownFrame};
 ghost use Rattle.gfx_script.specs.Checks.{Held};
 ghost use Rattle.gfx_session.specs.Kept.{IsServerEndFrom};
-ghost use Rattle.gfx_session.specs.Listening.{LeavesPlan, Obeys, Hears};
-ghost use Rattle.gfx_session.specs.Noting.{Listens};
+ghost use Rattle.gfx_session.specs.Listening.{LeavesPlan, Obeys, Hears, told_of};
+ghost use Rattle.gfx_session.specs.Noting.{Listens, taken_of};
 ghost use Rattle.gfx_session.specs.Taking.{Takes};
 
 use super::{ServerEnd, ServerFault};
 use gfx_base::{Bytes, Fault, NoMemory, Refusal};
 use gfx_caps::{CapsSets, Chosen, ClientPdu, choose_version, read_client, small_cache};
+use gfx_import::write_reply;
 use gfx_pdu::{Pdu, write_pdu};
 use gfx_segment::wrap;
 use gfx_window::AckUnknown;
@@ -86,8 +89,8 @@ impl From<AckUnknown> for ServerFault {
 
 impl ServerEnd {
     /// Takes the next bytes of the client, cut anywhere, and puts out what is answered to them; tells how
-    /// many acknowledgements it took. The first fault closes the server's end, which then takes nothing;
-    /// where memory ran out, no more than a front of what is answered was put out.
+    /// many frames in flight were acknowledged. The first fault closes the server's end, which then takes
+    /// nothing; where memory ran out, no more than a front of what is answered was put out.
     pub fn take(&mut self, piece: &[u8], out: &mut Bytes) -> Result<u32, ServerFault>
         ensures takes { Takes self.old.closed result self.old self.new out.old out.new piece.now }
         ensures is { (held : Held) → IsServerEndFrom held self.old → IsServerEndFrom held self.new }
@@ -99,7 +102,7 @@ impl ServerEnd {
         Ok(taken.len().min(most) as u32)
     }
 
-    /// The same, and notes the frames whose acknowledgements it took.
+    /// The same, and notes those frames.
     pub(crate) fn listen(
         &mut self,
         piece: &[u8],
@@ -157,7 +160,9 @@ impl ServerEnd {
     {
         match read_client(self.alloc, message)? {
             ClientPdu::Advertise { sets } => self.confirm(&sets, out),
-            ClientPdu::Ack { frame, .. } => self.acknowledge(frame, taken),
+            ClientPdu::Ack { depth, frame, .. } => self.acknowledge(depth, frame, taken),
+            ClientPdu::ImportOffer { .. } => self.decline(out),
+            ClientPdu::QoeAck { .. } => Ok(()),
         }
     }
 
@@ -184,15 +189,52 @@ impl ServerEnd {
         small_cache(chosen) && !self.script.small()
     }
 
-    /// Takes the acknowledgement of a frame.
-    fn acknowledge(&mut self, frame: u32, taken: &mut Vec<ShownFrame>) -> Result<(), ServerFault>
+    /// Answers an offer of kept bitmaps by a reply that takes none of them. PduUnknown where no version is confirmed.
+    fn decline(&self, out: &mut Bytes) -> Result<(), ServerFault>
+        ensures { (has : List ShownFrame) → Obeys result self.now self.now out.old out.new has has (λ heard. declines heard heard.end.confirmed) }
+    {
+        if !self.confirmed {
+            return Err(ServerFault::Refused(Refusal::PduUnknown));
+        }
+        put_empty_reply(self.alloc, out)?;
+        Ok(())
+    }
+
+    /// Takes the acknowledgement of a frame at this depth.
+    fn acknowledge(
+        &mut self,
+        depth: u32,
+        frame: u32,
+        taken: &mut Vec<ShownFrame>,
+    ) -> Result<(), ServerFault>
         ensures obeys { (now : List ℕ) → Obeys result self.old self.new now now taken.old.items taken.new.items
-            (λ heard. acknowledges heard frame (acknowledged heard.end.window heard.end.window.flying frame)) }
+            (λ heard. acknowledges heard frame (acknowledged heard.end.window heard.end.window.flying depth frame)) }
         ensures plan { LeavesPlan self.old self.new taken.old.items taken.new.items }
         ensures open { self.new.closed ≡ self.old.closed }
         ensures held { self.new.splitter ≡ self.old.splitter }
     {
-        let step = self.window.acknowledge(frame)?;
+        let step = self.window.acknowledge(depth, frame)?;
+        self.note_shown(frame, step, taken)?;
+        self.keep_watched();
+        Ok(())
+    }
+
+    /// Notes a frame that was in flight, with its recorded step, and keeps nothing more for it. One that went
+    /// unwatched has no step, and isn't noted.
+    fn note_shown(
+        &mut self,
+        frame: u32,
+        step: Option<u32>,
+        taken: &mut Vec<ShownFrame>,
+    ) -> Result<(), NoMemory>
+        ensures noted { OnOk result (taken.new.items ≡ taken.old.items ++ taken_of (told_of frame step) self.old.ends.items) }
+        ensures left { OnOk result (self.new.ends.items ≡ drop (length (told_of frame step)) self.old.ends.items) }
+        ensures err { OnErr result (taken.new.items ≡ taken.old.items) }
+        ensures alone { self.new ≡ record self.old { ends = self.new.ends } }
+    {
+        let Some(step) = step else {
+            return Ok(());
+        };
         if let Some(digest) = self.ends.pop_front() {
             taken.push(ShownFrame {
                 frame,
@@ -201,6 +243,16 @@ impl ServerEnd {
             })?;
         }
         Ok(())
+    }
+
+    /// Keeps nothing for frames while acknowledgements are suspended.
+    fn keep_watched(&mut self)
+        ensures ends { self.new.ends.items ≡ watched self.old.window.suspended self.old.ends.items }
+        ensures alone { self.new ≡ record self.old { ends = self.new.ends } }
+    {
+        if self.window.is_suspended() {
+            self.ends.clear();
+        }
     }
 }
 
@@ -215,5 +267,16 @@ fn put_confirmation(alloc: Global, chosen: Chosen, out: &mut Bytes) -> Result<()
     let version = chosen.version;
     let mut message = Bytes::new(alloc);
     write_pdu(&Pdu::CapsConfirm { version, payload }, &mut message)?;
+    wrap(message.as_slice(), out)
+}
+
+/// Puts out the reply that takes nothing of an offer, in a channel message of its own. Without memory nothing is put
+/// out.
+fn put_empty_reply(alloc: Global, out: &mut Bytes) -> Result<(), NoMemory>
+    ensures ok { OnOk result (out.new ≡ out.old ++ wrapped (reply_text 0)) }
+    ensures err { OnErr result (out.new ≡ out.old) }
+{
+    let mut message = Bytes::new(alloc);
+    write_reply(0, &mut message)?;
     wrap(message.as_slice(), out)
 }

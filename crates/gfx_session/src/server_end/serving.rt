@@ -4,7 +4,8 @@ ghost use Rattle.gfx_chooser.specs.Seen.{seen};
 ghost use Rattle.gfx_schedule.specs.ServerEnd.{is_none, may_send};
 ghost use Rattle.gfx_schedule.specs.declared.turned.Turned.TheVariants.{Moved, Waiting};
 ghost use Rattle.gfx_script.specs.declared.TheConstants.{MOST_STEPS};
-ghost use Rattle.gfx_session.specs.Frames.{MayFrame, PutsFrame, SendsFrame, due_of};
+ghost use Rattle.gfx_session.specs.Frames.{MayFrame, PutsFrame, SendsFrame, WatchesFrame, due_of};
+ghost use Rattle.gfx_window.specs.Window.{has_room};
 ghost use Rattle.gfx_script.specs.Checks.{Held};
 ghost use Rattle.gfx_session.specs.Kept.{IsServerEnd, IsServerEndFrom, digest_in, noted};
 ghost use Rattle.gfx_session.specs.Queueing.{QueuesFrame};
@@ -77,14 +78,27 @@ impl ServerEnd {
             return Ok(false);
         }
         let frame = put_frame(&self.script, &self.window, &mut self.planner, out)?;
+        self.watch_frame(frame)?;
+        Ok(true)
+    }
+
+    /// Notes a frame that went with all that waited, and what is kept of the planner's state right after it; while
+    /// acknowledgements are suspended nothing is kept. Without memory the client is heard as before.
+    fn watch_frame(&mut self, frame: u32) -> Result<(), NoMemory>
+        requires { has_room self.old.window ≡ true }
+        ensures { WatchesFrame result self.old self.new frame }
+    {
+        if self.window.is_suspended() {
+            return self.window.send(frame, self.last);
+        }
         let state = noted_of(&self.planner, self.digests);
         self.ends.push_back(state)?;
         if let Err(lack) = self.window.send(frame, self.last) {
-            // No frame is in flight for it, so the client is heard as before.
+            // No frame is in flight for it.
             self.ends.pop_back();
             return Err(lack);
         }
-        Ok(true)
+        Ok(())
     }
 }
 

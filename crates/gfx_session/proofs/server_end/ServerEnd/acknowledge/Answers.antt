@@ -1,31 +1,43 @@
-use Rattle.std.proofs.Common.{refl, sym, subst}
+use Rattle.std.proofs.Common.{◌∙◌, ap}
 use Rattle.std.proofs.lemmas.Result.{err_from_is_err_and}
-use Rattle.gfx_session.specs.Listening.{LeavesPlan}
-use Rattle.gfx_session.proofs.Messages.{not_oldest, takes_frame, takes_none, none_left, leaves_none, leaves_one}
+use Rattle.gfx_session.proofs.Messages.{not_oldest, shows_frame, leaves_shown, leaves_unnoted}
+use Rattle.gfx_session.specs.declared.server_end.ServerEnd.{ServerEnd}
 use Rattle.gfx_session.proofs.server_end.ServerEnd.acknowledge.Goals as goal
 
 pub returns-in_err-step-clause-obeys : goal.returns-in_err-step-clause-obeys
 returns-in_err-step-clause-obeys c = λ now.
     let p = err_from_is_err_and c.from_residual.result c.from_residual.ensures.1 in
-    rw (p.1, p.2) (not_oldest c.args.self.now c.acknowledge.new.self now c.args.taken.now.items c.args.frame c.in_err-step.field-0.0 c.in_err-step.ensures.err c.in_err-step.ensures.value)
+    rw (p.1, p.2) (not_oldest c.args.self.now c.acknowledge.new.self now c.args.taken.now.items c.args.depth c.args.frame c.in_err-step.field-0.0 c.in_err-step.ensures.err c.in_err-step.ensures.value)
 
-pub returns-in_err-push-clause-plan : goal.returns-in_err-push-clause-plan
-returns-in_err-push-clause-plan c =
-    subst (LeavesPlan c.args.self.now _ c.args.taken.now.items) (sym c.in_err-push.ensures.items)
-    (leaves_none c.args.self.now _ c.args.taken.now.items c.args.frame c.in_ok-step.step (record { script = refl; last = refl; planner = refl; spent = refl; confirmed = refl; digests = refl }) c.in_ok-step.ensures.value)
+pub returns-in_err-note_shown-clause-plan : goal.returns-in_err-note_shown-clause-plan
+returns-in_err-note_shown-clause-plan c =
+    leaves_unnoted c.args.self.now c.note_shown.new.self c.acknowledge.new.self c.args.taken.now.items c.note_shown.new.taken.items c.args.depth c.args.frame c.in_ok-step.step c.in_ok-step.ensures.value
+    c.in_err-note_shown.ensures.alone c.in_err-note_shown.ensures.err
 
-pub returns-in_ok-push-clause-obeys : goal.returns-in_ok-push-clause-obeys
-returns-in_ok-push-clause-obeys c = λ now.
-    takes_frame c.args.self.now _ now c.args.taken.now.items c.push.new.self.items c.args.frame c.in_ok-step.step c.in-Some.digest (record { script = refl; last = refl; planner = refl; spent = refl; confirmed = refl; digests = refl }) c.in_ok-step.ensures.value c.in-Some.ensures.items c.in_ok-push.ensures.items
+pub returns-clause-obeys : goal.returns-clause-obeys
+returns-clause-obeys c = λ now.
+    shows_frame c.args.self.now c.note_shown.new.self c.keep_watched.new.self c.acknowledge.new.self c.args.taken.now.items c.note_shown.new.taken.items c.args.depth c.args.frame c.in_ok-step.step now record {
+      found = c.in_ok-step.ensures.value;
+      first = c.in_ok-note_shown.ensures.alone;
+      second = c.keep_watched.ensures.alone;
+      behind = c.in_ok-note_shown.ensures.left;
+      left = c.keep_watched.ensures.ends;
+      pushed = c.in_ok-note_shown.ensures.noted;
+    }
 
-pub returns-in_ok-push-clause-plan : goal.returns-in_ok-push-clause-plan
-returns-in_ok-push-clause-plan c =
-    leaves_one c.args.self.now _ c.args.taken.now.items c.push.new.self.items c.args.frame c.in_ok-step.step _ (record { script = refl; last = refl; planner = refl; spent = refl; confirmed = refl; digests = refl }) c.in_ok-step.ensures.value c.in_ok-push.ensures.items
+pub returns-clause-plan : goal.returns-clause-plan
+returns-clause-plan c =
+    leaves_shown c.args.self.now c.note_shown.new.self c.keep_watched.new.self c.acknowledge.new.self c.args.taken.now.items c.note_shown.new.taken.items c.args.depth c.args.frame c.in_ok-step.step record {
+      found = c.in_ok-step.ensures.value;
+      first = c.in_ok-note_shown.ensures.alone;
+      second = c.keep_watched.ensures.alone;
+      behind = c.in_ok-note_shown.ensures.left;
+      left = c.keep_watched.ensures.ends;
+      pushed = c.in_ok-note_shown.ensures.noted;
+    }
 
-pub returns-in_default-clause-obeys : goal.returns-in_default-clause-obeys
-returns-in_default-clause-obeys c = λ now.
-    takes_none c.args.self.now _ now c.args.taken.now.items c.args.frame c.in_ok-step.step c.acknowledge.new.self c.in_ok-step.ensures.value (none_left _ _ c.in_default.ensures.items c.in_default.ensures.rest)
+pub returns-clause-open : goal.returns-clause-open
+returns-clause-open c = ap (λ (z : ServerEnd). z.closed) c.keep_watched.ensures.alone ∙ ap (λ (z : ServerEnd). z.closed) c.in_ok-note_shown.ensures.alone
 
-pub returns-in_default-clause-plan : goal.returns-in_default-clause-plan
-returns-in_default-clause-plan c =
-    leaves_none c.args.self.now _ c.args.taken.now.items c.args.frame c.in_ok-step.step (record { script = refl; last = refl; planner = refl; spent = refl; confirmed = refl; digests = refl }) c.in_ok-step.ensures.value
+pub returns-clause-held : goal.returns-clause-held
+returns-clause-held c = ap (λ (z : ServerEnd). z.splitter) c.keep_watched.ensures.alone ∙ ap (λ (z : ServerEnd). z.splitter) c.in_ok-note_shown.ensures.alone

@@ -1,6 +1,6 @@
 use Rattle.std.proofs.Common.{ap, ◌∙◌, Ok}
 use Rattle.std.proofs.lemmas.Result.{err_from_is_err_and}
-use Rattle.gfx_session.proofs.Messages.{unread, tells_offers, tells_frame}
+use Rattle.gfx_session.proofs.Messages.{unread, tells_offers, tells_frame, tells_kept, tells_times}
 use Rattle.gfx_session.proofs.server_end.ServerEnd.obey.Goals as goal
 
 pub returns-in_err-sets-clause-obeys : goal.returns-in_err-sets-clause-obeys
@@ -17,3 +17,12 @@ pub returns-in-Ack-clause-obeys : goal.returns-in-Ack-clause-obeys
 returns-in-Ack-clause-obeys c =
     tells_frame c.args.self.now.script c.acknowledge.result c.args.self.now c.acknowledge.new.self c.args.out.now c.args.out.now c.args.taken.now.items c.acknowledge.new.taken.items c.in-Ack.depth c.in-Ack.frame c.in-Ack.total _
     (c.in_ok-sets.ensures.value ∙ ap Ok c.in-Ack.is) (c.acknowledge.ensures.obeys c.args.out.now)
+
+pub returns-in-ImportOffer-clause-obeys : goal.returns-in-ImportOffer-clause-obeys
+returns-in-ImportOffer-clause-obeys c =
+    tells_kept c.args.self.now.script c.decline.result c.args.self.now c.args.self.now c.args.out.now c.decline.new.out c.args.taken.now.items c.args.taken.now.items c.in-ImportOffer.entries _
+    (c.in_ok-sets.ensures.value ∙ ap Ok c.in-ImportOffer.is) (c.decline.ensures c.args.taken.now.items)
+
+pub returns-in-QoeAck-clause-obeys : goal.returns-in-QoeAck-clause-obeys
+returns-in-QoeAck-clause-obeys c =
+    tells_times c.args.self.now.script c.args.self.now c.args.out.now c.args.taken.now.items c.in-QoeAck.frame c.in-QoeAck.timestamp c.in-QoeAck.decoding c.in-QoeAck.rendering _ (c.in_ok-sets.ensures.value ∙ ap Ok c.in-QoeAck.is)

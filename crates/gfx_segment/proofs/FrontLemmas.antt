@@ -34,7 +34,7 @@ case_of limit size len =
 
 -- what each case gives -----------------------------------------------------------------------------
 
-bad_at : (limit size : ℕ) (bytes : List ℕ) → (size ≡ 0) ⊎ (limit < size) → front_of limit (Some size) bytes ≡ Bad
+pub bad_at : (limit size : ℕ) (bytes : List ℕ) → (size ≡ 0) ⊎ (limit < size) → front_of limit (Some size) bytes ≡ Bad
 unfolding front_of
 bad_at limit size bytes (inl e) = cond-true _ _ _ (or_left _ _ (eq-eqb size 0 e))
 bad_at limit size bytes (inr h) = cond-true _ _ _ (or_right _ _ (lt-ltb limit size h))

@@ -8,3 +8,4 @@ pub mod ReadBackLemmas
 pub mod CuttingLemmas
 pub mod Numbers
 pub mod PayloadLemmas
+pub mod WholeLemmas

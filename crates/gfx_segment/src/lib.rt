@@ -20,6 +20,9 @@
 //!             |                                                   |
 //!             +------------------ pass: its last byte ------------+
 //! ```
+//!
+//! Where a transport keeps channel messages apart, as a dynamic virtual channel does, no length stands before one:
+//! `WholeMessages` gives those in bytes that an end put out, and both readers are fed one by `feed_whole`.
 #![tactic(auto)]
 
 mod blocks;
@@ -28,13 +31,15 @@ mod laws;
 mod payloads;
 mod profile;
 mod splitter;
+mod whole;
 mod writing;
 
-pub use laws::{a_prefixed_message_is_whole, any_cutting_gives_the_same};
+pub use laws::{a_prefixed_message_is_whole, any_cutting_gives_the_same, whole_messages_are_given};
 pub use payloads::Payloads;
 pub use profile::{
     COMPRESSED, MOST_BLOCK, MOST_PAYLOAD, MULTIPART, PREFIX, RDP8, SEGMENTS_AT, SINGLE, SIZE_AT,
     TYPES,
 };
 pub use splitter::Splitter;
+pub use whole::WholeMessages;
 pub use writing::{prefix, wrap, wrap_joined};

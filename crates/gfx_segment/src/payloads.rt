@@ -3,6 +3,7 @@ ghost use Rattle.gfx_base.specs.Outcome.{WantsOnlyIf};
 ghost use Rattle.gfx_base.specs.declared.refusal.Refusal.{Refusal};
 ghost use Rattle.gfx_segment.specs.Framing.{holding, fed, payload, is_described, is_drained, may_give, ended};
 ghost use Rattle.gfx_segment.specs.Payloads.{Opens, OpensMessage};
+ghost use Rattle.gfx_segment.specs.Whole.{streamed};
 
 use crate::blocks::{content_of, read_segments};
 use crate::edge::{Edge, edge_of};
@@ -64,6 +65,16 @@ impl Payloads {
         ensures err { OnErr result (self.new ≡ self.old) }
     {
         self.splitter.feed(piece)
+    }
+
+    /// Takes a whole channel message, without a length before it, as if it stood behind its length in the stream. One
+    /// that is longer than any may be is taken as a length that no message has, and none of its bytes. Behind a
+    /// refusal nothing is kept.
+    pub fn feed_whole(&mut self, message: &[u8]) -> Result<(), NoMemory>
+        ensures ok { OnOk result (self.new ≡ record self.old { splitter = fed self.old.splitter (streamed message.now) }) }
+        ensures err { OnErr result (self.new ≡ self.old) }
+    {
+        self.splitter.feed_whole(message)
     }
 
     /// What is left of the open payload.

@@ -1,14 +1,18 @@
 ghost use Rattle.std.specs.Prelude.{◌≡◌, ℕ, List, [], Result, ◌++◌, ◌+◌, ◌≤◌, length, take, drop, IsTrue, OnOk, OnErr, IfOk, Ok, is_ok};
 ghost use Rattle.gfx_base.specs.Outcome.{WantsOnlyIf};
 ghost use Rattle.gfx_segment.specs.Framing.{Splitter, holding, refused, fed, payload, next, after_next, Answers, Stands, TakesIn, GivesOut, taken, is_drained, may_give, ended};
+ghost use Rattle.gfx_segment.specs.Whole.{streamed};
 ghost use Rattle.gfx_base.specs.declared.refusal.Refusal.{Refusal};
 
 use crate::blocks::read_payload;
 use crate::edge::{Edge, edge_of};
 use crate::profile::PREFIX;
-use gfx_base::{Bytes, Fault, NoMemory, Refusal};
+use gfx_base::{Bytes, Fault, MOST_MESSAGE, NoMemory, Refusal};
 use std::alloc::Global;
 use std::marker::Model;
+
+/// The length of no message, as bytes: 4,294,967,295.
+const NO_LENGTH: [u8; 4] = [255; 4];
 
 /// Cuts bytes, which come in any pieces, into channel messages. Contracts see the bytes that it has
 /// not used yet, and the refusal that it keeps.
@@ -52,6 +56,38 @@ impl Splitter {
         ensures err { OnErr result (self.new ≡ self.old) }
     {
         self.take_in(piece)
+    }
+
+    /// Takes a whole channel message, without a length before it, as if it stood behind its length in the stream. One
+    /// that is longer than any may be is taken as a length that no message has, and none of its bytes. Behind a
+    /// refusal nothing is kept.
+    pub fn feed_whole(&mut self, message: &[u8]) -> Result<(), NoMemory>
+        ensures ok { OnOk result (self.new ≡ fed self.old (streamed message.now)) }
+        ensures law { OnOk result (TakesIn self.old self.new (streamed message.now)) }
+        ensures err { OnErr result (self.new ≡ self.old) }
+    {
+        self.take_whole(message)
+    }
+
+    #[tactic(auto, unfolding(crate::specs::Whole::streamed_within, crate::specs::Framing::prefixed))]
+    fn take_whole(&mut self, message: &[u8]) -> Result<(), NoMemory>
+        ensures ok { OnOk result (self.new ≡ fed self.old (streamed message.now)) }
+        ensures err { OnErr result (self.new ≡ self.old) }
+    {
+        if self.refusal.is_some() {
+            return Ok(());
+        }
+        if message.len() > MOST_MESSAGE as usize {
+            return self.take_in(&NO_LENGTH);
+        }
+        let before = self.buffer.len();
+        self.buffer
+            .extend_from_slice(&(message.len() as u32).to_le_bytes())?;
+        if self.buffer.extend_from_slice(message).is_err() {
+            self.buffer.truncate(before);
+            return Err(NoMemory);
+        }
+        Ok(())
     }
 
     fn take_in(&mut self, piece: &[u8]) -> Result<(), NoMemory>

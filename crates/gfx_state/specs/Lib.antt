@@ -9,3 +9,4 @@ pub mod Codes
 pub mod Sending
 pub mod History
 pub mod Memory
+pub mod Written

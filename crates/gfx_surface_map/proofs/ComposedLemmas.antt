@@ -1,12 +1,13 @@
--- The output's rows, as they are put together.
-use Rattle.std.proofs.Common.{◌≡◌, ap, sym, ◌∙◌, subst, true, if◌then◌else◌, ◌&&◌, nat_le, nat_lt, ℕ, ◌+◌, ◌-◌, ◌<◌, ◌≤◌, List, length, map, take, drop, min, get_or, Option, Some, length-take, length-drop, get_or-take, arith}
+-- The output's rows, as parts of them are put together.
+use Rattle.std.proofs.Common.{◌≡◌, ap, sym, ◌∙◌, subst, true, if◌then◌else◌, ◌&&◌, nat_le, nat_lt, ℕ, ◌+◌, ◌-◌, ◌<◌, ◌≤◌, List, length, map, take, drop, min, get_or, Option, Some, length-take, length-drop, get_or-take, arith, refl}
 use Rattle.std.specs.Prelude.{slice_get}
 use Rattle.std.specs.FinMap.{get}
 use Rattle.std.proofs.lemmas.Option.{get_or_from_slice_get}
 use Rattle.std.proofs.lemmas.Bool.Decides.{nat_tests}
-use Rattle.std.proofs.lemmas.List.{take_all, length-map, get_or-map}
+use Rattle.std.specs.List.{range_with_len}
+use Rattle.std.proofs.lemmas.List.{take_all, length-map, get_or-map, ext_get_or, get_or-drop}
 use borrow.Rule.Slice.PartMut.{put_mid}
-use Rattle.std.proofs.lemmas.List.FromFn.{fill_by_all}
+use Rattle.std.proofs.lemmas.List.FromFn.{length-map-range_with_len, get_or-map-range_with_len}
 use Rattle.std.proofs.lemmas.List.Sums.{fold_more}
 use Rattle.gfx_base.specs.declared.format.Format.TheVariants.{Xrgb}
 use Rattle.gfx_base.specs.declared.pixel.Pixel.{Pixel}
@@ -16,27 +17,33 @@ use Rattle.gfx_surface.proofs.Places.{run_put}
 use Rattle.gfx_surface_map.specs.declared.place.Place.{Place}
 use Rattle.gfx_surface_map.specs.Surfaces.{Surfaces}
 use Rattle.gfx_surface_map.specs.Shown.{Shown}
-use Rattle.gfx_surface_map.specs.Composed.{reaches, over, composed, output_row, PaintsRow, PaintsRun, PaintsMap}
+use Rattle.gfx_surface_map.specs.Composed.{reaches, over, composed, output_part, PaintsPart, PaintsRun, PaintsMap}
 
--- a row of a picture painted over a row of the output
-pub row_painted : (picture : Picture) (place : Place) (y row : ℕ) (pixels old new : List Pixel) → IsPicture picture → place.y ≤ y → row ≡ y - place.y
-    → row < picture.height → pixels ≡ row_of picture row → PaintsRun pixels place.x old new → PaintsRow (Some picture) place y old new
-row_painted picture place y row pixels old new shape on is low read run x d below =
+-- a row of a picture painted over a part of a row of the output
+pub part_painted : (picture : Picture) (place : Place) (left y row : ℕ) (pixels old new : List Pixel) → IsPicture picture → place.y ≤ y → row ≡ y - place.y
+    → row < picture.height → pixels ≡ row_of picture row → PaintsRun (drop (left - place.x) pixels) (place.x - left) old new → PaintsPart (Some picture) place left y old new
+part_painted picture place left y row pixels old new shape on is low read run x d below =
     let wide : length pixels ≡ picture.width = ap length read ∙ length-row_of picture row shape low in
+    let rest : length (drop (left - place.x) pixels) ≡ picture.width - (left - place.x) = length-drop (left - place.x) pixels ∙ ap (λ n. n - (left - place.x)) wide in
     run x d below
-    ∙ ap (λ b. if b then shade Xrgb (get_or pixels (x - place.x) no_pixel) else get_or old x d)
-    (reach place.x picture.width place.y picture.height (length pixels) row wide on is low)
-    ∙ choose (reaches picture place x y) _ _ _ (λ hit.
+    ∙ ap (λ b. if b then shade Xrgb (get_or (drop (left - place.x) pixels) (x - (place.x - left)) no_pixel) else get_or old x d)
+    (reach place.x picture.width place.y picture.height (length (drop (left - place.x) pixels)) row rest on is low)
+    ∙ choose (reaches picture place (left + x) y) _ _ _ (λ hit.
     ap (shade Xrgb) (
-    ap (λ (pixels : List Pixel). get_or pixels (x - place.x) no_pixel) read
-    ∙ get_or-row_of picture row (x - place.x) (column place.x picture.width place.y picture.height hit)
-    ∙ ap (pixel_at picture (x - place.x)) is))
+    get_or-drop (left - place.x) pixels (x - (place.x - left)) no_pixel
+    ∙ ap (λ n. get_or pixels n no_pixel) (place_in place.x picture.width place.y picture.height hit)
+    ∙ ap (λ (pixels : List Pixel). get_or pixels (left + x - place.x) no_pixel) read
+    ∙ get_or-row_of picture row (left + x - place.x) (column place.x picture.width place.y picture.height hit)
+    ∙ ap (pixel_at picture (left + x - place.x)) is))
   where
-    reach : (px w py h n row : ℕ) → n ≡ w → py ≤ y → row ≡ y - py → row < h
-        → (nat_le px x && nat_lt x (px + n)) ≡ (nat_le px x && nat_lt x (px + w) && nat_le py y && nat_lt y (py + h))
+    reach : (px w py h n row : ℕ) → n ≡ w - (left - px) → py ≤ y → row ≡ y - py → row < h
+        → (nat_le (px - left) x && nat_lt x (px - left + n)) ≡ (nat_le px (left + x) && nat_lt (left + x) (px + w) && nat_le py y && nat_lt y (py + h))
     reach px w py h n row wide on is low = grind (arith, nat_tests)
 
-    column : (px w py h : ℕ) → (nat_le px x && nat_lt x (px + w) && nat_le py y && nat_lt y (py + h)) ≡ true → x - px < w
+    place_in : (px w py h : ℕ) → (nat_le px (left + x) && nat_lt (left + x) (px + w) && nat_le py y && nat_lt y (py + h)) ≡ true → left - px + (x - (px - left)) ≡ left + x - px
+    place_in px w py h hit = grind (arith, nat_tests)
+
+    column : (px w py h : ℕ) → (nat_le px (left + x) && nat_lt (left + x) (px + w) && nat_le py y && nat_lt y (py + h)) ≡ true → left + x - px < w
     column px w py h hit = grind (arith, nat_tests)
 
 -- the first opaque pixels of a row are put into a row of the output, as far as it reaches
@@ -66,28 +73,34 @@ run_painted pixels old run start count size width wide on many exact made x d be
     within n same hit = grind (arith, nat_tests)
 
 -- one more map is painted
-pub maps_more : (surfaces : Surfaces) (maps : List (ℕ × Place)) (y i width : ℕ) (e : ℕ × Place) (old new : List Pixel) → i < length maps → length old ≡ width
-    → PaintsRow (get surfaces (get_or maps i e).0) (get_or maps i e).1 y old new
-    → ((x : ℕ) (d : Pixel) → x < width → get_or old x d ≡ composed surfaces (take i maps) x y)
-    → (x : ℕ) (d : Pixel) → x < width → get_or new x d ≡ composed surfaces (take (i + 1) maps) x y
-maps_more surfaces maps y i width e old new below wide paints before x d within =
+pub maps_more : (surfaces : Surfaces) (maps : List (ℕ × Place)) (left y i width : ℕ) (e : ℕ × Place) (old new : List Pixel) → i < length maps → length old ≡ width
+    → PaintsPart (get surfaces (get_or maps i e).0) (get_or maps i e).1 left y old new
+    → ((x : ℕ) (d : Pixel) → x < width → get_or old x d ≡ composed surfaces (take i maps) (left + x) y)
+    → (x : ℕ) (d : Pixel) → x < width → get_or new x d ≡ composed surfaces (take (i + 1) maps) (left + x) y
+maps_more surfaces maps left y i width e old new below wide paints before x d within =
     paints x d (omega arith)
-    ∙ ap (λ under. over (get surfaces (get_or maps i e).0) (get_or maps i e).1 x y under) (before x d within)
-    ∙ sym (fold_more (λ under entry. over (get surfaces entry.0) entry.1 x y under) (zero_colour Xrgb) maps i e below)
+    ∙ ap (λ under. over (get surfaces (get_or maps i e).0) (get_or maps i e).1 (left + x) y under) (before x d within)
+    ∙ sym (fold_more (λ under entry. over (get surfaces entry.0) entry.1 (left + x) y under) (zero_colour Xrgb) maps i e below)
 
 -- all maps are painted
-pub maps_all : (shown : Shown) (y i : ℕ) (out : List Pixel) → length shown.maps ≤ i → length out ≡ shown.output.width
-    → ((x : ℕ) (d : Pixel) → x < shown.output.width → get_or out x d ≡ composed shown.surfaces (take i shown.maps) x y)
-    → out ≡ output_row shown y
-maps_all shown y i out end wide done =
-    fill_by_all (λ x. composed shown.surfaces shown.maps x y) out shown.output.width no_pixel wide
-    (λ x below. done x no_pixel below ∙ ap (λ maps. composed shown.surfaces maps x y) (take_all i shown.maps end))
+pub maps_all : (shown : Shown) (left y i count : ℕ) (out : List Pixel) → length shown.maps ≤ i → length out ≡ count
+    → ((x : ℕ) (d : Pixel) → x < count → get_or out x d ≡ composed shown.surfaces (take i shown.maps) (left + x) y)
+    → out ≡ output_part shown left y count
+maps_all shown left y i count out end wide done =
+    fill_from (λ x. composed shown.surfaces shown.maps x y) left out count no_pixel wide
+    (λ x below. done x no_pixel below ∙ ap (λ maps. composed shown.surfaces maps (left + x) y) (take_all i shown.maps end))
+  where
+    -- a list whose elements are those of a function from a number on
+    fill_from : (f : ℕ → Pixel) (a : ℕ) (xs : List Pixel) (n : ℕ) (d : Pixel) → length xs ≡ n → ((k : ℕ) → k < n → get_or xs k d ≡ f (a + k)) → xs ≡ map f (range_with_len a n)
+    fill_from f a xs n d long each =
+        ext_get_or d xs (map f (range_with_len a n)) (long ∙ sym (length-map-range_with_len f a n))
+        (λ k below. each k (omega (arith, long, below)) ∙ sym (get_or-map-range_with_len f a n k (a + k) d (omega (arith, long, below)) refl))
 
 -- a mapped surface is painted
-pub map_painted : (surfaces table : Surfaces) (maps entries : List (ℕ × Place)) (i y : ℕ) (entry : ℕ × Place) (picture : Option Picture) (old new : List Pixel)
-    → table ≡ surfaces → entries ≡ maps → slice_get entries i ≡ Some entry → picture ≡ get table entry.0 → PaintsRow picture entry.1 y old new
-    → (e : ℕ × Place) → PaintsMap surfaces (get_or maps i e) y old new
-map_painted surfaces table maps entries i y entry picture old new same same_maps found shows paints e =
+pub map_painted : (surfaces table : Surfaces) (maps entries : List (ℕ × Place)) (i left y : ℕ) (entry : ℕ × Place) (picture : Option Picture) (old new : List Pixel)
+    → table ≡ surfaces → entries ≡ maps → slice_get entries i ≡ Some entry → picture ≡ get table entry.0 → PaintsPart picture entry.1 left y old new
+    → (e : ℕ × Place) → PaintsMap surfaces (get_or maps i e) left y old new
+map_painted surfaces table maps entries i left y entry picture old new same same_maps found shows paints e =
     let is : entry ≡ get_or maps i e = sym (get_or_from_slice_get maps i entry e (ap (λ es. slice_get es i) (sym same_maps) ∙ found)) in
-    subst (λ n. PaintsMap surfaces n y old new) is
-    (subst (λ p. PaintsRow p entry.1 y old new) (shows ∙ ap (λ t. get t entry.0) same) paints)
+    subst (λ n. PaintsMap surfaces n left y old new) is
+    (subst (λ p. PaintsPart p entry.1 left y old new) (shows ∙ ap (λ t. get t entry.0) same) paints)

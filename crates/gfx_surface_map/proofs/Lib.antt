@@ -2,6 +2,7 @@ pub mod Entries
 pub mod PaintedLemmas
 pub mod CopiedLemmas
 pub mod ComposedLemmas
+pub mod BytesLemmas
 pub mod RoomLemmas
 pub mod CreatedLemmas
 pub mod OrderLemmas

@@ -1,16 +1,16 @@
-ghost use Rattle.std.specs.Prelude.{◌≡◌, ℕ, ◌≤◌, ◌<◌, ◌*◌, ◌^◌, [], slice_index_or, IfSome, IsSomeAnd, IsTrue, OnOk, is_ok, false, length};
+ghost use Rattle.std.specs.Prelude.{◌≡◌, ℕ, ◌+◌, ◌≤◌, ◌<◌, ◌*◌, ◌^◌, [], slice_index_or, IfSome, IsSomeAnd, IsTrue, OnOk, is_ok, false, length};
 ghost use Rattle.std.specs.Option.{option_copied, option_copied_mut};
 ghost use Rattle.std.specs.Borrow.{sem};
 ghost use Rattle.std.specs.FinMap as map;
 ghost use Rattle.gfx_base.specs.Geometry.{lies_in, width_of, height_of, fit_all};
 ghost use Rattle.gfx_base.specs.Outcome.{Applies, Performs, WantsOnlyIf};
 ghost use Rattle.gfx_surface_map.specs.Shown.{nothing_shown, with_picture, surface_made, surface_deleted, copied_to, output_reset, output_mapped};
-ghost use Rattle.gfx_surface_map.specs.Composed.{output_row, PaintsMap};
+ghost use Rattle.gfx_surface_map.specs.Composed.{output_part, output_row, PaintsMap};
 ghost use Rattle.gfx_surface_map.specs.declared.place.Place.{Place as AnyPlace};
 ghost use Rattle.gfx_surface_map.specs.Order.{from_id, first_id};
 ghost use Rattle.gfx_surface_map.specs.Lending.{LendsSurface};
 
-use crate::composing::{clear_row, paint_row};
+use crate::composing::{clear_part, paint_part};
 use crate::copying::copy_by_scratch;
 use crate::output::fits_output;
 use crate::place::{Output, Place};
@@ -206,18 +206,28 @@ impl SurfaceMap {
         requires whole { length out.old ≡ self.now.shown.output.width }
         ensures { out.new ≡ output_row self.now.shown y }
     {
-        clear_row(out);
+        self.compose_part(0, y, out);
+    }
+
+    /// Puts a part of a row of the output together, as long as the slice, from a column on; both are counted from
+    /// 0. It takes no memory.
+    pub fn compose_part(&self, left: u32, y: u32, out: &mut [Pixel])
+        requires row { y < self.now.shown.output.height }
+        requires columns { left + length out.old ≤ self.now.shown.output.width }
+        ensures { out.new ≡ output_part self.now.shown left y (length out.old) }
+    {
+        clear_part(out);
         'maps: for i in 0..self.maps.len() {
-            self.paint_map(i, y, out);
+            self.paint_map(i, left, y, out);
         }
     }
 
-    /// Paints a mapped surface, counted from 0 in order of mapping, over a row of the output.
-    fn paint_map(&self, i: usize, y: u32, out: &mut [Pixel])
+    /// Paints a mapped surface, counted from 0 in order of mapping, over a part of a row of the output.
+    fn paint_map(&self, i: usize, left: u32, y: u32, out: &mut [Pixel])
         requires { i < length self.now.shown.maps }
-        ensures { (e : ℕ × AnyPlace) → PaintsMap self.now.shown.surfaces (slice_index_or self.now.shown.maps i e) y out.old out.new }
+        ensures { (e : ℕ × AnyPlace) → PaintsMap self.now.shown.surfaces (slice_index_or self.now.shown.maps i e) left y out.old out.new }
     {
         let (id, place) = self.maps.get_index(i).unwrap();
-        paint_row(self.table.get(*id), *place, y, out);
+        paint_part(self.table.get(*id), *place, left, y, out);
     }
 }

@@ -43,6 +43,7 @@ PLAIN = [(scripted.VERSIONS["10"], scripted.AVC_DISABLED)]
 MOST_STEPS = 100000
 # A script with fills that later ones of their frame cover: a server's end leaves them out, and `encode` doesn't.
 COVERED = "desktop.toml"
+PARTS = ("runs", "bands", "subcodecs")
 
 
 class Differs(Exception):
@@ -62,6 +63,25 @@ def opaque(text):
     """A script whose pictures have no alpha, as those that are fed."""
     pixels = re.compile(rb'(pixels = "|pattern = "solid", colour = ")([0-9a-fA-F]*)"')
     return pixels.sub(lambda found: found[1] + re.sub(rb"(......)..", rb"\1ff", found[2]) + b'"', text)
+
+
+def named(calls):
+    """The calls of a script whose paints all name a kind. Where one leaves it open, this server's end and `encode` choose
+    by other rules, and a picture in passes shows other pixels."""
+    return [(word, numbers, dict(words, kind="residual") if words.get("kind") == "auto" else words)
+            for word, numbers, words in calls]
+
+
+def ways(sent):
+    """In which way each picture of a stream goes: by the name of its codec, and of a ClearCodec stream without a glyph
+    by the first of its three parts that has bytes."""
+    for message in recording.messages(recording.Channel(0, data) for data in channels(sent)):
+        if message.name == "WireToSurface1":
+            codec, data = recording.CODECS[message.get("codec")], message.get("data")
+            sizes = struct.unpack_from("<3I", data, 2) if codec == "clear" else ()
+            yield next((part for part, size in zip(PARTS, sizes) if size), codec)
+        elif message.name == "WireToSurface2":
+            yield recording.CODECS[message.get("codec")]
 
 
 # ---- A client
@@ -253,7 +273,7 @@ class Fed:
         greeting = len(feeding.client.words)
         while not feeding.rule.confirmed:
             feeding.hear(chance.randint(1, greeting))
-        calls, eager = collections.deque(script.calls), chance.random()
+        calls, eager = collections.deque(named(script.calls)), chance.random()
         while calls:
             if chance.random() < 0.5:
                 for _ in range(chance.choice((1, 1, 2, 5, 20))):
@@ -281,7 +301,7 @@ class Fed:
         feeding = Feeding(self.program, dict(script.settings, window=64, digests=True), script.offers)
         feeding.meet()
         greeting, digests = len(feeding.client.got), []
-        for call in script.calls:
+        for call in named(script.calls):
             feeding.push(call)
             if call[0] == "frame":
                 feeding.serve()
@@ -619,6 +639,25 @@ class Fed:
         with live.LiveServer(self.program) as server:
             taken = server.take(advertise(PLAIN) + advertise(PLAIN))
             same("two confirmations", 2, len(list(channels(taken.data))))
+
+    def client_of_open_kinds(self):
+        """Pictures whose kind is left open go as what costs least, and in passes where that is dear."""
+        feeding = Feeding(self.program, {}, PLAIN)
+        feeding.meet()
+        feeding.push(("surface", (1, 128, 64), {}))
+        wanted = []
+        for way, width, height, picture in (
+                ("uncompressed", 1, 1, {"pattern": "ramp"}),
+                ("runs", 128, 64, {"pattern": "solid", "colour": "112233ff"}),
+                ("subcodecs", 128, 64, {"pattern": "desktop"}),
+                ("bands", 128, 64, {"pattern": "text"}),
+                ("progressive", 128, 64, {"pattern": "noise", "seed": 1})):
+            pixels = scripted.pixels_of(dict(picture, width=width, height=height))
+            feeding.push(("paint", (1, 0, 0, width, height, pixels), {}))
+            feeding.push(("frame", (), {}))
+            feeding.settle_all()
+            wanted.append(way)
+        same("how pictures go", wanted, list(ways(feeding.end())))
 
     def client_of_each_kind(self):
         """Thin and small clients are served as what they are, and by the version that is best for them."""

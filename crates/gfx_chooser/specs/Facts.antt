@@ -30,6 +30,7 @@ facts_with number surface (Some picture) = Some record {
   width = picture.width;
   height = picture.height;
   colours = colours_counted picture;
+  picture = picture;
 }
 
 -- the facts of a step of this number: those of a paint that names no kind

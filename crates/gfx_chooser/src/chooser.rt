@@ -18,7 +18,7 @@ pub trait Chooser: Drop {
     ghost is_spent: { Self → List Paint → Bool };
 
     /// The kind that a picture is to go as, or none where others are to be asked.
-    fn choose(&mut self, facts: &Facts) -> Option<Kind>
+    fn choose(&mut self, facts: &Facts<'_>) -> Option<Kind>
         ensures answer { result ≡ reply self.old [] facts.now }
         ensures replies { (before : List Paint) (next : Paint) → reply self.new before next ≡ reply self.old (facts.now ∷ before) next }
         ensures spends { (before : List Paint) → is_spent self.new before ≡ is_spent self.old (facts.now ∷ before) };
@@ -33,7 +33,7 @@ impl Chooser for Box<dyn Chooser> {
 
     ghost is_spent = { λ chooser. (Chooser-box chooser).is_spent chooser.value };
 
-    fn choose(&mut self, facts: &Facts) -> Option<Kind> {
+    fn choose(&mut self, facts: &Facts<'_>) -> Option<Kind> {
         (**self).choose(facts)
     }
 

@@ -18,7 +18,7 @@ impl Chooser for ByColours {
 
     ghost is_spent = { λ chooser before. false };
 
-    fn choose(&mut self, facts: &Facts) -> Option<Kind> {
+    fn choose(&mut self, facts: &Facts<'_>) -> Option<Kind> {
         (facts.colours <= self.most).then_some(Kind::Palette)
     }
 
@@ -39,7 +39,7 @@ impl Chooser for ByArea {
 
     ghost is_spent = { λ chooser before. false };
 
-    fn choose(&mut self, facts: &Facts) -> Option<Kind> {
+    fn choose(&mut self, facts: &Facts<'_>) -> Option<Kind> {
         let area = u32::from(facts.width) * u32::from(facts.height);
         (self.least <= area).then_some(Kind::Progressive)
     }
@@ -62,7 +62,7 @@ impl Chooser for Once {
 
     ghost is_spent = { λ chooser before. not (chooser.left && (length before == 0)) };
 
-    fn choose(&mut self, _facts: &Facts) -> Option<Kind> {
+    fn choose(&mut self, _facts: &Facts<'_>) -> Option<Kind> {
         if !self.left {
             return None;
         }

@@ -11,7 +11,7 @@ use gfx_script::{Kind, Script};
 
 /// Asks these choosers in order until one answers, and answers that kind, or `Residual` where none did. Those
 /// that are spent then are dropped. It takes no memory.
-pub fn choose<C: Chooser>(choosers: &mut Vec<C>, facts: &Facts) -> Kind
+pub fn choose<C: Chooser>(choosers: &mut Vec<C>, facts: &Facts<'_>) -> Kind
     ensures kind { result ≡ (chosen (seen C.reply C.is_spent choosers.old.items) facts.now).kind }
     ensures left { AreAlike (seen C.reply C.is_spent choosers.new.items) (chosen (seen C.reply C.is_spent choosers.old.items) facts.now).left }
 {

@@ -1,14 +1,12 @@
 //! The colours of a picture.
-ghost use Rattle.std.specs.Prelude.{◌≡◌, ℕ, Some};
-ghost use Rattle.std.specs.List.{slice_get};
-ghost use Rattle.std.specs.Option.{option_map};
+ghost use Rattle.std.specs.Prelude.{◌≡◌, true, Some};
 ghost use Rattle.gfx_chooser.specs.Facts.{colours_counted};
 ghost use Rattle.gfx_base.specs.Colour.{has_colour};
 
 use crate::facts::MOST_COLOURS;
 use arrayvec::ArrayVec;
 use gfx_base::Rgb;
-use gfx_script::Script;
+use gfx_script::Picture;
 
 /// How many colours are kept to be counted.
 const ROOM: usize = MOST_COLOURS as usize;
@@ -16,20 +14,20 @@ const ROOM: usize = MOST_COLOURS as usize;
 /// Colours, each once.
 type Colours = ArrayVec<Rgb, ROOM>;
 
-/// How many colours the picture of this number has, which has these sides; `MOST_COLOURS` where it has more.
-pub(crate) fn count_colours(script: &Script, picture: u32, width: u16, height: u16) -> u16
-    requires { option_map {U = ℕ × ℕ} (λ one. (one.width, one.height)) (slice_get script.now.pictures picture) ≡ Some (width, height) }
-    ensures { option_map colours_counted (slice_get script.now.pictures picture) ≡ Some result }
+/// How many colours a picture has, alpha not counted; `MOST_COLOURS` where it has more. It takes no memory, and looks
+/// at no pixel once it has found so many.
+pub fn count_colours(picture: &Picture) -> u16
+    ensures { result ≡ colours_counted picture.now }
 {
     let mut colours = Colours::new();
-    'rows: for y in 0..height {
-        'pixels: for x in 0..width {
-            let pixel = script.picture_pixel(picture, x, y);
-            let colour = Rgb {
-                b: pixel.b,
-                g: pixel.g,
-                r: pixel.r,
-            };
+    let mut last = None;
+    'rows: for y in 0..picture.height {
+        'pixels: for x in 0..picture.width {
+            let colour = picture.pixel(x, y).colour();
+            if is_last(last, colour) {
+                continue;
+            }
+            last = Some(colour);
             if has_colour(&colours, colour) {
                 continue;
             }
@@ -40,6 +38,17 @@ pub(crate) fn count_colours(script: &Script, picture: u32, width: u16, height: u
         }
     }
     colours.len() as u16
+}
+
+/// Whether a colour is the same as the last, if there was one.
+#[inline(always)]
+fn is_last(last: Option<Rgb>, colour: Rgb) -> bool
+    ensures { result ≡ true → last ≡ Some colour }
+{
+    match last {
+        None => false,
+        Some(last) => last.is_same(colour),
+    }
 }
 
 /// Whether these colours have one.

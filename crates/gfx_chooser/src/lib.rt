@@ -17,5 +17,6 @@ mod laws;
 pub use chooser::Chooser;
 pub use choosers::{ByArea, ByColours, Once};
 pub use choosing::{choose, kind_at};
-pub use facts::{Facts, MOST_COLOURS, facts_of};
+pub use colours::count_colours;
+pub use facts::{Facts, MOST_COLOURS, PictureRef, facts_of};
 pub use laws::chosen_kinds_fit;

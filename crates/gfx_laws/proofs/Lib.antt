@@ -6,3 +6,4 @@ pub mod Staying
 pub mod Delivering
 pub mod Bringing
 pub mod Unraised
+pub mod Costing

@@ -5,3 +5,4 @@ pub mod Raised
 pub mod Stays
 pub mod Delivered
 pub mod Choosing
+pub mod Costs

@@ -188,6 +188,13 @@ impl Script {
         }
     }
 
+    /// The picture of this number, counted from 0, if there is one.
+    pub fn picture(&self, picture: u32) -> Option<&Picture>
+        ensures { option_copied result ≡ slice_get self.now.pictures picture }
+    {
+        self.pictures.get(picture as usize)
+    }
+
     /// The pixel at column x of row y of the picture of this number.
     pub fn picture_pixel(&self, picture: u32, x: u16, y: u16) -> Pixel
         requires { IsSome (slice_get self.now.pictures picture) }

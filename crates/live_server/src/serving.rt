@@ -10,10 +10,13 @@ use crate::ending::Ending;
 use crate::opening::{Early, Opening};
 use crate::paints::read_paint;
 use crate::records::{Record, read_record};
-use gfx_base::{Sink, Source};
-use gfx_chooser::ByColours;
+use gfx_base::{NoMemory, Sink, Source};
+use gfx_estimate::BySize;
 use gfx_session::{LiveEnd, LiveFault, ServerFault};
 use std::alloc::Global;
+
+/// A picture whose kind is left open goes in passes where it would take more hundredths of its pixels uncompressed.
+const SHARE: u8 = 60;
 
 /// Serves a client until the input ends.
 pub fn serve_client<I: Source, O: Sink>(
@@ -74,7 +77,7 @@ fn feed<I: Source, O: Sink>(
     let answer = take(live, held, said);
     write_answer(answer, said, output)?;
     let mut room = Vec::new(alloc);
-    let mut choosers = Vec::new(alloc);
+    let mut choosers = choosers(alloc)?;
     'records: for _ in 0..u64::MAX {
         let Some(record) = read_record(input, &mut room)? else {
             return Ok(());
@@ -86,11 +89,18 @@ fn feed<I: Source, O: Sink>(
     Ok(())
 }
 
+/// What chooses how a picture goes whose kind is left open.
+fn choosers(alloc: Global) -> Result<Vec<BySize>, NoMemory> {
+    let mut choosers = Vec::new(alloc);
+    choosers.push(BySize { share: SHARE })?;
+    Ok(choosers)
+}
+
 /// Does what a record says.
 fn obey(
     alloc: Global,
     live: &mut LiveEnd,
-    choosers: &mut Vec<ByColours>,
+    choosers: &mut Vec<BySize>,
     record: Record<'_>,
     said: &mut Said,
 ) -> Answer
@@ -157,7 +167,7 @@ fn pushed(outcome: Result<(), LiveFault>) -> Answer {
 }
 
 /// Has a turn.
-fn serve(live: &mut LiveEnd, choosers: &mut Vec<ByColours>, said: &mut Said) -> Answer
+fn serve(live: &mut LiveEnd, choosers: &mut Vec<BySize>, said: &mut Said) -> Answer
     requires { IsLive live.old }
     ensures { IsLive live.new }
 {

@@ -1,5 +1,6 @@
-use Rattle.std.proofs.Common.{◌+◌, ◌*◌, ◌<◌, length}
-use Rattle.std.specs.List.{slice_get}
+use Rattle.std.proofs.Common.{◌≡◌, ◌+◌, ◌*◌, ◌<◌, length, true}
+use Rattle.std.specs.Prelude.{IfSome}
+use Rattle.gfx_base.specs.Colour.{has_colour}
 use Rattle.gfx_chooser.specs.declared.facts.TheConstants.{MOST_COLOURS}
 use Rattle.gfx_chooser.proofs.Counting.{Finds}
 use Rattle.gfx_chooser.proofs.colours.count_colours.Given as goal
@@ -7,11 +8,13 @@ use Rattle.gfx_chooser.proofs.colours.count_colours.Given as goal
 abbrev pub invariant-rows : goal.invariant-rows
 invariant-rows l = record {
   few : length l.colours.items < MOST_COLOURS;
-  finds : Finds (slice_get l.script.pictures l.picture) l.colours.items (l.y * l.width);
+  finds : Finds l.picture l.colours.items (l.y * l.picture.width);
+  held : IfSome l.last (λ colour. has_colour l.colours.items colour ≡ true);
 }
 
 abbrev pub invariant-pixels : goal.invariant-pixels
 invariant-pixels l = record {
   few : length l.colours.items < MOST_COLOURS;
-  finds : Finds (slice_get l.script.pictures l.picture) l.colours.items (l.y * l.width + l.x);
+  finds : Finds l.picture l.colours.items (l.y * l.picture.width + l.x);
+  held : IfSome l.last (λ colour. has_colour l.colours.items colour ≡ true);
 }

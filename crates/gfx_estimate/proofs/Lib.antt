@@ -1,0 +1,4 @@
+pub mod Counted
+pub mod Meeting
+pub mod Numbers
+pub mod Streams

@@ -3,6 +3,7 @@ pub mod Surfaces
 pub mod Bitmaps
 pub mod Starts
 pub mod Imports
+pub mod StartPlaces
 pub mod OwnKinds
 pub mod Limits
 pub mod MoreSteps

@@ -1,5 +1,5 @@
 -- The steps of a script, and what holds of every script that is accepted: this project's own rule.
-use Rattle.std.specs.Prelude.{◌≡◌, ℕ, ◌-◌, ◌≤◌, ◌<◌, ◌^◌, ◌==◌, Bool, true, false, ◌&&◌, nat_le, nat_lt, IsTrue, if◌then◌else◌, List, [], ◌∷◌, length, Option, Some, None, Ok, IfSome}
+use Rattle.std.specs.Prelude.{◌≡◌, ℕ, ◌-◌, ◌≤◌, ◌<◌, ◌^◌, ◌==◌, Bool, true, false, ◌&&◌, nat_le, nat_lt, IsTrue, if◌then◌else◌, List, [], ◌∷◌, filter, length, Option, Some, None, Ok, IfSome}
 use Rattle.std.specs.List.{AllByRecursion, list_all, slice_get}
 use Rattle.gfx_base.specs.declared.geometry.Point.{Point}
 use Rattle.gfx_base.specs.declared.geometry.Rect.{Rect}
@@ -23,6 +23,10 @@ use Rattle.gfx_script.specs.Scripted.{Script}
 abbrev pub is_frame : Step → Bool
 is_frame Frame = true
 is_frame step = false
+
+-- how many steps are frames
+abbrev pub frames_in : List Step → ℕ
+frames_in steps = length (filter is_frame steps)
 
 -- the last step, where there is one, is a frame
 abbrev pub is_framed : List Step → Bool

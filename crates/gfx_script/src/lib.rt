@@ -33,7 +33,7 @@ pub use held::{Held, Sides};
 pub use laws::{accepted_scripts_are_built, chosen_versions_are_offers};
 pub use picture::{Pattern, Picture};
 pub use script::{Script, ScriptParts, is_framed};
-pub use start::StartBitmap;
+pub use start::{StartBitmap, imported_start};
 pub use step::{Entropy, Kind, Step};
 pub use turn::Turn;
 pub use way::Way;

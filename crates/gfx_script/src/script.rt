@@ -1,13 +1,13 @@
 //! A script: pictures and steps, and what a session of them is like.
 
-ghost use Rattle.std.specs.Prelude.{◌≡◌, ◌==◌, IsSome, OnErr, OnOk, Some, length};
+ghost use Rattle.std.specs.Prelude.{◌≡◌, ◌==◌, IsSome, OnErr, OnOk, Some, drop, length};
 ghost use Rattle.std.specs.List.{slice_get};
 ghost use Rattle.std.specs.Option.{option_copied, option_map};
 ghost use Rattle.gfx_script.specs.Patterns.{pixel_of};
 ghost use Rattle.gfx_base.specs.Outcome.{Gives};
 ghost use Rattle.gfx_script.specs.Drafts.{frame_ended, grown_by, moved_out};
 ghost use Rattle.gfx_script.specs.Parts.{parts_seen};
-ghost use Rattle.gfx_script.specs.Script.{IsAcceptedAtStart, step_at, is_framed};
+ghost use Rattle.gfx_script.specs.Script.{IsAcceptedAtStart, frames_in, step_at, is_framed};
 
 use crate::draft::Draft;
 use crate::error::Flaw;
@@ -168,6 +168,15 @@ impl Script {
         self.steps.len()
     }
 
+    /// How many frames stand behind the step of this number, counted from 1.
+    pub fn frames_behind(&self, number: u32) -> usize
+        ensures { result ≡ frames_in (drop number self.now.steps) }
+    {
+        let steps = self.steps.as_slice();
+        let (_, behind) = steps.split_at(steps.len().min(number as usize));
+        frames_in(behind)
+    }
+
     /// The step of this number, counted from 1, if there is one.
     pub fn step(&self, number: u32) -> Option<&Step>
         ensures { option_copied result ≡ step_at self.now.steps number }
@@ -247,6 +256,13 @@ impl Script {
     {
         self.turns.get(at as usize).copied()
     }
+}
+
+/// How many of these steps are frames.
+fn frames_in(steps: &[Step]) -> usize
+    ensures { result ≡ frames_in steps.now }
+{
+    steps.iter().filter(|step| step.is_frame()).count()
 }
 
 /// Whether the last step, where there is one, is a frame.

@@ -14,5 +14,4 @@ pub mod SessionRanges
 pub mod PictureRanges
 pub mod Accepted
 pub mod FromNothing
-pub mod Starting
 pub mod Limits

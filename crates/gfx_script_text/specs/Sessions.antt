@@ -5,12 +5,12 @@ use Rattle.std.specs.Option.{ok_or}
 use Rattle.std.specs.Str.{bytes_eq}
 use Rattle.toml.specs.Data.{Data, Members, as_table}
 use Rattle.gfx_base.specs.Results.{◌>>=◌, check, each}
-use Rattle.gfx_script.specs.declared.TheConstants.{MOST_WINDOW, MOST_TURNS}
+use Rattle.gfx_script.specs.declared.TheConstants.{MOST_WINDOW, MOST_TURNS, USUAL_WINDOW}
 use Rattle.gfx_script.specs.declared.error.ScriptKind.{ScriptKind}
 use Rattle.gfx_script.specs.declared.error.ScriptKind.TheVariants.{Key, Range}
 use Rattle.gfx_script.specs.declared.turn.Turn.{Turn}
 use Rattle.gfx_script.specs.declared.turn.Turn.TheVariants.{Server, Client, Answer}
-use Rattle.gfx_script_text.specs.declared.TheConstants.{USUAL_WINDOW, MOST_TAKE}
+use Rattle.gfx_script_text.specs.declared.TheConstants.{MOST_TAKE}
 use Rattle.gfx_script_text.specs.Members.{has_only, whole, text, within}
 
 -- the window, which may be missing

@@ -23,7 +23,6 @@ mod progressive;
 mod promises;
 mod reading;
 mod session;
-mod start;
 mod surface;
 mod video;
 mod words;
@@ -40,6 +39,3 @@ pub const MOST_TAKE: u32 = 4_294_967_295;
 
 /// The most low bits that a level of progressive quality leaves out of a band.
 pub const MOST_LEFT_OUT: u8 = 9;
-
-/// How many frames may be in flight where a script doesn't say it.
-pub const USUAL_WINDOW: u8 = 2;

@@ -21,13 +21,13 @@ use crate::names::Names;
 use crate::pictures::{Gallery, read_pictures};
 use crate::progressive::{Progressive, read_progressive};
 use crate::session::{read_turns, read_window};
-use crate::start::read_start;
 use crate::video::read_video;
 use crate::words::read_step;
 use gfx_caps::{Offers, offers_small, offers_thin};
 use gfx_import::Kept;
 use gfx_script::{
-    Entropy, Flaw, Held, MOST_STEPS, Script, ScriptKind, ScriptParts, Step, is_framed,
+    Entropy, Flaw, Held, MOST_STEPS, Script, ScriptKind, ScriptParts, Step, imported_start,
+    is_framed,
 };
 use std::alloc::Global;
 use toml::{Table, Value};
@@ -129,7 +129,7 @@ fn read_parts(
     let Gallery { names, pictures } = gallery;
     let small = offers_small(offers.as_slice());
     let thin = offers_thin(offers.as_slice());
-    let Ok(start) = read_start(alloc, server, client, small) else {
+    let Ok(start) = imported_start(alloc, server, client, small) else {
         return Err(ScriptError::Memory);
     };
     let Ok(held) = Held::with_bitmaps(alloc, &pictures, small, &start) else {

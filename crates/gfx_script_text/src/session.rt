@@ -8,9 +8,9 @@ ghost use Rattle.gfx_script_text.specs.declared.TheConstants.{MOST_TAKE};
 ghost use Rattle.gfx_script_text.specs.Members.{within};
 ghost use Rattle.gfx_script_text.specs.Sessions.{window_of, taken_of, server_of, client_of, answer_of, ended, turn_of, turns_of};
 
+use crate::MOST_TAKE;
 use crate::members::{check_keys, small_within, text, whole};
-use crate::{MOST_TAKE, USUAL_WINDOW};
-use gfx_script::{Flaw, MOST_TURNS, MOST_WINDOW, ScriptKind, Turn};
+use gfx_script::{Flaw, MOST_TURNS, MOST_WINDOW, ScriptKind, Turn, USUAL_WINDOW};
 use std::alloc::Global;
 use toml::{Table, Value};
 

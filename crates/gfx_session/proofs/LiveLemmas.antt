@@ -25,17 +25,17 @@ use Rattle.gfx_script.specs.declared.step.Kind.{Kind}
 use Rattle.gfx_script.specs.declared.step.Step.{Step}
 use Rattle.gfx_script.specs.declared.step.Step.TheVariants.{Frame}
 use Rattle.gfx_caps.specs.Offers.{small_of}
-use Rattle.gfx_script.specs.Checks.{Held, held_first, held_through, sides_of_all}
+use Rattle.gfx_script.specs.Checks.{Held, held_from, held_through, sides_of_all}
 use Rattle.gfx_script.specs.Drafts.{Draft, GoesOn, frame_ended, grown_by, moved_out, nothing_drafted, painted, pushed}
 use Rattle.gfx_script.specs.Heads.{script_from}
 use Rattle.gfx_script.specs.Kinds.{KindedStep, Fits, own}
 use Rattle.gfx_script.specs.Script.{IsAcceptedFrom, IsStep, is_frame, is_framed}
+use Rattle.gfx_script.specs.declared.start.StartBitmap.{StartBitmap}
 use Rattle.gfx_script.specs.Scripted.{Script}
 use Rattle.gfx_script.specs.Starting.{stock_with}
 use Rattle.gfx_script.proofs.Drafting.{frame_pushed, grown_accepted, moved_goes_on, nothing_goes_on, step_goes_on}
 use Rattle.gfx_script.proofs.MoreSteps.{held_through-none, more_sides, sides_both}
 use Rattle.gfx_script.proofs.OwnKinds.{own_steps_fit}
-use Rattle.gfx_schedule.specs.ServerEnd.{server_at_start}
 use Rattle.gfx_session.specs.Kept.{InStep, IsServerEndFrom, Stands}
 use Rattle.gfx_session.specs.Live.{Feeds, IsLive, StandsWithMore, fault_of_flaw, fed, frame_fed, paint_fed, step_fed}
 use Rattle.gfx_session.specs.Noting.{Listens}
@@ -201,12 +201,12 @@ kept_stands live draft at more st gained = none_kinded live.end at more (no_more
 
 -- a live end that has begun ----------------------------------------------------------------------------------------------
 
-pub begun_live : (live : LiveEnd) (script : Script) (head : HeadParts) → script ≡ script_from head [] → live.end.script ≡ script → IsServerEndFrom (held_first (sides_of_all script.pictures) script.small) live.end
-    → live.draft ≡ nothing_drafted (stock_with [] (small_of head.offers)) → IsLive live
-begun_live live script head is same end draft =
-    let held : Held = held_first [] (small_of head.offers) in
-    let here : IsServerEndFrom held live.end = subst (λ (s : Script). IsServerEndFrom (held_first (sides_of_all s.pictures) s.small) live.end) is end in
-    let all : live.end.script ≡ script_from head [] = same ∙ is in
+pub begun_live : (live : LiveEnd) (script : Script) (head : HeadParts) (start : List StartBitmap) → script ≡ script_from head start → live.end.script ≡ script
+    → IsServerEndFrom (held_from [] (stock_with start (small_of head.offers))) live.end
+    → live.draft ≡ nothing_drafted (stock_with start (small_of head.offers)) → IsLive live
+begun_live live script head start is same here draft =
+    let held : Held = held_from [] (stock_with start (small_of head.offers)) in
+    let all : live.end.script ≡ script_from head start = same ∙ is in
     let none : ◌≡◌ {A = Result Held ScriptKind} (Ok held) (Ok here.good.held) = sym (held_through-none held) ∙ ap (λ (s : Script). held_through held s.steps) (sym all) ∙ here.good.checked in
     let left : here.good.held ≡ held = cc in
     record {
@@ -216,14 +216,15 @@ begun_live live script head is same end draft =
       draft =
           subst (λ h. GoesOn h (length live.end.script.steps) live.draft) (sym left)
           (subst (λ n. GoesOn held n live.draft) (ap (λ (s : Script). length s.steps) (sym all))
-          (subst (GoesOn held 0) (sym draft) (nothing_goes_on (stock_with [] (small_of head.offers)))));
+          (subst (GoesOn held 0) (sym draft) (nothing_goes_on (stock_with start (small_of head.offers)))));
     }
 
-pub begun_stands : (end : ServerEnd) (script : Script) (head : HeadParts) → script ≡ script_from head [] → ((kinded : List KindedStep) → Fits kinded script.steps → Stands end (server_at_start script kinded))
-    → Stands end (server_at_start (script_from head []) [])
-begun_stands end script head is stands =
-    let none : Fits [] script.steps = record { same = ap (λ (s : Script). s.steps) (sym is); kinds = tt } in
-    subst (λ (s : Script). Stands end (server_at_start s [])) is (stands [] none)
+-- the schedule's end that a live end stands for before anything was pushed, whatever the script starts with
+pub begun_stands : (end : ServerEnd) (script from : Script) (at : Script → List KindedStep → ScheduledEnd) → script ≡ from → from.steps ≡ [] → ((kinded : List KindedStep) → Fits kinded script.steps → Stands end (at script kinded))
+    → Stands end (at from [])
+begun_stands end script from at is none stands =
+    let fits : Fits [] script.steps = record { same = sym (ap (λ (s : Script). s.steps) is ∙ none); kinds = tt } in
+    subst (λ (s : Script). Stands end (at s [])) is (stands [] fits)
 
 -- what is answered ---------------------------------------------------------------------------------------------------------
 

@@ -3,12 +3,11 @@ use Rattle.std.proofs.Common.{◌≡◌, ℕ, zero, suc, add-one, ◌+◌, ◌==
 use Rattle.std.proofs.lemmas.Bool.{eqb-true}
 use Rattle.std.proofs.lemmas.List.{append-nil, map-append, append_cancel_left, length-map, length-drop, take-append-drop}
 use Rattle.std.proofs.Math.Seq.{drop-append_seam}
-use Rattle.gfx_caps.specs.declared.offer.Offer.{Offer}
 use Rattle.gfx_chooser.specs.Choosing.{Chooser}
 use Rattle.gfx_chooser.specs.Kinded.{Asks}
 use Rattle.gfx_chooser.proofs.Asking.{asks_none, asks_on}
 use Rattle.gfx_client.specs.Client.{cursor_of, closed_by, offers_of}
-use Rattle.gfx_client.specs.Replies.{hello, replies}
+use Rattle.gfx_client.specs.Replies.{replies}
 use Rattle.gfx_client.specs.Standing.{StandsFrom, HasBroughtFrom, IsDrained}
 use Rattle.gfx_client.specs.declared.client.Client.{Client}
 use Rattle.gfx_client.proofs.Bringing.{brought_drained}
@@ -472,6 +471,3 @@ is_started session end client up origin script asked b server same digests begin
 pub last_started : (session : Session) (end : ServerEnd) (client : Client) (up : List ℕ) (origin : Start) (script : Script) → IsBegun session end client up → ((kinded : List KindedStep) → Fits kinded script.steps → kept.Stands end (server_end_from origin script kinded))
     → session.server.last ≡ 0
 last_started session end client up origin script b stands = ap (λ (z : ServerEnd). z.last) b.server ∙ (stands (map own script.steps) (own_steps_fit script.steps)).last
-
-pub starts_up : (up before bytes : List ℕ) (offered offers : List Offer) → up ≡ before ++ bytes → before ≡ [] → bytes ≡ hello offered → offered ≡ offers → up ≡ hello offers
-starts_up up before bytes offered offers put none says are = put ∙ ap (λ z. z ++ bytes) none ∙ says ∙ ap hello are

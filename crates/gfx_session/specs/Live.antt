@@ -4,19 +4,28 @@ use Rattle.gfx_base.specs.declared.answer.Cause.{Cause}
 use Rattle.gfx_base.specs.declared.answer.Cause.TheVariants as cause
 use Rattle.gfx_base.specs.declared.geometry.Point.{Point}
 use Rattle.gfx_base.specs.Results.{◌>>=◌}
+use Rattle.gfx_bitmap_cache.specs.Slots.{Entry}
+use Rattle.gfx_caps.specs.Offers.{small_of}
+use Rattle.gfx_import.specs.Imported.{imported}
 use Rattle.gfx_schedule.specs.Feeding.{with_more}
 use Rattle.gfx_schedule.specs.ServerEnd.{ScheduledEnd, is_none}
 use Rattle.gfx_script.specs.declared.TheConstants.{MOST_STEPS}
 use Rattle.gfx_script.specs.declared.error.ScriptKind.{ScriptKind}
+use Rattle.gfx_script.specs.declared.head.HeadParts.{HeadParts}
 use Rattle.gfx_script.specs.declared.picture.Picture.{Picture}
 use Rattle.gfx_script.specs.declared.step.Kind.{Kind}
 use Rattle.gfx_script.specs.declared.step.Step.{Step}
 use Rattle.gfx_script.specs.Checks.{Held, sides_of_all}
 use Rattle.gfx_script.specs.Drafts.{Draft, GoesOn, frame_ended, painted, pushed, steps_so_far}
+use Rattle.gfx_script.specs.Heads.{script_from}
 use Rattle.gfx_script.specs.Kinds.{KindedStep}
-use Rattle.gfx_script.specs.Script.{is_frame}
+use Rattle.gfx_script.specs.Script.{frames_in, is_frame}
+use Rattle.gfx_script.specs.Scripted.{Script}
+use Rattle.gfx_script.specs.Starting.{starts_of}
 use Rattle.gfx_window.specs.Window.{has_room}
 use Rattle.gfx_session.specs.Kept.{IsServerEndFrom, Stands}
+use Rattle.gfx_session.specs.declared.live_end.KeptFault.{KeptFault}
+use Rattle.gfx_session.specs.declared.live_end.KeptFault.TheVariants as kept
 use Rattle.gfx_session.specs.declared.live_end.LiveEnd.{LiveEnd}
 use Rattle.gfx_session.specs.declared.live_end.LiveFault.{LiveFault}
 use Rattle.gfx_session.specs.declared.live_end.LiveFault.TheVariants.{Wrong, Full, Memory}
@@ -72,12 +81,29 @@ pub record IsLive (live : LiveEnd) : Type 0 where
   pub end : IsServerEndFrom held live.end
   pub draft : GoesOn end.good.held (length live.end.script.steps) live.draft
 
+-- ---- beginning with kept bitmaps
+
+-- the script of a live end that begins with what is imported of these two files
+abbrev pub script_kept : HeadParts → List Entry → List Entry → Script
+script_kept head server client = script_from head (starts_of (imported server client (small_of head.offers)))
+
+-- how it begins, where the bitmaps that are imported have the same sides at both ends, or don't
+abbrev pub BeginsKept : Result LiveEnd KeptFault → Bool → Type 0
+BeginsKept (Ok live) same = same ≡ true
+BeginsKept (Err kept.Sides) same = same ≡ false
+BeginsKept (Err kept.Memory) same = same ≡ true
+
 -- ---- what a caller asks
 
 -- all that was pushed in whole frames was sent, and a frame that were pushed now could go at once
 abbrev pub wants_frame : LiveEnd → Bool
 wants_frame live =
     not live.end.spent && (live.end.confirmed && (has_room live.end.window && (is_none live.end.window.pending && is_none (drop live.end.last live.end.script.steps))))
+
+-- how many of the frames that were pushed weren't sent; none will be of one that is spent
+abbrev pub frames_behind : LiveEnd → ℕ
+frames_behind live =
+    if live.end.spent then 0 else frames_in (drop (live.end.last - length live.end.window.pending) live.end.script.steps)
 
 -- how many of the steps that were pushed weren't sent; none will be of one that is spent
 abbrev pub steps_behind : LiveEnd → ℕ

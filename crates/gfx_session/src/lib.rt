@@ -1,6 +1,8 @@
 //! A session: the server's end, which plans a script's steps and joins them into frames, and a client,
 //! joined by two queues of bytes and moved by turns.
 //!
+//! A server with no finished script has `LiveEnd`: a server's end whose script grows while the session goes on.
+//!
 //! In the pipe it stands above the planner and the window, which make what is sent, the client, which
 //! draws it, and the report, which digests what both have. What a session does is that of `gfx_schedule`,
 //! which has the laws on it: neither end refuses anything, and the ends agree at each acknowledged frame.
@@ -33,6 +35,6 @@ mod session;
 pub use acked::{Acked, Acks};
 pub use digests::Digests;
 pub use gfx_schedule::Turned;
-pub use live_end::{LiveEnd, LiveFault};
+pub use live_end::{KeptFault, LiveEnd, LiveFault};
 pub use server_end::{ServerEnd, ServerFault, ShownFrame};
 pub use session::Session;

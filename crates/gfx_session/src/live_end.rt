@@ -1,15 +1,18 @@
 //! A server's end that is fed: its script grows while the session goes on.
 
 ghost use Rattle.std.specs.Prelude.{◌≡◌, ◌+◌, [], false, nat_le, IfOk, OnOk};
+ghost use Rattle.gfx_import.specs.Agreed.{have_same_sides};
+ghost use Rattle.gfx_caps.specs.Offers.{small_of};
 ghost use Rattle.gfx_chooser.specs.Seen.{seen};
-ghost use Rattle.gfx_schedule.specs.ServerEnd.{server_at_start};
+ghost use Rattle.gfx_schedule.specs.ServerEnd.{server_at_start, server_end_from};
+ghost use Rattle.gfx_schedule.specs.Starts.{from_kept};
 ghost use Rattle.gfx_script.specs.Drafts.{nothing_drafted, steps_so_far};
 ghost use Rattle.gfx_script.specs.declared.TheConstants.{MOST_STEPS};
 ghost use Rattle.gfx_script.specs.declared.step.Step.TheVariants.{Paint};
 ghost use Rattle.gfx_script.specs.Heads.{script_from};
 ghost use Rattle.gfx_script.specs.Starting.{stock_with};
 ghost use Rattle.gfx_session.specs.Kept.{Stands};
-ghost use Rattle.gfx_session.specs.Live.{Feeds, IsLive, StandsWithMore, fed, frame_fed, is_full, paint_fed, step_fed, steps_behind, wants_frame};
+ghost use Rattle.gfx_session.specs.Live.{BeginsKept, Feeds, IsLive, StandsWithMore, fed, frame_fed, frames_behind, is_full, paint_fed, script_kept, step_fed, steps_behind, wants_frame};
 ghost use Rattle.gfx_session.specs.Noting.{Listens};
 ghost use Rattle.gfx_session.specs.Serving.{Serves};
 
@@ -17,8 +20,11 @@ use crate::digests::Digests;
 use crate::server_end::{ServerEnd, ServerFault, ShownFrame};
 use gfx_base::{Bytes, NoMemory, Point};
 use gfx_chooser::Chooser;
+use gfx_import::{Kept, have_same_sides};
 use gfx_schedule::Turned;
-use gfx_script::{Draft, Flaw, Head, Kind, MOST_STEPS, Picture, Script, ScriptKind, Step};
+use gfx_script::{
+    Draft, Flaw, Head, Kind, MOST_STEPS, Picture, Script, ScriptKind, Step, imported_start,
+};
 use std::alloc::Global;
 use thiserror::Error;
 
@@ -49,6 +55,27 @@ impl From<Flaw> for LiveFault {
     }
 }
 
+/// Why no live end begins with kept bitmaps.
+#[derive(Clone, Copy, Debug, PartialEq, Eq, Error)]
+pub enum KeptFault {
+    /// One of the bitmaps that are imported has other sides at the client.
+    #[error("a kept bitmap has other sides at the client")]
+    Sides,
+    /// No memory is left.
+    #[error("no memory is left")]
+    Memory,
+}
+
+impl From<NoMemory> for KeptFault {
+    ghost use Rattle.gfx_session.specs.declared.live_end.KeptFault.TheVariants.{Memory};
+
+    ghost from_gives = { λ _ fault. fault ≡ Memory };
+
+    fn from(_lack: NoMemory) -> KeptFault {
+        KeptFault::Memory
+    }
+}
+
 /// A server's end, and the steps that were pushed since the last frame, which aren't in its script yet.
 #[derive(Drop)]
 pub struct LiveEnd {
@@ -65,6 +92,32 @@ impl LiveEnd {
     {
         let draft = Draft::new(alloc, head.small(), &[])?;
         let end = ServerEnd::new(alloc, head.script(alloc), digests)?;
+        Ok(LiveEnd { end, draft })
+    }
+
+    /// A live end of this head whose two ends kept bitmaps of an earlier session, in these files: it begins with those
+    /// that are imported of them, and the version is confirmed ([MS-RDPEGFX] 3.2.5.13). Sides exactly where one of them
+    /// has other sides at the client.
+    pub fn with_kept(
+        alloc: Global,
+        head: Head,
+        server: &Kept,
+        client: &Kept,
+        digests: Digests,
+    ) -> Result<LiveEnd, KeptFault>
+        ensures begins { BeginsKept result (have_same_sides server.now client.now (small_of head.offers)) }
+        ensures stands { IfOk result (λ live. Stands live.end (server_end_from (from_kept (script_kept head server.now client.now) server.now client.now) (script_kept head server.now client.now) [])) }
+        ensures starts { IfOk result (λ live. (live.end.script ≡ script_kept head server.now client.now) × (live.end.closed ≡ false) × (live.end.digests ≡ digests) × (live.draft ≡ nothing_drafted (stock_with live.end.script.start live.end.script.small))) }
+        ensures is { IfOk result IsLive }
+    {
+        let small = head.small();
+        if !have_same_sides(server, client, small) {
+            return Err(KeptFault::Sides);
+        }
+        let start = imported_start(alloc, server, client, small)?;
+        let draft = Draft::new(alloc, small, &start)?;
+        let script = head.script_with(alloc, start);
+        let end = ServerEnd::with_kept(alloc, script, server, client, digests)?;
         Ok(LiveEnd { end, draft })
     }
 
@@ -166,6 +219,14 @@ impl LiveEnd {
             return 0;
         }
         self.end.steps_behind() + self.draft.len() as u32
+    }
+
+    /// How many of the frames that were pushed weren't sent yet; 0 where want of memory in `serve` has left it spent.
+    pub fn frames_behind(&self) -> usize
+        requires { IsLive self.now }
+        ensures { result ≡ frames_behind self.now }
+    {
+        self.end.frames_behind()
     }
 
     /// Ends the frame: what was pushed is in the script.

@@ -9,7 +9,7 @@ ghost use Rattle.gfx_schedule.specs.ServerEnd.{is_none, server_at_start, server_
 ghost use Rattle.gfx_schedule.specs.Starts.{MayImport, from_kept};
 ghost use Rattle.gfx_script.specs.Checks.{held_first, sides_of_all};
 ghost use Rattle.gfx_script.specs.Drafts.{frame_ended};
-ghost use Rattle.gfx_script.specs.Script.{IsAccepted, held_at_start};
+ghost use Rattle.gfx_script.specs.Script.{IsAccepted, frames_in, held_at_start};
 ghost use Rattle.gfx_script.specs.declared.TheConstants.{MOST_STEPS};
 ghost use Rattle.gfx_window.specs.Window.{has_room};
 ghost use Rattle.gfx_script.specs.Kinds.{Fits, KindedStep};
@@ -148,6 +148,18 @@ impl ServerEnd {
             return 0;
         }
         self.window.due() as u32 + (self.script.step_count() as u32 - self.last)
+    }
+
+    /// How many frames of the script weren't sent yet. None will be of one that is spent.
+    pub(crate) fn frames_behind(&self) -> usize
+        requires within { self.now.spent ≡ false → (length self.now.window.pending ≤ self.now.last) × (self.now.last ≤ length self.now.script.steps) }
+        ensures { result ≡ (if self.now.spent then 0 else frames_in (drop (self.now.last - length self.now.window.pending) self.now.script.steps)) }
+    {
+        if self.spent {
+            return 0;
+        }
+        self.script
+            .frames_behind(self.last - self.window.due() as u32)
     }
 
     /// Whether memory ran out in a turn, so that nothing is sent any more.

@@ -4,6 +4,7 @@ ghost use Rattle.std.specs.Prelude.{◌≡◌, ℕ, List, [], ◌++◌, ◌≤�
 ghost use Rattle.gfx_caps.specs.declared.offer.TheConstants.{MOST_OFFERS};
 ghost use Rattle.gfx_chooser.specs.Seen.{seen};
 ghost use Rattle.gfx_client.specs.Client.{offers_of, IsUntouched};
+ghost use Rattle.gfx_client.specs.Replies.{hello};
 ghost use Rattle.gfx_client.specs.Standing.{StandsFor, StandsFrom, IsDrained};
 ghost use Rattle.gfx_import.specs.Started.{in_slots, own};
 ghost use Rattle.gfx_schedule.specs.Starts.{MayImport, from_kept};
@@ -58,11 +59,14 @@ impl Session {
         ensures last { IfOk result (λ session. session.server.last ≡ 0) }
         ensures is { IfOk result (λ session. IsSession session × (script_of session ≡ script) × (session.server.digests ≡ digests)) }
     {
-        let client = client_of(alloc, &script)?;
-        let mut up = Queue::new(alloc);
-        up.put(client.hello()?)?;
-        let server = ServerEnd::new(alloc, script, digests)?;
-        Ok(begun(alloc, server, client, up))
+        let said = greeting_client(alloc, &script)?;
+        match ServerEnd::new(alloc, script, digests) {
+            Ok(end) => Ok(begun(alloc, end, said.0, said.1)),
+            Err(lack) => {
+                said.0.let_go();
+                Err(lack)
+            }
+        }
     }
 
     /// The session of a script that was read with these two files of kept bitmaps, right after its ends have agreed on
@@ -259,7 +263,34 @@ fn client_of(alloc: Global, script: &Script) -> Result<Client, NoMemory>
     Client::new(alloc, offers)
 }
 
-/// The same, which begins with its own bitmaps of what is imported of these two files.
+/// The same, and what it says first, on its way.
+fn greeting_client(alloc: Global, script: &Script) -> Result<(Client, Queue), NoMemory>
+    requires { length script.now.offers ≤ MOST_OFFERS }
+    ensures stands { IfOk result (λ said. StandsFor said.0 []) }
+    ensures drained { IfOk result (λ said. IsDrained said.0) }
+    ensures offers { IfOk result (λ said. offers_of said.0 ≡ script.now.offers) }
+    ensures up { IfOk result (λ said. said.1 ≡ hello script.now.offers) }
+{
+    let client = client_of(alloc, script)?;
+    match greeting(alloc, &client) {
+        Ok(up) => Ok((client, up)),
+        Err(lack) => {
+            client.let_go();
+            Err(lack)
+        }
+    }
+}
+
+/// What a client says first, on its way.
+fn greeting(alloc: Global, client: &Client) -> Result<Queue, NoMemory>
+    ensures { IfOk result (λ up. up ≡ hello (offers_of client.now)) }
+{
+    let mut up = Queue::new(alloc);
+    up.put(client.hello()?)?;
+    Ok(up)
+}
+
+/// A client that begins with its own bitmaps of what is imported of these two files.
 fn client_with(
     alloc: Global,
     script: &Script,

@@ -2,7 +2,7 @@ use Rattle.std.proofs.Common.{◌≡◌, take}
 use Rattle.std.specs.Vec.{vec_len, vec_capacity}
 use Rattle.gfx_import.specs.Imported.{imported}
 use Rattle.gfx_script.specs.Starting.{starts_of}
-use Rattle.gfx_script_text.proofs.start.read_start.Given as goal
+use Rattle.gfx_script.proofs.start.imported_start.Given as goal
 
 abbrev pub invariant-places : goal.invariant-places
 invariant-places l = record {

@@ -3,8 +3,8 @@ use Rattle.gfx_bitmap_cache.specs.Slots.{entry, image_of}
 use Rattle.gfx_import.specs.Imported.{imported}
 use Rattle.gfx_script.specs.Starting.{IsStart}
 use Rattle.gfx_script.proofs.Imports.{imported_start}
-use Rattle.gfx_script_text.proofs.Starting.{imported_fewer, some_there, starts_all, starts_next}
-use Rattle.gfx_script_text.proofs.start.read_start.Goals as goal
+use Rattle.gfx_script.proofs.StartPlaces.{imported_fewer, some_there, starts_all, starts_next}
+use Rattle.gfx_script.proofs.start.imported_start.Goals as goal
 
 pub prove-unreachable-requires : goal.prove-unreachable-requires
 prove-unreachable-requires c =

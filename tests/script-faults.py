@@ -44,7 +44,7 @@ def said_by(program, text):
 
 def said_by_check(text):
     """The same by the first fault that is found here."""
-    _, faults, _ = script.check(text)
+    _, faults, _, _ = script.check(text)
     if not faults:
         return ""
     return f"script: step {faults[0].step}: {faults[0].kind}" if faults[0].step else f"script: {faults[0].kind}"

@@ -319,6 +319,25 @@ report "check-script, of many faults twenty" \
     "1 check-script: 15,001 faults, of which the first 20 are told (--all); the program says: script: step 1: Key 20" \
     "$(ended $?) $(wc -l < "$work/out")"
 report "check-script --all" "15001" "$("$tools/check-script" --all "$work/faults.toml" 2> "$work/err" | wc -l)"
+cat > "$work/levels.toml" <<'TOML'
+step = [{ do = "surface", id = 1, width = 9, height = 9 }, { do = "improve", id = 1 }, { do = "frame" }]
+[progressive]
+cb = [9, 6, 6, 6, 6, 6, 6, 6, 6, 6]
+level = [
+    { y = [6, 5, 4, 4, 4, 4, 4, 4, 4, 4], cb = [4, 4, 4, 4, 4, 4, 4, 4, 4, 4], cr = [4, 4, 4, 4, 4, 4, 4, 4, 4, 4] },
+    { y = [5, 4, 3, 3, 3, 3, 3, 3, 3, 3], cb = [1, 1, 1, 1, 1, 1, 1, 1, 1, 1], cr = [3, 3, 3, 3, 3, 3, 3, 3, 3, 3] },
+]
+TOML
+"$tools/check-script" "$work/levels.toml" > "$work/out" 2> "$work/err"
+report "check-script, levels that FreeRDP 3.15 drops" "0 levels.toml:6: level 2 of progressive: HL1 of y is then at \
+position 11, and before it HH1 is at 10|levels.toml:2: progressive, with nothing left out: HL1 of cb is then at \
+position 9, and before it HH1 is at 7" "$? $(sed 's/^check-script: .*\/\(.*: \)FreeRDP 3.15 drops upgrades to this: /\1/
+    s/ (docs.*//' "$work/err" | paste -sd '|')"
+report "check-script, such a script is good" "good: 0 pictures, 3 steps, 1 frame, 0 turns" "$(cat "$work/out")"
+report "check-script, such a script with --line" "0 0" "$(ended_lines "$tools/check-script" --line "$work/levels.toml")"
+sed 's/{ do = "improve", id = 1 }, //' "$work/levels.toml" > "$work/unraised.toml"
+report "check-script, such levels that nothing improves" "0 0" \
+    "$(ended_lines "$tools/check-script" "$work/unraised.toml")"
 report "check-script of an .xz file" "good: 1 picture, 7 steps, 3 frames, 0 turns" \
     "$(xz -c "$examples/passes.toml" | "$tools/check-script")"
 report "check-script of a recording" "1 1" "$(ended_lines "$tools/check-script" "$examples/fill.bin")"

@@ -1,5 +1,5 @@
 -- Frames in flight are numbered one after another.
-use Rattle.std.proofs.Common.{◌≡◌, ℕ, ◌+◌, ◌≤◌, List, [], ◌∷◌, ◌++◌, length, map, Option, Some, ap, arith, length-append}
+use Rattle.std.proofs.Common.{◌≡◌, ◌∙◌, ℕ, ◌+◌, ◌≤◌, List, [], ◌∷◌, ◌++◌, length, map, Option, Some, refl, ap, arith, length-append}
 use Rattle.std.specs.List.{last_or}
 use Rattle.gfx_window.specs.declared.window.Sent.{Sent}
 

@@ -1,8 +1,8 @@
 -- A client that suspends its acknowledgements in the midst of a session is refused nothing.
-use Rattle.std.proofs.Common.{◌≡◌, ◌∙◌, ℕ, ◌+◌, ◌-◌, ◌<◌, ◌≤◌, ◌^◌, Bool, true, false, cond, List, [], ◌∷◌, ◌++◌, fold, length, map, Option, Some, None, Ok, refl, sym, ap, subst, arith, inl, inr, length-append, eq-eqb}
+use Rattle.std.proofs.Common.{◌≡◌, ◌∙◌, ℕ, ◌+◌, ◌-◌, ◌<◌, ◌≤◌, ◌^◌, ◌==◌, Bool, true, false, cond, List, [], ◌∷◌, ◌++◌, fold, length, map, take, drop, Option, Some, None, Result, Ok, Err, refl, sym, ap, subst, arith, inl, inr, length-append, eq-eqb}
 use Rattle.std.specs.Prelude.{nat_lt}
-use Rattle.std.specs.List.{last_or}
-use Rattle.std.proofs.lemmas.Bool.{cases_Bool, ltb-true}
+use Rattle.std.specs.List.{AllByRecursion, last_or}
+use Rattle.std.proofs.lemmas.Bool.{cases_Bool, le-leb, ltb-true}
 use Rattle.std.proofs.lemmas.List.{append-nil}
 use Rattle.gfx_caps.proofs.SizeLaws.{ack_fits}
 use Rattle.gfx_caps.specs.Spelling.{spelling}
@@ -11,20 +11,23 @@ use Rattle.gfx_caps.specs.declared.message.ClientPdu.TheVariants.{Ack}
 use Rattle.gfx_caps.specs.declared.message.TheConstants.{SUSPENDS}
 use Rattle.gfx_client.specs.Replies.{alone}
 use Rattle.gfx_planner.specs.Joined.{after_frame}
+use Rattle.gfx_planner.specs.Server.{Server}
 use Rattle.gfx_script.specs.Kinds.{KindedStep, Fits}
 use Rattle.gfx_script.specs.Script.{IsAcceptedFrom}
 use Rattle.gfx_script.specs.Scripted.{Script}
-use Rattle.gfx_segment.specs.Framing.{Whole, front}
+use Rattle.gfx_script.specs.declared.turn.Turn.{Turn}
+use Rattle.gfx_segment.specs.Framing.{Whole, Short, front}
 use Rattle.gfx_state.specs.Alike.{Alike}
+use Rattle.gfx_window.specs.declared.window.AckUnknown.{AckUnknown}
 use Rattle.gfx_window.specs.declared.window.Sent.{Sent}
 use Rattle.gfx_window.specs.Window.{Window, watched, unwatched_with, left_flying, acknowledged, acknowledged_late}
 use Rattle.gfx_window.specs.Window.{sent as with_frame}
 use Rattle.gfx_schedule.specs.Hearing.{Heard, listening, acknowledges, told, hears}
 use Rattle.gfx_schedule.specs.Plan.{InPlanFrom}
 use Rattle.gfx_schedule.specs.ServerEnd.{ScheduledEnd, queued, can_send, due, sends, with_sent, first_frame}
-use Rattle.gfx_schedule.specs.Starts.{Start}
+use Rattle.gfx_schedule.specs.Starts.{MayBegin, Start}
 use Rattle.gfx_schedule.specs.Suspending.{Happening, Serves, Answers, Suspending, answers, happens_then, suspending, SuspendingIsTaken}
-use Rattle.gfx_schedule.specs.Words.{said, holding}
+use Rattle.gfx_schedule.specs.Words.{said, IsWord, holding}
 use Rattle.gfx_schedule.specs.World.{World, world_from}
 use Rattle.gfx_schedule.proofs.Numbered.{IsUpTo, upto-more, upto-few, upto-last}
 use Rattle.gfx_schedule.proofs.Planning.{queues, ahead, joins, goes}

@@ -1,7 +1,8 @@
 -- A client that suspends its acknowledgements, and goes on with them.
-use Rattle.std.proofs.Common.{◌≡◌, ℕ, ◌≤◌, ◌==◌, Bool, true, false, ◌&&◌, not, cond, List, [], ◌∷◌, ◌++◌, is_some, Option, Some, None, Result, Ok, Err, refl, sym, ap, ◌∙◌, subst, append_assoc, arith, inl, inr}
+use Rattle.std.proofs.Common.{◌≡◌, ℕ, ◌<◌, ◌≤◌, ◌^◌, ◌==◌, Bool, true, false, ◌&&◌, not, cond, List, [], ◌∷◌, ◌++◌, fold, length, take, is_some, Option, Some, None, Result, Ok, Err, refl, sym, ap, ◌∙◌, subst, append_assoc, arith, inl, inr}
 use Rattle.std.proofs.lemmas.Bool.{cases_Bool, le-leb}
 use Rattle.std.proofs.lemmas.List.{append-nil}
+use Rattle.gfx_base.specs.declared.TheConstants.{MOST_MESSAGE}
 use Rattle.gfx_base.specs.declared.refusal.Refusal.{Refusal}
 use Rattle.gfx_base.specs.declared.refusal.Refusal.TheVariants.{CapsVersion}
 use Rattle.gfx_caps.proofs.Laws.{client_of-spells, spelling-spells}
@@ -22,9 +23,9 @@ use Rattle.gfx_state.specs.Sending.{sent}
 use Rattle.gfx_window.specs.declared.window.AckUnknown.{AckUnknown}
 use Rattle.gfx_window.specs.declared.window.Sent.{Sent}
 use Rattle.gfx_window.specs.Window.{Window, is_unwatched, left_flying, acknowledged, acknowledged_late}
-use Rattle.gfx_schedule.specs.Hearing.{Heard, listening, stop, confirm, confirms, acknowledges, declines, told, judge, hear, hears}
-use Rattle.gfx_schedule.specs.ServerEnd.{ScheduledEnd, Refused}
-use Rattle.gfx_schedule.specs.Suspending.{is_oldest, IsTakenBy, UnwatchedIsTaken, ToldStaysTold}
+use Rattle.gfx_schedule.specs.Hearing.{Heard, listening, stop, confirm, confirms, acknowledges, declines, told, judge, unless_stopped, hear, hears}
+use Rattle.gfx_schedule.specs.ServerEnd.{ScheduledEnd, Stop, Refused}
+use Rattle.gfx_schedule.specs.Suspending.{Unwatches, is_oldest, IsTakenBy, UnwatchedIsTaken, ToldStaysTold}
 use Rattle.gfx_schedule.specs.Words.{holding, tell}
 use Rattle.gfx_schedule.proofs.Listening.{hears-nil, hears_more, hears_whole}
 

@@ -20,7 +20,9 @@ use Rattle.gfx_caps.specs.declared.message.ClientPdu.TheVariants as message
 use Rattle.gfx_caps.specs.declared.message.TheConstants.{SUSPENDS}
 use Rattle.gfx_caps.specs.declared.entries.CacheEntry.{CacheEntry}
 use Rattle.gfx_caps.specs.declared.sets.CapsSet.{CapsSet}
-use Rattle.gfx_import.specs.Messages.{message_text, reply_text}
+use Rattle.gfx_import.specs.Messages.{message_text, reply_text, import_reply, slots_of}
+use Rattle.gfx_layout.proofs.FoundLaws.{length-spelled}
+use Rattle.gfx_layout.specs.Layout.{spelled}
 use Rattle.gfx_layout.specs.Header.{header}
 use Rattle.gfx_schedule.specs.Hearing.{Heard, stop, confirm, confirms, acknowledges, declines, told}
 use Rattle.gfx_schedule.specs.ServerEnd.{Stop}
@@ -407,7 +409,9 @@ declines_offer end now later has known wrote = λ before had heard a.
 -- the reply has ten bytes
 pub reply_short : (bytes : List ℕ) → bytes ≡ reply_text 0 → length bytes ≤ MOST_PAYLOAD
 unfolding message_text header
-reply_short bytes e = omega (arith, ap length e)
+reply_short bytes e =
+    let body : length (spelled import_reply (slots_of 0, tt)) ≡ 2 = length-spelled import_reply (slots_of 0, tt) in
+    omega (arith, ap length e, body)
 
 -- the confirmation ----------------------------------------------------------------------------------------------
 

@@ -23,6 +23,6 @@ returns-in-ImportOffer-clause-obeys c =
     tells_kept c.args.self.now.script c.decline.result c.args.self.now c.args.self.now c.args.out.now c.decline.new.out c.args.taken.now.items c.args.taken.now.items c.in-ImportOffer.entries _
     (c.in_ok-sets.ensures.value ∙ ap Ok c.in-ImportOffer.is) (c.decline.ensures c.args.taken.now.items)
 
-pub returns-in-QoeAck-clause-obeys : goal.returns-in-QoeAck-clause-obeys
-returns-in-QoeAck-clause-obeys c =
+pub returns-clause-obeys : goal.returns-clause-obeys
+returns-clause-obeys c =
     tells_times c.args.self.now.script c.args.self.now c.args.out.now c.args.taken.now.items c.in-QoeAck.frame c.in-QoeAck.timestamp c.in-QoeAck.decoding c.in-QoeAck.rendering _ (c.in_ok-sets.ensures.value ∙ ap Ok c.in-QoeAck.is)

@@ -190,7 +190,7 @@ for page in sorted(pages):
         if not os.path.exists(place) or anchor and anchor not in anchors(open(place, encoding="utf-8").read()):
             print(f"{page}: {link}")
 version = read("VERSION").strip()
-if f"Version {version} (" not in read("README.md") or re.search(r"^## (.*)$", read("CHANGELOG.md"), re.M)[1] != version:
+if f"Version {version} (" not in read("README.md") or re.search(r"^## (?!Not numbered yet)(.*)$", read("CHANGELOG.md"), re.M)[1] != version:
     print("the version")
 PYTHON
 report "the pages' links lead somewhere, and their versions are that of VERSION" "" "$(cat "$work/out")"

@@ -9,7 +9,7 @@ ghost use Rattle.std.specs.Prelude.{OnOk};
 ghost use Rattle.gfx_client.specs.Client.{IsAtEnd};
 
 use anyhow::{Context, anyhow};
-use gfx_base::Pixel;
+use gfx_base::{Pixel, Rect};
 use gfx_caps::VERSION_10;
 use gfx_client::{Client, Offer, Offers, Stepped};
 use gfx_surface::Surface;
@@ -64,11 +64,48 @@ fn draw(rt: &impl Print, client: &mut Client) -> anyhow::Result<()>
             Stepped::Ended { frame, reply, .. } => {
                 print!(rt; "frame {frame} is drawn; to the server:")?;
                 print_bytes(rt, reply.as_slice())?;
+                print_damage(rt, client)?;
             }
             Stepped::Need => return Ok(()),
         }
     }
     Err(anyhow!("the messages don't end"))
+}
+
+/// Prints which part of the screen a frame has written: a client copies no more than that to its window.
+fn print_damage(rt: &impl Print, client: &Client) -> anyhow::Result<()> {
+    let damage = client.damage();
+    if damage.is_whole() {
+        println!(rt; "  anything may show")?;
+        return Ok(());
+    }
+    let mut from = 0;
+    for _ in 0..=u16::MAX {
+        let Some(id) = client.surfaces().next_id(from) else {
+            break;
+        };
+        print_rects(rt, id, damage.rects(id))?;
+        // The id 65,535 has none behind it.
+        let Some(next) = id.checked_add(1) else {
+            break;
+        };
+        from = next;
+    }
+    Ok(())
+}
+
+/// Prints the rectangles of a surface that were written.
+fn print_rects(rt: &impl Print, id: u16, rects: &[Rect]) -> anyhow::Result<()> {
+    for rect in rects {
+        let Rect {
+            left,
+            top,
+            right,
+            bottom,
+        } = *rect;
+        println!(rt; "  surface {id}: from {left}, {top} to {right}, {bottom}")?;
+    }
+    Ok(())
 }
 
 /// Shows what is drawn. A stream that ends within a message is told, and is an error.

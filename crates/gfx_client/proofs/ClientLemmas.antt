@@ -30,7 +30,8 @@ use Rattle.gfx_client.specs.declared.stepped.Stepped.{Stepped}
 use Rattle.gfx_client.specs.declared.stepped.Stepped.TheVariants as stepped
 use Rattle.gfx_client.specs.Replies.{acknowledgement, stepped_of}
 use Rattle.gfx_client.proofs.NextEffects.{still_coming, coming_takes}
-use Rattle.gfx_client.specs.Client.{cursor_of, closed_by, TakesMessage, TakesOne, OpensMessage, OpensOne, IsAtPayloadEnd, Moves, MovesBy, Ends, Waits, Advances, Steps, end_of}
+use Rattle.gfx_damage.specs.Damage.{Damage, noted}
+use Rattle.gfx_client.specs.Client.{cursor_of, closed_by, damage_of, TakesMessage, TakesOne, OpensMessage, OpensOne, IsAtPayloadEnd, Moves, MovesBy, Ends, Waits, Advances, Steps, end_of}
 
 -- taking a message ---------------------------------------------------------------------------------
 
@@ -40,11 +41,12 @@ unread client fault.Memory due = refl
 unread client (fault.Refused r) due = (what_next_unread (cursor_of client) r (next_pdu_refused client.payloads.left 0 r due), refl)
 
 -- it isn't applied
-pub not_applied : (client : Client) (pdu : Pdu) (after : ℕ) (f : Cause Refusal) (state : State) → next_pdu client.payloads.left 0 ≡ Ok (Some (pdu, after)) → Applies (Err f) client.state state (step client.state pdu) → TakesMessage (Err f) client (record client { state = state })
-not_applied client pdu after fault.Memory state read same = ap (λ z. record client { state = z }) same
-not_applied client pdu after (fault.Refused r) state read due =
+pub not_applied : (client : Client) (pdu : Pdu) (after : ℕ) (f : Cause Refusal) (state : State) (damage : Damage) → next_pdu client.payloads.left 0 ≡ Ok (Some (pdu, after)) → Applies (Err f) client.state state (step client.state pdu) → damage ≡ client.damage
+    → TakesMessage (Err f) client (record client { state = state; damage = damage })
+not_applied client pdu after fault.Memory state damage read same kept = λ i. record client { state = same i; damage = kept i }
+not_applied client pdu after (fault.Refused r) state damage read due kept =
     let found = next_pdu_found client.payloads.left 0 pdu after read in
-    (what_next_refuses (cursor_of client) pdu found.size r found.read due.0, ap (λ z. record client { state = z }) due.1)
+    (what_next_refuses (cursor_of client) pdu found.size r found.read due.0, λ i. record client { state = due.1 i; damage = kept i })
 
 -- no reply to it can be made
 pub unanswered : (client : Client) (f : Cause Refusal) → f ≡ fault.Memory → TakesMessage (Err f) client client
@@ -66,9 +68,10 @@ said_after (pdus.EndFrame frame) size state next e = ap (λ n. stepped.Ended fra
 said_after other size state next e = refl
 
 -- it is applied
-pub taken : (client : Client) (pdu : Pdu) (size applied decoded : ℕ) (payloads : Payloads) (state : State) (stepped : Stepped) → next_pdu client.payloads.left 0 ≡ Ok (Some (pdu, size)) → step client.state pdu ≡ Ok state → payloads ≡ record client.payloads { left = drop size client.payloads.left }
-    → applied ≡ next_count client.applied → decoded ≡ (client.state.decoded + 1) % 2 ^ 32 → stepped ≡ stepped_of pdu size decoded → TakesOne client (record client { payloads = payloads; state = state; applied = applied }) stepped
-taken client pdu size applied decoded payloads state stepped read stepping passed counted more says =
+pub taken : (client : Client) (pdu : Pdu) (size applied decoded : ℕ) (payloads : Payloads) (state : State) (damage : Damage) (stepped : Stepped) → next_pdu client.payloads.left 0 ≡ Ok (Some (pdu, size)) → step client.state pdu ≡ Ok state → payloads ≡ record client.payloads { left = drop size client.payloads.left }
+    → applied ≡ next_count client.applied → decoded ≡ (client.state.decoded + 1) % 2 ^ 32 → stepped ≡ stepped_of pdu size decoded → damage ≡ noted client.damage client.state pdu
+    → TakesOne client (record client { payloads = payloads; state = state; damage = damage; applied = applied }) stepped
+taken client pdu size applied decoded payloads state damage stepped read stepping passed counted more says noting =
     let found = next_pdu_found client.payloads.left 0 pdu size read in
     let long : size ≡ found.size = let behind = found.behind in omega arith in
     let all : Payloads → ℕ → Cursor = λ held count. record { splitter = held.splitter; left = held.left; state = state; applied = count } in
@@ -82,6 +85,7 @@ taken client pdu size applied decoded payloads state stepped read stepping passe
           ∙ ap (λ held. cursor.Takes pdu (all held (next_count client.applied))) (sym passed)
           ∙ ap (λ n. cursor.Takes pdu (all payloads n)) (sym counted);
       closed = refl;
+      damage = noting;
     }
 
 -- opening a channel message ------------------------------------------------------------------------
@@ -127,6 +131,7 @@ opened client (Ok true) payloads end (gave, behind) = record {
       ∙ ap (λ z. Opens (record { splitter = z; left = payloads.left; state = client.state; applied = client.applied })) (sym behind);
   fewer = rw behind (after_next_fewer client.payloads.splitter payloads.left gave);
   closed = refl;
+  damage = refl;
 }
 opened client (Ok false) payloads end (gave, same) = (what_next_needs (cursor_of client) end gave, ap (λ z. record client { payloads = z }) same)
 opened client (Err fault.Memory) payloads end same = ap (λ z. record client { payloads = z }) same
@@ -137,6 +142,7 @@ opened client (Err (fault.Refused r)) payloads end (gave, same) = (
     state = refl;
     applied = refl;
     closed = refl;
+    damage = refl;
   },
 )
 
@@ -158,30 +164,32 @@ moved_on old mid new m o = record {
 }
 
 -- a message was applied
-moved_one : (old mid new : Client) (said : Stepped) → Moves old mid [] → TakesOne mid new said → MovesBy old new said
-moved_one old mid new said m t = record {
+moved_one : (old mid new : Client) (said : Stepped) → Moves old mid [] → damage_of mid ≡ damage_of old → TakesOne mid new said → MovesBy old new said
+moved_one old mid new said m same t = record {
   pdu = t.pdu;
   size = t.size;
   says = t.says;
   moves = record { reaches = Reaches-takes (cursor_of old) (cursor_of mid) (cursor_of new) [] t.pdu m.reaches t.takes; closed = t.closed ∙ m.closed };
   first = still_coming (cursor_of old) (cursor_of mid) m.reaches ∙ coming_takes (cursor_of mid) (cursor_of new) t.pdu t.size t.read t.takes;
+  damage = t.damage ∙ (λ i. noted (same i) ((Reaches-none (cursor_of old) (cursor_of mid) [] m.reaches refl).0 i) t.pdu);
 }
 
-pub moved_by : (old mid new : Client) (said : Stepped) → Moves old mid [] → TakesOne mid new said → Advances (Ok said) old new
-moved_by old mid new stepped.Need m t = absurd (never_need t.pdu t.size _ (sym t.says))
-moved_by old mid new other m t = moved_one old mid new other m t
+pub moved_by : (old mid new : Client) (said : Stepped) → Moves old mid [] → damage_of mid ≡ damage_of old → TakesOne mid new said → Advances (Ok said) old new
+moved_by old mid new stepped.Need m same t = absurd (never_need t.pdu t.size _ (sym t.says))
+moved_by old mid new other m same t = moved_one old mid new other m same t
 
 -- more bytes are needed
-pub waits : (old mid new : Client) → Moves old mid [] → OpensMessage (Ok false) mid new → Waits old new
-waits old mid new m (needed, same) = record {
+pub waits : (old mid new : Client) → Moves old mid [] → damage_of mid ≡ damage_of old → OpensMessage (Ok false) mid new → Waits old new
+waits old mid new m unmarked (needed, same) = record {
   moves = subst (λ z. Moves old z []) (sym same) m;
   needs = ap (λ z. what_next (cursor_of z)) same ∙ needed;
+  damage = ap damage_of same ∙ unmarked;
 }
 
 -- a fault at the next message
-pub stopped_taking : (old mid new : Client) (f : Cause Refusal) → Moves old mid [] → TakesMessage (Err f) mid new → Advances (Err f) old new
-stopped_taking old mid new fault.Memory m same = subst (λ z. Moves old z []) (sym same) m
-stopped_taking old mid new (fault.Refused r) m (refuses, same) =
+pub stopped_taking : (old mid new : Client) (f : Cause Refusal) → Moves old mid [] → damage_of mid ≡ damage_of old → TakesMessage (Err f) mid new → Advances (Err f) old new
+stopped_taking old mid new fault.Memory m unmarked same = (subst (λ z. Moves old z []) (sym same) m, ap damage_of same ∙ unmarked)
+stopped_taking old mid new (fault.Refused r) m unmarked (refuses, same) =
     let unchanged = Reaches-none (cursor_of old) (cursor_of mid) [] m.reaches refl in (
       record {
         at = cursor_of mid;
@@ -190,14 +198,15 @@ stopped_taking old mid new (fault.Refused r) m (refuses, same) =
         run = ap (λ z. settled (cursor_of z)) same ∙ settled_reaches (cursor_of old) (cursor_of mid) [] m.reaches;
         state = ap (λ z. (cursor_of z).state) same ∙ unchanged.0;
         applied = ap (λ z. (cursor_of z).applied) same ∙ unchanged.1;
+        damage = ap damage_of same ∙ unmarked;
       },
       ap closed_by same ∙ m.closed,
     )
 
 -- a fault at the next channel message
-pub stopped_opening : (old mid new : Client) (f : Cause Refusal) → Moves old mid [] → OpensMessage (Err f) mid new → Advances (Err f) old new
-stopped_opening old mid new fault.Memory m same = subst (λ z. Moves old z []) (sym same) m
-stopped_opening old mid new (fault.Refused r) m (refuses, stays) =
+pub stopped_opening : (old mid new : Client) (f : Cause Refusal) → Moves old mid [] → damage_of mid ≡ damage_of old → OpensMessage (Err f) mid new → Advances (Err f) old new
+stopped_opening old mid new fault.Memory m unmarked same = (subst (λ z. Moves old z []) (sym same) m, ap damage_of same ∙ unmarked)
+stopped_opening old mid new (fault.Refused r) m unmarked (refuses, stays) =
     let unchanged = Reaches-none (cursor_of old) (cursor_of mid) [] m.reaches refl in (
       record {
         at = cursor_of mid;
@@ -206,6 +215,7 @@ stopped_opening old mid new (fault.Refused r) m (refuses, stays) =
         run = stays.run ∙ settled_reaches (cursor_of old) (cursor_of mid) [] m.reaches;
         state = stays.state ∙ unchanged.0;
         applied = stays.applied ∙ unchanged.1;
+        damage = stays.damage ∙ unmarked;
       },
       stays.closed ∙ m.closed,
     )
@@ -239,7 +249,7 @@ end_refused client r number none needed due counted =
 pub closing : (old mid : Client) (r : Refusal) (number : ℕ) → closed_by old ≡ None → Ends old mid r → number ≡ next_count mid.applied → Steps (closed_by old) (Err (faults.Refused number r)) old (record mid { closed = Some (faults.ClosedRefused number r) })
 closing old mid r number none e counted =
     rw none (
-      record { at = e.at; reaches = e.reaches; refuses = e.refuses; run = e.run; state = e.state; applied = e.applied },
+      record { at = e.at; reaches = e.reaches; refuses = e.refuses; run = e.run; state = e.state; applied = e.applied; damage = e.damage },
       counted ∙ ap next_count e.applied,
       refl,
     )

@@ -1,5 +1,5 @@
 -- What a client stands for, through its calls.
-use Rattle.std.proofs.Common.{◌≡◌, ℕ, ◌<◌, List, [], ◌∷◌, ◌++◌, length, ◌==◌, true, false, IsTrue, if◌then◌else◌, Option, Some, None, Result, Ok, Err, inl, inr, refl, sym, ap, ◌∙◌, subst, arith}
+use Rattle.std.proofs.Common.{◌≡◌, ℕ, ◌<◌, List, [], ◌∷◌, ◌++◌, length, ◌==◌, true, false, ◌&&◌, cond, IsTrue, if◌then◌else◌, Option, Some, None, Result, Ok, Err, inl, inr, refl, sym, ap, ◌∙◌, subst, arith}
 use Rattle.gfx_base.specs.Memory.{next_count}
 use Rattle.gfx_base.specs.declared.refusal.Refusal.{Refusal}
 use Rattle.gfx_base.specs.declared.refusal.Refusal.TheVariants.{ChannelTruncated}
@@ -10,7 +10,11 @@ use Rattle.gfx_client.specs.declared.fault.ClientFault.{ClientFault}
 use Rattle.gfx_client.specs.declared.fault.ClientFault.TheVariants as fault
 use Rattle.gfx_client.specs.declared.stepped.Stepped.{Stepped}
 use Rattle.gfx_client.specs.declared.stepped.Stepped.TheVariants as stepped
-use Rattle.gfx_client.specs.Client.{cursor_of, closed_by, Advances, Steps, StepsOpen, Takes, MovesBy, Ends, end_of}
+use Rattle.gfx_client.specs.Replies.{is_empty_reply, stream_of}
+use Rattle.gfx_segment.specs.Framing.{fed}
+use Rattle.gfx_segment.specs.Payloads.{Payloads}
+use Rattle.gfx_segment.specs.Whole.{streamed}
+use Rattle.gfx_client.specs.Client.{cursor_of, closed_by, is_living, Advances, Steps, StepsOpen, Takes, MovesBy, Ends, end_of}
 use Rattle.gfx_client.specs.Standing.{StandsFor, StandsFrom, IsDrained, IsRefusedFrom, PlaysFrom, Plays, answer_by, ends_from}
 use Rattle.gfx_state.specs.Cursor.{Cursor, Needs, what_next, given, before_all, settled, waiting}
 use Rattle.gfx_state.specs.Run.{Run, refuse, eats, run_from, end}
@@ -36,16 +40,24 @@ stands_taken old new bytes piece took s = record {
   run = ap settled took ∙ settled-given (cursor_of old) piece ∙ ap (λ z. eats z piece) s.run ∙ sym (eats-append _ bytes piece);
 }
 
+-- a channel message is taken --------------------------------------------------------------------------------
+
+-- one that isn't passed over
+pub fed_whole : (client : Client) (payloads : Payloads) (message : List ℕ) → payloads ≡ record client.payloads { splitter = fed client.payloads.splitter (streamed message) } → (is_living client && is_empty_reply message) ≡ false
+    → cursor_of (record client { payloads = payloads }) ≡ given (cursor_of client) (stream_of (is_living client) message)
+fed_whole client payloads message took e =
+    ap (λ held. cursor_of (record client { payloads = held })) took ∙ ap (λ b. given (cursor_of client) (cond b [] (streamed message))) (sym e)
+
 -- a step is made, whatever it answers
 pub stands_advanced : (result : Result Stepped (Cause Refusal)) (old new : Client) → Advances result old new → settled (cursor_of new) ≡ settled (cursor_of old)
 stands_advanced (Ok stepped.Need) old new w = settled_reaches (cursor_of old) (cursor_of new) [] w.moves.reaches
 stands_advanced (Ok (stepped.Applied id size)) old new m = settled_reaches (cursor_of old) (cursor_of new) (m.pdu ∷ []) m.moves.reaches
 stands_advanced (Ok (stepped.Ended frame size reply)) old new m = settled_reaches (cursor_of old) (cursor_of new) (m.pdu ∷ []) m.moves.reaches
-stands_advanced (Err cause.Memory) old new m = settled_reaches (cursor_of old) (cursor_of new) [] m.reaches
+stands_advanced (Err cause.Memory) old new m = settled_reaches (cursor_of old) (cursor_of new) [] m.0.reaches
 stands_advanced (Err (cause.Refused r)) old new e = e.0.run
 
 -- a step of a client that isn't closed
-open_step : (old new : Client) (result : Result Stepped ClientFault) → closed_by old ≡ None → Steps (closed_by old) result old new → StepsOpen result old new
+pub open_step : (old new : Client) (result : Result Stepped ClientFault) → closed_by old ≡ None → Steps (closed_by old) result old new → StepsOpen result old new
 open_step old new result none s = subst (λ (z : Option ClientFault). Steps z result old new) none s
 
 -- steps until more bytes are needed --------------------------------------------------------------------

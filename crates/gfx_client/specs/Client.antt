@@ -17,6 +17,7 @@ use Rattle.gfx_client.specs.declared.fault.ClientFault.TheVariants.{Refused, Mem
 use Rattle.gfx_client.specs.declared.stepped.Stepped.{Stepped}
 use Rattle.gfx_client.specs.declared.stepped.Stepped.TheVariants.{Applied, Ended, Need}
 use Rattle.gfx_client.specs.Replies.{stepped_of}
+use Rattle.gfx_damage.specs.Damage.{Damage, noted}
 
 -- where a client is in its stream
 abbrev pub cursor_of : Client → Cursor
@@ -34,6 +35,14 @@ closed_by client = client.closed
 -- the versions that a client offers
 abbrev pub offers_of : Client → List Offer
 offers_of client = client.offered
+
+-- what the messages since the end of a frame have written
+abbrev pub damage_of : Client → Damage
+damage_of client = client.damage
+
+-- it passes over a reply of no slot
+abbrev pub is_living : Client → Bool
+is_living client = client.living
 
 -- a client at the start of a stream that has taken nothing
 pub record IsUntouched (client : Client) : Type 0 where
@@ -59,6 +68,7 @@ pub record Ends (old new : Client) (r : Refusal) : Type 0 where
   pub run : settled (cursor_of new) ≡ settled (cursor_of old)
   pub state : (cursor_of new).state ≡ (cursor_of old).state
   pub applied : (cursor_of new).applied ≡ (cursor_of old).applied
+  pub damage : damage_of new ≡ damage_of old
 
 -- a message of this size was applied, the first of what was to come, and this was said of it
 pub record MovesBy (old new : Client) (stepped : Stepped) : Type 0 where
@@ -67,18 +77,20 @@ pub record MovesBy (old new : Client) (stepped : Stepped) : Type 0 where
   pub says : stepped ≡ stepped_of pdu size (cursor_of new).state.decoded
   pub moves : Moves old new (pdu ∷ [])
   pub first : coming (cursor_of old) ≡ record { pdu = pdu; size = size; state = (cursor_of new).state } ∷ coming (cursor_of new)
+  pub damage : damage_of new ≡ noted (damage_of old) (cursor_of old).state pdu
 
 -- all messages are applied that the bytes taken hold whole
 pub record Waits (old new : Client) : Type 0 where
   pub moves : Moves old new []
   pub needs : what_next (cursor_of new) ≡ Needs
+  pub damage : damage_of new ≡ damage_of old
 
 -- what a step did that wasn't closed off before
 abbrev pub Advances : Result Stepped (Cause Refusal) → Client → Client → Type 0
 Advances (Ok Need) old new = Waits old new
 Advances (Ok (Applied id size)) old new = MovesBy old new (Applied id size)
 Advances (Ok (Ended frame size reply)) old new = MovesBy old new (Ended frame size reply)
-Advances (Err fault.Memory) old new = Moves old new []
+Advances (Err fault.Memory) old new = Moves old new [] × (damage_of new ≡ damage_of old)
 Advances (Err (fault.Refused r)) old new = Ends old new r × (closed_by new ≡ closed_by old)
 
 -- what a step of a client answers. A closed client answers its fault, and stays as it is
@@ -89,7 +101,7 @@ StepsOpen (Ok (Ended frame size reply)) old new = MovesBy old new (Ended frame s
 StepsOpen (Err (Refused number r)) old new =
     Ends old new r × (number ≡ next_count (cursor_of old).applied) × (closed_by new ≡ Some (ClosedRefused number r))
 StepsOpen (Err Memory) old new =
-    Reaches (cursor_of old) [] (cursor_of new) × (closed_by new ≡ Some ClosedMemory)
+    Reaches (cursor_of old) [] (cursor_of new) × (closed_by new ≡ Some ClosedMemory) × (damage_of new ≡ damage_of old)
 StepsOpen (Err (ClosedRefused number r)) old new = ⊥
 StepsOpen (Err ClosedMemory) old new = ⊥
 
@@ -133,6 +145,7 @@ pub record TakesOne (old new : Client) (stepped : Stepped) : Type 0 where
   pub says : stepped ≡ stepped_of pdu size (cursor_of new).state.decoded
   pub takes : what_next (cursor_of old) ≡ cursor.Takes pdu (cursor_of new)
   pub closed : closed_by new ≡ closed_by old
+  pub damage : damage_of new ≡ noted (damage_of old) (cursor_of old).state pdu
 
 abbrev pub TakesMessage : Result (Option Stepped) (Cause Refusal) → Client → Client → Type 0
 TakesMessage (Ok (Some stepped)) old new = TakesOne old new stepped
@@ -145,6 +158,7 @@ pub record OpensOne (old new : Client) : Type 0 where
   pub opens : what_next (cursor_of old) ≡ Opens (cursor_of new)
   pub fewer : length (cursor_of new).splitter.rest < length (cursor_of old).splitter.rest
   pub closed : closed_by new ≡ closed_by old
+  pub damage : damage_of new ≡ damage_of old
 
 -- the client is as it was, but for the bytes that it has not used
 pub record Stays (old new : Client) : Type 0 where
@@ -152,6 +166,7 @@ pub record Stays (old new : Client) : Type 0 where
   pub state : (cursor_of new).state ≡ (cursor_of old).state
   pub applied : (cursor_of new).applied ≡ (cursor_of old).applied
   pub closed : closed_by new ≡ closed_by old
+  pub damage : damage_of new ≡ damage_of old
 
 abbrev pub OpensMessage : Result Bool (Cause Refusal) → Client → Client → Type 0
 OpensMessage (Ok true) old new = OpensOne old new

@@ -1,8 +1,9 @@
 -- What a client writes to the server ([MS-RDPEGFX] 2.2.2.13, 2.2.2.18 and 2.2.5): each message of its own is
 -- alone in a channel message, behind its length and without blocks. That nothing ever waits at this
 -- client is this project's own rule: it applies each message before it takes the next.
-use Rattle.std.specs.Prelude.{◌≡◌, ℕ, List, [], ◌++◌, Option, Some, None, Ok}
+use Rattle.std.specs.Prelude.{◌≡◌, ℕ, Bool, ◌&&◌, List, [], ◌++◌, Option, Some, None, Ok, if◌then◌else◌}
 use Rattle.std.specs.List.{flat_map}
+use Rattle.std.specs.Str.{bytes_eq}
 use Rattle.gfx_caps.specs.declared.message.ClientPdu.{ClientPdu}
 use Rattle.gfx_caps.specs.declared.message.ClientPdu.TheVariants.{Ack}
 use Rattle.gfx_caps.specs.declared.offer.Offer.{Offer}
@@ -13,8 +14,10 @@ use Rattle.gfx_pdu.specs.declared.pdu.Pdu.{Pdu}
 use Rattle.gfx_pdu.specs.declared.pdu.Pdu.TheVariants.{EndFrame}
 use Rattle.gfx_pdu.specs.Spelling.{id_of}
 use Rattle.gfx_segment.specs.Framing.{prefixed, front, Whole}
+use Rattle.gfx_segment.specs.Whole.{streamed}
 use Rattle.gfx_state.specs.History.{Effect}
 use Rattle.gfx_client.specs.declared.replies.Reply.{Reply}
+use Rattle.gfx_client.specs.declared.replies.TheConstants.{EMPTY_REPLY}
 use Rattle.gfx_client.specs.declared.stepped.Stepped.{Stepped}
 use Rattle.gfx_client.specs.declared.stepped.Stepped.TheVariants.{Applied, Ended, Need}
 
@@ -58,3 +61,11 @@ reply_in Need = []
 -- the acknowledgements of the frames that these effects end, in their order
 abbrev pub replies : List Effect → List ℕ
 replies all = flat_map (λ effect. reply_in (stepped_by effect)) all
+
+-- what a server says first that takes none of the bitmaps which were offered to it
+abbrev pub is_empty_reply : List ℕ → Bool
+is_empty_reply message = bytes_eq message EMPTY_REPLY
+
+-- what a channel message is in the stream: nothing, where a living client passes over it
+abbrev pub stream_of : Bool → List ℕ → List ℕ
+stream_of living message = if living && is_empty_reply message then [] else streamed message

@@ -1,20 +1,24 @@
-ghost use Rattle.std.specs.Prelude.{◌≡◌, ℕ, ◌≤◌, List, [], ◌++◌, length, ◌↔◌, IsTrue, OnOk, OnErr, IfOk, None};
+ghost use Rattle.std.specs.Prelude.{◌≡◌, ℕ, ◌≤◌, List, [], ◌++◌, length, true, false, ◌↔◌, ◌&&◌, IsTrue, OnOk, OnErr, IfOk, None};
 ghost use Rattle.gfx_client.specs.Standing.{StandsFor, StandsFrom, HasBrought, HasBroughtFrom, Brings, IsDrained, Plays, PlaysFrom, Imports, ends_from};
-ghost use Rattle.gfx_state.specs.History.{Effect};
+ghost use Rattle.gfx_state.specs.History.{Effect, coming};
+ghost use Rattle.gfx_state.specs.Cursor.{given};
 ghost use Rattle.gfx_state.specs.State.{State};
-ghost use Rattle.gfx_client.specs.Replies.{hello, reply_to, stepped_of};
+ghost use Rattle.gfx_client.specs.Replies.{hello, is_empty_reply, reply_to, stepped_of, stream_of};
+ghost use Rattle.gfx_damage.specs.Damage.{undamaged};
+ghost use Rattle.gfx_damage.specs.History.{damaged};
 ghost use Rattle.gfx_import.specs.Started.{cache_by};
 ghost use Rattle.gfx_pdu.specs.declared.pdu.Pdu.{Pdu};
 ghost use Rattle.gfx_pdu.specs.Spelling.{id_of};
 
 use crate::fault::ClientFault;
 use crate::offered::Offered;
-use crate::replies::{Reply, reply_to};
+use crate::replies::{Reply, is_empty_reply, reply_to};
 use crate::stepped::Stepped;
 use gfx_base::{Bytes, Fault, NoMemory, Refusal};
 use gfx_bitmap_cache::Cache;
 use gfx_caps::{MOST_OFFERS, Offers};
 use gfx_clear::ClearState;
+use gfx_damage::Damage;
 use gfx_import::{Kept, import_cache};
 use gfx_pdu::{Id, read_pdu_ref};
 use gfx_prog_decode::Records;
@@ -24,19 +28,21 @@ use gfx_surface_map::SurfaceMap;
 use std::alloc::Global;
 
 /// A client: the versions that it offers, the bytes that it was given and has not used with what is left of
-/// the payload that it is in, and what the messages before have drawn.
+/// the payload that it is in, what the messages before have drawn, and where.
 #[derive(Drop)]
 pub struct Client {
     alloc: Global,
     offered: Offered,
     payloads: Payloads,
     state: State,
+    damage: Damage,
     applied: u64,
     closed: Option<ClientFault>,
+    living: bool,
 }
 
 impl Client {
-    ghost use Rattle.gfx_client.specs.Client.{cursor_of, closed_by, offers_of, IsUntouched, Takes, Steps, Advances, TakesMessage, OpensMessage, IsAtPayloadEnd, IsAtEnd, end_of};
+    ghost use Rattle.gfx_client.specs.Client.{cursor_of, closed_by, damage_of, is_living, offers_of, IsUntouched, Takes, Steps, Advances, TakesMessage, OpensMessage, IsAtPayloadEnd, IsAtEnd, end_of};
 
     /// A client at the start of a stream, which offers these versions. It takes the room of the ClearCodec
     /// stores.
@@ -47,6 +53,38 @@ impl Client {
         ensures drained { IfOk result IsDrained }
         ensures untouched { IfOk result IsUntouched }
         ensures offers { IfOk result (λ client. offers_of client ≡ offers) }
+        ensures damage { IfOk result (λ client. damage_of client ≡ undamaged) }
+        ensures living { IfOk result (λ client. is_living client ≡ false) }
+    {
+        Client::begin(alloc, offers, false)
+    }
+
+    /// The same of a client in a living session, which passes over the reply of a server that takes none of the bitmaps
+    /// that were offered to it: where `take_whole` is given an RDPGFX_CACHE_IMPORT_REPLY_PDU of no slot ([MS-RDPEGFX]
+    /// 2.2.2.17), alone in its channel message, it is as if it hadn't come.
+    pub fn living(alloc: Global, offers: Offers) -> Result<Client, NoMemory>
+        requires { length offers ≤ MOST_OFFERS }
+        ensures stands { IfOk result (λ client. StandsFor client []) }
+        ensures brought { IfOk result (λ client. HasBrought client [] []) }
+        ensures drained { IfOk result IsDrained }
+        ensures untouched { IfOk result IsUntouched }
+        ensures offers { IfOk result (λ client. offers_of client ≡ offers) }
+        ensures damage { IfOk result (λ client. damage_of client ≡ undamaged) }
+        ensures living { IfOk result (λ client. is_living client ≡ true) }
+    {
+        Client::begin(alloc, offers, true)
+    }
+
+    /// A client at the start of a stream.
+    fn begin(alloc: Global, offers: Offers, living: bool) -> Result<Client, NoMemory>
+        requires { length offers ≤ MOST_OFFERS }
+        ensures stands { IfOk result (λ client. StandsFor client []) }
+        ensures brought { IfOk result (λ client. HasBrought client [] []) }
+        ensures drained { IfOk result IsDrained }
+        ensures untouched { IfOk result IsUntouched }
+        ensures offers { IfOk result (λ client. offers_of client ≡ offers) }
+        ensures damage { IfOk result (λ client. damage_of client ≡ undamaged) }
+        ensures living { IfOk result (λ client. is_living client ≡ living) }
     {
         let state = State::new(alloc, false)?;
         Ok(Client {
@@ -54,8 +92,10 @@ impl Client {
             offered: Offered::new(offers),
             payloads: Payloads::new(alloc),
             state,
+            damage: Damage::new(alloc),
             applied: 0,
             closed: None,
+            living,
         })
     }
 
@@ -82,6 +122,8 @@ impl Client {
         ensures imports { Imports result self.old self.new (cache_by kept.now reply.now small) }
         ensures small { OnOk result ((cursor_of self.new).state.cache.small ≡ small) }
         ensures offers { offers_of self.new ≡ offers_of self.old }
+        ensures damage { damage_of self.new ≡ damage_of self.old }
+        ensures living { is_living self.new ≡ is_living self.old }
     {
         let cache = import_cache(self.alloc, kept, reply, small)?;
         self.state.put_cache(cache);
@@ -98,6 +140,8 @@ impl Client {
             → HasBroughtFrom start self.new (bytes ++ piece.now) all) }
         ensures kept { OnErr result ((start : State) (bytes : List ℕ) → StandsFrom start self.old bytes → StandsFrom start self.new bytes) }
         ensures offers { offers_of self.new ≡ offers_of self.old }
+        ensures damage { damage_of self.new ≡ damage_of self.old }
+        ensures living { is_living self.new ≡ is_living self.old }
     {
         if let Some(fault) = self.closed {
             return Err(fault);
@@ -107,6 +151,42 @@ impl Client {
             return Err(ClientFault::Memory);
         }
         Ok(())
+    }
+
+    /// Takes a whole channel message, without a length before it, from a transport that keeps messages apart. It never
+    /// refuses it: one that is longer than any may be, or has no bytes, is refused by the step that comes to it, with
+    /// ChannelLength. A living client passes over a reply of no slot.
+    pub fn take_whole(&mut self, message: &[u8]) -> Result<(), ClientFault>
+        ensures takes { Takes (closed_by self.old) result self.old self.new (stream_of (is_living self.old) message.now) }
+
+        // What it stood for, it stands for with the message behind it.
+        ensures stands { OnOk result ((start : State) (bytes : List ℕ) → StandsFrom start self.old bytes
+            → StandsFrom start self.new (bytes ++ stream_of (is_living self.old) message.now)) }
+        ensures brought { OnOk result ((start : State) (bytes : List ℕ) (all : List Effect) → StandsFrom start self.old bytes → HasBroughtFrom start self.old bytes all
+            → HasBroughtFrom start self.new (bytes ++ stream_of (is_living self.old) message.now) all) }
+        ensures kept { OnErr result ((start : State) (bytes : List ℕ) → StandsFrom start self.old bytes → StandsFrom start self.new bytes) }
+        ensures offers { offers_of self.new ≡ offers_of self.old }
+        ensures damage { damage_of self.new ≡ damage_of self.old }
+        ensures living { is_living self.new ≡ is_living self.old }
+    {
+        if let Some(fault) = self.closed {
+            return Err(fault);
+        }
+        if self.passes_over(message) {
+            return Ok(());
+        }
+        if self.payloads.feed_whole(message).is_err() {
+            self.closed = Some(ClientFault::ClosedMemory);
+            return Err(ClientFault::Memory);
+        }
+        Ok(())
+    }
+
+    /// Whether a channel message is as if it hadn't come.
+    fn passes_over(&self, message: &[u8]) -> bool
+        ensures { result ≡ (is_living self.now && is_empty_reply message.now) }
+    {
+        self.living && is_empty_reply(message)
     }
 
     /// Applies the next message, and says which it is and what the server is to be told of it. `Need`
@@ -120,6 +200,7 @@ impl Client {
         ensures brings { (start : State) (bytes : List ℕ) (all : List Effect) → HasBroughtFrom start self.old bytes all
             → Brings start (closed_by self.old) result self.new bytes all }
         ensures offers { offers_of self.new ≡ offers_of self.old }
+        ensures living { is_living self.new ≡ is_living self.old }
     {
         if let Some(fault) = self.closed {
             return Err(fault);
@@ -143,6 +224,8 @@ impl Client {
     pub fn play(&mut self, piece: &[u8]) -> Result<(), ClientFault>
         ensures plays { Plays (closed_by self.old) result self.old self.new piece.now }
         ensures offers { offers_of self.new ≡ offers_of self.old }
+        ensures damage { OnOk result (damage_of self.new ≡ damaged (damage_of self.old) (cursor_of self.old).state (coming (given (cursor_of self.old) piece.now))) }
+        ensures living { is_living self.new ≡ is_living self.old }
     {
         self.take(piece)?;
         self.play_all()
@@ -196,6 +279,14 @@ impl Client {
         self.state.records()
     }
 
+    /// Which part of the screen the messages since the end of a frame have written. It is that of the frame that `step`
+    /// says has ended, until the next message is applied.
+    pub fn damage(&self) -> &Damage
+        ensures { result.now ≡ damage_of self.now }
+    {
+        &self.damage
+    }
+
     /// How many messages were applied, up to the last value of a count.
     pub fn applied(&self) -> u64
         ensures { result ≡ (cursor_of self.now).applied }
@@ -208,6 +299,8 @@ impl Client {
         requires { closed_by self.old ≡ None }
         ensures plays { (start : State) (bytes : List ℕ) → StandsFrom start self.old bytes → PlaysFrom start result self.new bytes bytes }
         ensures offers { offers_of self.new ≡ offers_of self.old }
+        ensures damage { OnOk result (damage_of self.new ≡ damaged (damage_of self.old) (cursor_of self.old).state (coming (cursor_of self.old))) }
+        ensures living { is_living self.new ≡ is_living self.old }
     {
         'steps: loop {
             if needs_more(self.step()?) {
@@ -220,6 +313,7 @@ impl Client {
     fn advance(&mut self) -> Result<Stepped, Fault>
         ensures advances { Advances result self.old self.new }
         ensures offers { offers_of self.new ≡ offers_of self.old }
+        ensures living { is_living self.new ≡ is_living self.old }
     {
         'messages: loop {
             if let Some(stepped) = self.take_message()? {
@@ -235,13 +329,14 @@ impl Client {
     fn take_message(&mut self) -> Result<Option<Stepped>, Fault>
         ensures takes { TakesMessage result self.old self.new }
         ensures offers { offers_of self.new ≡ offers_of self.old }
+        ensures living { is_living self.new ≡ is_living self.old }
     {
         let Some((pdu, size)) = read_pdu_ref(self.alloc, self.payloads.left(), 0)? else {
             return Ok(None);
         };
         // Before it is applied, so that want of memory leaves all as it was.
         let reply = reply_to(self.alloc, &pdu, self.state.decoded().wrapping_add(1))?;
-        self.state.apply_ref(self.alloc, &pdu)?;
+        self.damage.apply(self.alloc, &mut self.state, &pdu)?;
         let stepped = stepped_of(pdu.id(), size, reply);
         drop(pdu);
         self.payloads.pass(size);
@@ -254,6 +349,7 @@ impl Client {
         requires { IsAtPayloadEnd self.old }
         ensures opens { OpensMessage result self.old self.new }
         ensures offers { offers_of self.new ≡ offers_of self.old }
+        ensures living { is_living self.new ≡ is_living self.old }
     {
         self.payloads.open_next()
     }

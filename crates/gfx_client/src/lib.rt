@@ -26,5 +26,6 @@ mod stepped;
 pub use client::Client;
 pub use fault::ClientFault;
 pub use gfx_caps::{MOST_OFFERS, Offer, Offers};
-pub use laws::{replies_go_on, what_a_client_writes_is_read};
+pub use gfx_damage::{Damage, MOST_RECTS};
+pub use laws::{a_declined_offer_is_passed_over, replies_go_on, what_a_client_writes_is_read};
 pub use stepped::Stepped;

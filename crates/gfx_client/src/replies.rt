@@ -2,7 +2,7 @@
 ghost use Rattle.std.specs.Prelude.{◌≡◌, ◌≤◌, IfOk};
 ghost use Rattle.gfx_caps.specs.Spelling.{IsSpellable, size};
 ghost use Rattle.gfx_pdu.specs.Borrowed.{pdu_of};
-ghost use Rattle.gfx_client.specs.Replies.{alone, acknowledgement, reply_to};
+ghost use Rattle.gfx_client.specs.Replies.{alone, acknowledgement, is_empty_reply, reply_to};
 
 use gfx_base::{Bytes, MOST_MESSAGE, NoMemory};
 use gfx_caps::{ClientPdu, write_client};
@@ -63,6 +63,17 @@ pub(crate) fn reply_to(
         }
         _ => Ok(None),
     }
+}
+
+/// A reply of no slot as a channel message: its descriptor and the header of its block ([MS-RDPEGFX] 2.2.5), and
+/// RDPGFX_CACHE_IMPORT_REPLY_PDU (2.2.2.17) with its id, no flags, its length and no slots.
+pub(crate) const EMPTY_REPLY: [u8; 12] = [0xE0, 0x04, 0x11, 0, 0, 0, 10, 0, 0, 0, 0, 0];
+
+/// Whether a channel message is a reply of no slot.
+pub(crate) fn is_empty_reply(message: &[u8]) -> bool
+    ensures { result ≡ is_empty_reply message.now }
+{
+    message == EMPTY_REPLY.as_slice()
 }
 
 /// The queueDepth of a client that applies each message before it takes the next.

@@ -1,5 +1,5 @@
--- Which rectangles of a surface a message writes, in the state that it leads to: no pixel outside them changes. That a
--- progressive message writes the rectangles of its regions follows from [MS-RDPEGFX] 3.2.8; the rest is this project's own rule.
+-- Which rectangles of a surface a message writes, by the state before it. That a progressive message writes the
+-- rectangles of its regions follows from [MS-RDPEGFX] 3.2.8; the rest is this project's own rule.
 use Rattle.std.specs.Prelude.{ℕ, ◌+◌, min, Bool, true, false, ◌==◌, List, [], ◌∷◌, map, Option, Some, None, Result, Ok, Err, if◌then◌else◌}
 use Rattle.std.specs.FinMap as finmap
 use Rattle.std.specs.List.{flat_map}

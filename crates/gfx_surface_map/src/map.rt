@@ -1,6 +1,7 @@
-ghost use Rattle.std.specs.Prelude.{◌≡◌, ℕ, ◌+◌, ◌≤◌, ◌<◌, ◌*◌, ◌^◌, [], slice_index_or, IfSome, IsSomeAnd, IsTrue, OnOk, is_ok, false, length};
+ghost use Rattle.std.specs.Prelude.{◌≡◌, ℕ, ◌+◌, ◌≤◌, ◌<◌, ◌*◌, ◌^◌, [], slice_index_or, IfSome, IsSomeAnd, IsTrue, OnOk, is_ok, false, length, nat_eq};
 ghost use Rattle.std.specs.Option.{option_copied, option_copied_mut};
 ghost use Rattle.std.specs.Borrow.{sem};
+ghost use Rattle.std.specs.Map.{lookup};
 ghost use Rattle.std.specs.FinMap as map;
 ghost use Rattle.gfx_base.specs.Geometry.{lies_in, width_of, height_of, fit_all};
 ghost use Rattle.gfx_base.specs.Outcome.{Applies, Performs, WantsOnlyIf};
@@ -92,6 +93,13 @@ impl SurfaceMap {
         ensures past { from_id (2 ^ 16) (map.entries self.now.shown.surfaces) ≡ [] }
     {
         self.table.next_id(from)
+    }
+
+    /// Where on the output the surface of this id is shown, if it is mapped.
+    pub fn place(&self, id: u16) -> Option<Place>
+        ensures { result ≡ lookup (nat_eq id) self.now.shown.maps }
+    {
+        self.maps.get(&id).copied()
     }
 
     /// For how many pixels there is room to copy them.

@@ -35,4 +35,4 @@ returns-in-Err-Refused-clause-brings c =
 pub returns-in-Err-Memory-clause-brings : goal.returns-in-Err-Memory-clause-brings
 returns-in-Err-Memory-clause-brings c =
     let moves = rw c.in-Err-Memory.field-0-is at c.in-Err-Memory.ensures.advances in
-    λ origin bytes all b. brings_none (closed_by c.args.self.now) c.args.self.now c.advance.new.self _ bytes all c.in_default.is moves refl b
+    λ origin bytes all b. brings_none (closed_by c.args.self.now) c.args.self.now c.advance.new.self _ bytes all c.in_default.is moves.0 refl b

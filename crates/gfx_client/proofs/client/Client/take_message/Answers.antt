@@ -19,11 +19,11 @@ returns-in_default-clause-takes c =
     let read = ap (λ (z : List ℕ). next_pdu z 0) (sym c.left.ensures) ∙ c.in_ok-pdu.ensures.value in
     (next_pdu_none c.args.self.now.payloads.left 0 (rw c.in_default.is at read), refl)
 
-pub returns-in_err-apply_ref-clause-takes : goal.returns-in_err-apply_ref-clause-takes
-returns-in_err-apply_ref-clause-takes c =
-    let p = err_from_is_err_and c.from_residual-in_err-apply_ref.result c.from_residual-in_err-apply_ref.ensures.1 in
+pub returns-in_err-apply-clause-takes : goal.returns-in_err-apply-clause-takes
+returns-in_err-apply-clause-takes c =
+    let p = err_from_is_err_and c.from_residual-in_err-apply.result c.from_residual-in_err-apply.ensures.1 in
     let read = ap (λ (z : List ℕ). next_pdu z 0) (sym c.left.ensures) ∙ c.in_ok-pdu.ensures.value in
-    let stays = not_applied c.args.self.now (pdu_of c.in-Some.pdu) c.in-Some.size c.in_err-apply_ref.field-0.0 c.apply_ref.new.self (rw c.in-Some.is at read) c.in_err-apply_ref.ensures.applies in
+    let stays = not_applied c.args.self.now (pdu_of c.in-Some.pdu) c.in-Some.size c.in_err-apply.field-0.0 c.apply.new.state c.apply.new.self (rw c.in-Some.is at read) c.in_err-apply.ensures.applies c.in_err-apply.ensures.kept in
     rw (p.1, p.2)
     (elim c.match-pdu-3.branch [
       | in-Other+in-WireToSurface1-2 w ↦ rw w.self-is stays
@@ -40,6 +40,7 @@ returns-in_err-apply_ref-clause-takes c =
 pub returns-clause-takes : goal.returns-clause-takes
 returns-clause-takes c =
     let read = ap (λ (z : List ℕ). next_pdu z 0) (sym c.left.ensures) ∙ c.in_ok-pdu.ensures.value in
-    taken c.args.self.now (pdu_of c.in-Some.pdu) c.in-Some.size _ _ c.pass.new.self c.apply_ref.new.self _ (rw c.in-Some.is at read) c.in_ok-apply_ref.ensures.applies c.pass.ensures c.saturating_add-self.ensures
+    taken c.args.self.now (pdu_of c.in-Some.pdu) c.in-Some.size _ _ c.pass.new.self c.apply.new.state c.apply.new.self _ (rw c.in-Some.is at read) c.in_ok-apply.ensures.applies c.pass.ensures c.saturating_add-self.ensures
     (ap (λ n. (n + 1) % 2 ^ 32) c.decoded.ensures)
     (c.stepped_of-stepped.ensures (pdu_of c.in-Some.pdu) _ c.id.ensures c.in_ok-reply.ensures)
+    c.in_ok-apply.ensures.notes

@@ -2,7 +2,7 @@ use Rattle.std.proofs.Common.{rules, refl}
 use Rattle.gfx_client.proofs.Beginning.{untouched_new}
 use Rattle.gfx_client.proofs.Bringing.{brought_new}
 use Rattle.gfx_client.proofs.Playing.{stands_new, drained_new}
-use Rattle.gfx_client.proofs.client.Client.new.Goals as goal
+use Rattle.gfx_client.proofs.client.Client.begin.Goals as goal
 
 pub returns-clause-stands : goal.returns-clause-stands
 returns-clause-stands c = stands_new _ (search rules)

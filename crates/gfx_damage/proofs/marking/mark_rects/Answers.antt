@@ -1,0 +1,11 @@
+use Rattle.gfx_damage.specs.Damage.{begun}
+use Rattle.gfx_damage.proofs.OpeningLemmas.{absent, present}
+use Rattle.gfx_damage.proofs.marking.mark_rects.Goals as goal
+
+pub returns-in_default : goal.returns-in_default
+returns-in_default c = absent (begun c.args.damage.now).marks c.args.state.now c.args.surface c.args.more.now (rw c.in_default.is at c.in_ok-sides.ensures)
+
+pub returns : goal.returns
+returns c =
+    present (begun c.args.damage.now).marks c.args.state.now c.args.surface c.args.more.now c.in-Some.sides c.in-Some.rects c.add_rects.new.held
+    (rw c.in-Some.is at c.in_ok-sides.ensures) c.in_ok-add_rects.ensures.ok

@@ -1,0 +1,6 @@
+pub mod Marks
+pub mod Damage
+pub mod Codes
+pub mod Inside
+pub mod Marked
+pub mod History

@@ -1,4 +1,5 @@
-"""A server's end that is fed: speaks to the program live_server, which keeps the protocol (docs/LIVE.md).
+"""Either end of a living session: speaks to the programs live_server and live_client, which keep the protocol
+(docs/LIVE.md).
 
     with LiveServer(program) as server:
         to_client(server.take(from_client()).data)
@@ -6,6 +7,12 @@
         server.paint(1, 0, 0, 1920, 1080, pixels)
         server.frame()
         to_client(server.serve().data)
+
+    with LiveClient(program) as client:
+        to_server(client.hello())
+        to_server(client.take(from_server()).data)
+        for rect in client.written().rects:
+            show(rect, client.picture(rect))
 
 Each method writes one command and reads its answer, so nothing waits for ever.
 """
@@ -61,6 +68,21 @@ class Served(typing.NamedTuple):
 
     turned: Turned
     data: bytes
+
+
+class Drawn(typing.NamedTuple):
+    """What came of a channel message: the frames that have ended, and what is to be sent to the server."""
+
+    frames: typing.List[int]
+    data: bytes
+
+
+class Written(typing.NamedTuple):
+    """Which rectangles of the output were written, and its sides."""
+
+    width: int
+    height: int
+    rects: typing.List[Rect]
 
 
 class NotDone(Exception):
@@ -135,18 +157,25 @@ def shown_of(body: bytes) -> Taken:
     return Taken(shown, body[at:])
 
 
-# ---- The program
+def drawn_of(body: bytes) -> Drawn:
+    """Reads the body of a client's `A`."""
+    count = struct.unpack_from("<I", body)[0]
+    frames = struct.unpack_from(f"<{count}I", body, 4)
+    return Drawn(list(frames), body[4 + 4 * count:])
 
 
-class LiveServer:
-    """The program, as long as it runs. A method writes a command and reads its answer: what is no success is NotDone,
-    and leaves the server's end as it was."""
+# ---- The programs
+
+
+class Program:
+    """A program that is driven by records, as long as it runs. A method writes a command and reads its answer: what is
+    no success is NotDone, and has done nothing."""
 
     def __init__(self, program: typing.Union[str, os.PathLike]) -> None:
         self.process = subprocess.Popen([program], stdin=subprocess.PIPE, stdout=subprocess.PIPE,
                                         stderr=subprocess.PIPE)
 
-    def __enter__(self) -> "LiveServer":
+    def __enter__(self) -> "Program":
         return self
 
     def __exit__(self, *_: object) -> None:
@@ -189,6 +218,10 @@ class LiveServer:
         if answer != wanted:
             raise NotDone(answer, body.decode("ascii", "replace"))
         return body
+
+
+class LiveServer(Program):
+    """A server's end that is fed."""
 
     # The client.
 
@@ -261,3 +294,29 @@ class LiveServer:
     def frame(self) -> None:
         """The screen is whole: what was pushed since the last frame may be sent."""
         self.must("O", "F")
+
+
+class LiveClient(Program):
+    """A client that shows a living session."""
+
+    def offer(self, versions: typing.Iterable[typing.Tuple[int, bool, bool]]) -> None:
+        """Versions, each with whether the cache is small and whether the client is thin, before anything else."""
+        self.must("O", "V", b"".join(struct.pack("<IBB", *version) for version in versions))
+
+    def hello(self) -> bytes:
+        """What the client says first."""
+        return drawn_of(self.must("A", "C")).data
+
+    def take(self, message: bytes) -> Drawn:
+        """Hands on a channel message of the server, whole and without a length."""
+        return drawn_of(self.must("A", "M", message))
+
+    def written(self) -> Written:
+        """What the frames that have ended since this was asked for have written."""
+        body = self.must("D", "D")
+        width, height = struct.unpack_from("<2I", body)
+        return Written(width, height, list(struct.iter_unpack("<4H", body[8:])))
+
+    def picture(self, rect: Rect) -> bytes:
+        """How a rectangle of the output looks: rows from the top, of each pixel blue, green, red and 255."""
+        return self.must("P", "P", struct.pack("<4H", *rect))

@@ -1,12 +1,12 @@
 //! Answers: what is written for each record that was read.
 
 use crate::bodies::BodyFault;
-use crate::ending::Ending;
-use gfx_base::{Bytes, NoMemory, Sink, write_all};
+use gfx_base::{Bytes, NoMemory, Sink};
 use gfx_layout::{put_bytes, put_items};
 use gfx_schedule::Turned;
 use gfx_script::ScriptKind;
 use gfx_session::{LiveFault, ServerFault, ShownFrame};
+use live_records::{Ending, write_record};
 use std::alloc::Global;
 
 /// What is answered to a record. What goes to the client stands in `Said`.
@@ -145,20 +145,13 @@ pub fn write_answer<O: Sink>(
     } = said;
     inner.truncate(0);
     put_inner(answer, shown.as_slice(), inner)?;
-    let Ok(length) = u32::try_from(inner.len().saturating_add(out.len())) else {
-        return Err(Ending::LongAnswer);
-    };
-    front.truncate(0);
-    put_front(answer.kind(), length, inner, front)?;
-    write_bytes(front.as_slice(), output)?;
-    write_bytes(out.as_slice(), output)
-}
-
-/// Puts the front of a record, and what stands before what goes to the client.
-fn put_front(kind: u8, length: u32, inner: &Bytes, front: &mut Bytes) -> Result<(), NoMemory> {
-    front.push(kind)?;
-    front.append(&length.to_le_bytes())?;
-    front.append(inner.as_slice())
+    write_record(
+        answer.kind(),
+        inner.as_slice(),
+        out.as_slice(),
+        front,
+        output,
+    )
 }
 
 /// Puts what stands in an answer before what goes to the client.
@@ -207,12 +200,5 @@ fn put_digest(digest: Option<[u8; 32]>, inner: &mut Bytes) -> Result<(), NoMemor
             inner.push(1)?;
             inner.append(&digest)
         }
-    }
-}
-
-fn write_bytes<O: Sink>(bytes: &[u8], output: &mut O) -> Result<(), Ending> {
-    match write_all(output, bytes) {
-        Ok(()) => Ok(()),
-        Err(_) => Err(Ending::Write),
     }
 }

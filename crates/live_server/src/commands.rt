@@ -1,8 +1,24 @@
 //! Which records there are.
 
 use crate::answers::Answer;
-use crate::records::{PAINT, Record};
 use gfx_script::ScriptKind;
+use live_records::{Limits, Record};
+
+/// The kind of a record that has a picture.
+const PAINT: u8 = b'p';
+
+/// The most bytes of the body of a paint.
+const MOST_PAINT: u32 = 67_108_864 + 32;
+
+/// The most bytes of any other body.
+pub const MOST_BODY: u32 = 65_536;
+
+/// How long bodies may be.
+pub const LIMITS: Limits = Limits {
+    long: PAINT,
+    most_long: MOST_PAINT,
+    most: MOST_BODY,
+};
 
 /// What a record asks for, by its kind.
 #[derive(Clone, Copy, Debug, PartialEq, Eq)]

@@ -20,10 +20,8 @@
 mod answers;
 mod bodies;
 mod commands;
-mod ending;
 mod opening;
 mod paints;
-mod records;
 mod serving;
 mod settings;
 

@@ -5,8 +5,7 @@ ghost use Rattle.gfx_caps.specs.Offers.{IsOffer};
 ghost use Rattle.gfx_script.specs.Heads.{offer_chosen};
 
 use crate::answers::{Answer, Denial};
-use crate::commands::{Command, command_of};
-use crate::records::{MOST_BODY, Record};
+use crate::commands::{Command, MOST_BODY, command_of};
 use crate::settings::Settings;
 use gfx_base::{Bytes, Refusal};
 use gfx_caps::{CapsSets, Chosen, ClientPdu, choose_version, read_client};
@@ -14,6 +13,7 @@ use gfx_script::{Flaw, Head, chosen_versions_are_offers};
 use gfx_segment::Splitter;
 use gfx_session::{Digests, ServerFault};
 use gfx_window::AckUnknown;
+use live_records::Record;
 use std::alloc::Global;
 
 /// The most bytes of a client that are held before its first message is whole.

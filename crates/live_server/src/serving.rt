@@ -5,14 +5,13 @@ ghost use Rattle.gfx_session.specs.Live.{IsLive};
 
 use crate::answers::{Answer, Denial, Said, write_answer};
 use crate::bodies::read_step;
-use crate::commands::{Command, Word, command_of};
-use crate::ending::Ending;
+use crate::commands::{Command, LIMITS, Word, command_of};
 use crate::opening::{Early, Opening};
 use crate::paints::read_paint;
-use crate::records::{Record, read_record};
 use gfx_base::{NoMemory, Sink, Source};
 use gfx_estimate::BySize;
 use gfx_session::{LiveEnd, LiveFault, ServerFault};
+use live_records::{Ending, Record, read_record};
 use std::alloc::Global;
 
 /// A picture whose kind is left open goes in passes where it would take more hundredths of its pixels uncompressed.
@@ -46,7 +45,7 @@ fn await_client<I: Source, O: Sink>(
 {
     let mut room = Vec::new(alloc);
     'records: for _ in 0..u64::MAX {
-        let Some(record) = read_record(input, &mut room)? else {
+        let Some(record) = read_record(input, LIMITS, &mut room)? else {
             return Ok(None);
         };
         let answer = match opening.obey(record) {
@@ -79,7 +78,7 @@ fn feed<I: Source, O: Sink>(
     let mut room = Vec::new(alloc);
     let mut choosers = choosers(alloc)?;
     'records: for _ in 0..u64::MAX {
-        let Some(record) = read_record(input, &mut room)? else {
+        let Some(record) = read_record(input, LIMITS, &mut room)? else {
             return Ok(());
         };
         said.clear();

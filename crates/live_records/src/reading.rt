@@ -6,16 +6,18 @@ use crate::ending::Ending;
 use gfx_base::Source;
 
 /// How many bytes stand before a body: its kind, and its length as a number of four bytes.
-pub const FRONT: usize = 5;
+const FRONT: usize = 5;
 
-/// The kind of a record that has a picture.
-pub const PAINT: u8 = b'p';
-
-/// The most bytes of the body of a paint.
-pub const MOST_PAINT: u32 = 67_108_864 + 32;
-
-/// The most bytes of any other body.
-pub const MOST_BODY: u32 = 65_536;
+/// How long bodies may be: those of one kind, and those of all others.
+#[derive(Clone, Copy, Debug)]
+pub struct Limits {
+    /// The kind whose bodies may be long.
+    pub long: u8,
+    /// The most bytes of such a body.
+    pub most_long: u32,
+    /// The most bytes of any other body.
+    pub most: u32,
+}
 
 /// A record.
 #[derive(Clone, Copy, Debug)]
@@ -37,12 +39,13 @@ struct Front {
 /// can't have ends the reading before any of the body is read.
 pub fn read_record<'a, I: Source>(
     input: &mut I,
+    limits: Limits,
     room: &'a mut Vec<u8>,
 ) -> Result<Option<Record<'a>>, Ending> {
     let Some(front) = read_front(input)? else {
         return Ok(None);
     };
-    if front.length > most_of(front.kind) {
+    if front.length > most_of(limits, front.kind) {
         return Err(Ending::TooLong);
     }
     let length = front.length as usize;
@@ -58,8 +61,12 @@ pub fn read_record<'a, I: Source>(
 }
 
 /// The most bytes of the body of a record of this kind.
-fn most_of(kind: u8) -> u32 {
-    if kind == PAINT { MOST_PAINT } else { MOST_BODY }
+fn most_of(limits: Limits, kind: u8) -> u32 {
+    if kind == limits.long {
+        limits.most_long
+    } else {
+        limits.most
+    }
 }
 
 /// Reads what stands before a body; none where the input ends before it.

@@ -9,7 +9,8 @@ NAMES = {
     5: ("BulkCompressed", "a block is compressed"),
     6: ("PduTruncated", "a message is longer than the bytes that hold it"),
     7: ("PduLength", "a message's length is below that of its header"),
-    8: ("PduUnknown", "a message's id isn't one of its direction"),
+    8: ("PduUnknown", "a message's id isn't one of its direction; or kept bitmaps are offered before a version is "
+        "confirmed"),
     9: ("CountMismatch", "a body doesn't end where its message does"),
     10: ("NoSurface", "no surface has this id"),
     11: ("SurfaceExists", "a surface has this id already"),

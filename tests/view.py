@@ -16,9 +16,11 @@ import collections
 import io
 import lzma
 import os
+import shutil
 import struct
 import subprocess
 import sys
+import tempfile
 
 sys.dont_write_bytecode = True
 
@@ -260,6 +262,48 @@ class Cases:
             wanted = file.read()
         done = subprocess.run([self.program], input=stored(), capture_output=True)
         same("the stored run", (0, wanted), (done.returncode, done.stdout))
+
+    def record_without_memory(self):
+        """The stored run with one allocation refused, for each number that it comes to: each command has its answer, or
+        the program ends for want of memory; behind a message that is refused for it every other one is. It needs a C
+        compiler."""
+        if not shutil.which("cc"):
+            self.counts["left out for want of a C compiler"] += 1
+            return
+        data, lost = stored(), struct.pack("<Q", 0) + b"Memory"
+        kinds = [kind for kind, _ in records(data)]
+        with tempfile.TemporaryDirectory() as work:
+            library, counted = os.path.join(work, "refused-memory.so"), os.path.join(work, "counted")
+            subprocess.run(["cc", "-O2", "-shared", "-fPIC", "-o", library, os.path.join(HERE, "refused-memory.c")],
+                           check=True)
+            refused = count = 0
+            while refused <= count:
+                around = {"LD_PRELOAD": library, "REFUSED": str(refused), "COUNTED": counted}
+                done = subprocess.run([self.program], input=data, capture_output=True, env=around)
+                with open(counted) as file:
+                    count = max(count, int(file.read()))
+                got = list(records(done.stdout))
+                answers = [answer for kind, answer in zip(kinds, got) if kind == "M"]
+                if ("R", lost) in answers:
+                    first = answers.index(("R", lost))
+                    same(f"messages behind allocation {refused}", {("R", lost)}, set(answers[first:]))
+                    self.counts["sessions that end for want of memory"] += 1
+                if (done.returncode, done.stderr) == (1, b"memory: none left\n"):
+                    self.counts["ends for want of memory"] += 1
+                else:
+                    same(f"the end without allocation {refused}", (0, b"", len(kinds)),
+                         (done.returncode, done.stderr, len(got)))
+                refused += 1
+
+
+def records(data):
+    """The records in these bytes: their kinds, letters, and their bodies."""
+    at = 0
+    while at + live.FRONT.size <= len(data):
+        kind, length = live.FRONT.unpack_from(data, at)
+        at += live.FRONT.size
+        yield chr(kind), data[at:at + length]
+        at += length
 
 
 def stored():

@@ -15,6 +15,8 @@ pub struct Viewer {
     client: Client,
     written: Written,
     begun: bool,
+    /// Why no message is taken any more.
+    closed: Option<ClientFault>,
 }
 
 impl Viewer {
@@ -27,6 +29,7 @@ impl Viewer {
             client,
             written: Written::new(alloc),
             begun: false,
+            closed: None,
         })
     }
 
@@ -61,13 +64,18 @@ impl Viewer {
         said.out.append(hello.as_slice())
     }
 
-    /// Takes a channel message, and draws all that is whole.
+    /// Takes a channel message, and draws all that is whole. Behind a fault none is taken: also where the client itself
+    /// has none, since then a frame has ended that isn't told.
     pub fn take(&mut self, message: &[u8], said: &mut Said) -> Answer {
         self.begun = true;
+        if let Some(fault) = self.closed {
+            return Answer::Refused(fault);
+        }
         match self.draw(message, said) {
             Ok(()) => Answer::Taken,
             Err(fault) => {
                 said.clear();
+                self.closed = Some(fault);
                 Answer::Refused(fault)
             }
         }

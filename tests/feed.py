@@ -40,7 +40,7 @@ SUSPENDS = 0xFFFFFFFF
 # The reply that takes nothing of an offer.
 NOTHING_TAKEN = bytes((0x11, 0, 0, 0, 10, 0, 0, 0, 0, 0))
 PLAIN = [(scripted.VERSIONS["10"], scripted.AVC_DISABLED)]
-MOST_STEPS = 100000
+MANY_STEPS = 100001
 # A script with fills that later ones of their frame cover: a server's end leaves them out, and `encode` doesn't.
 COVERED = "desktop.toml"
 PARTS = ("runs", "bands", "subcodecs")
@@ -408,18 +408,50 @@ class Fed:
         feeding.settle_all()
         feeding.end()
 
-    def fault_full(self):
-        """The last place of a script is that of a frame."""
+    def client_of_an_idle_server(self):
+        """A server's end with nothing else to do improves what shows, a level a frame, as `improve` and a frame would:
+        not before it has a client, not with a step that was pushed or waits, not behind a full window, and not where
+        nothing is left to improve."""
+        pixels = random.Random(5).randbytes(4 * 64 * 64)
+        levels, streams = 0, []
+        for by_itself in (True, False):
+            feeding = Feeding(self.program, {"window": 1}, PLAIN)
+            idles = feeding.server.improve_idle
+            same("an improvement of nothing", False, idles())
+            feeding.meet()
+            same("an improvement of nothing", False, idles())
+            for call in (("surface", (1, 64, 64), {}), ("surface", (7, 64, 64), {}),
+                         ("paint", (7, 0, 0, 64, 64, pixels, "progressive"), {}), ("frame", (), {})):
+                feeding.push(call)
+                same("an improvement before what was pushed", False, idles())
+            feeding.serve()
+            same("an improvement behind a full window", False, idles())
+            feeding.hear(65536)
+            while idles() if by_itself else levels:
+                levels += 1 if by_itself else -1
+                if by_itself:
+                    feeding.rule.pushed("improve")
+                    feeding.rule.pushed("frame")
+                else:
+                    feeding.push(("improve", (7,), {}))
+                    feeding.push(("frame", (), {}))
+                feeding.serve()
+                feeding.asks()
+                feeding.hear(65536)
+            same("a turn behind the last improvement", (Turned.ENDED, b""), tuple(feeding.server.serve()))
+            streams.append(feeding.end())
+            self.counts["improvements"] += levels
+        same("the streams", streams[1], streams[0])
+
+    def client_of_many_steps(self):
+        """More steps than a script has that is read: they go on, and numbers with them. A step that paints by a number is
+        none that can be said."""
         feeding = Feeding(self.program, {}, PLAIN)
         feeding.meet()
         feeding.push(("surface", (1, 4, 4), {}))
-        for _ in range(MOST_STEPS - 2):
+        for _ in range(MANY_STEPS):
             feeding.push(("improve", (1,), {}))
-        for _ in range(2):
-            self.refused(feeding.server, "F", "", lambda s: s.improve(1))
-            self.refused(feeding.server, "F", "", lambda s: s.paint(1, 0, 0, 1, 1, bytes(4)))
         feeding.push(("frame", (), {}))
-        self.refused(feeding.server, "F", "", lambda s: s.frame())
         feeding.asks()
         feeding.end()
 
@@ -706,7 +738,7 @@ class Fed:
             for length in (most + 1, 2**32 - 1):
                 same("a record that is too long", (1, no, "input: TooLong"),
                      self.raw(ask + live.FRONT.pack(ord(kind), length) + bytes(10)))
-        for kind in (byte for byte in range(256) if chr(byte) not in "MHsdrmfckwgiFpS?B"):
+        for kind in (byte for byte in range(256) if chr(byte) not in "MHsdrmfckwgiFpSI?B"):
             same("an unknown kind", (0, strange, ""), self.raw(live.FRONT.pack(kind, 0)))
 
     def record_of_chance(self):
@@ -715,7 +747,7 @@ class Fed:
             chance, client = random.Random(seed), Client(PLAIN)
             asked = [("M", client.says(1000)), ("s", struct.pack("<3HB", 1, 64, 64, 0x21)), ("F", b"")]
             for _ in range(60):
-                kind = chance.choice("srmfffcckwgipppFFSSS?BdH" if chance.random() < 0.98 else "M")
+                kind = chance.choice("srmfffcckwgipppFFSSSI?BdH" if chance.random() < 0.98 else "M")
                 size = chance.choice((0, 1, 2, 6, 7, 8, 10, 14, 16, 17, 18, 29, 45, 100))
                 body = bytes(chance.choice((0, 0, 0, 0, 1, 1, 2, 8, 32, 33, 255)) for _ in range(size))
                 if kind == "p" and chance.random() < 0.8:
@@ -819,7 +851,8 @@ def channels(data):
 
 def stored():
     """The input of the stored run: a client of version 10 with a window of one frame, a surface, a fill and a paint;
-    two frames that wait and go as one; a step outside, a record that isn't known, and a client that lies."""
+    two frames that wait and go as one; a step outside, a record that isn't known; a paint in passes that is improved
+    while nothing else is to do; and a client that lies."""
     hello = advertise(PLAIN)
     picture = scripted.pixels_of({"width": 2, "height": 2, "pattern": "desktop"})
     for kind, *parts in (
@@ -830,7 +863,10 @@ def stored():
             ("p", live.paint_front(1, 0, 0, 2, 2, "raw"), picture), ("F",), ("S",), ("?",), ("B",),
             ("M", acknowledgement(1, 1)), ("S",),
             ("f", struct.pack("<H", 1), b"\0\xff\0\xff", live.rects_of([(0, 0, 5, 2)])), ("d", b"\1"), ("z", b"abc"),
-            ("M", acknowledgement(2, 2)), ("?",), ("S",), ("M", acknowledgement(9, 3)), ("M", b"")):
+            ("M", acknowledgement(2, 2)), ("?",), ("S",),
+            ("p", live.paint_front(1, 1, 0, 2, 2, "progressive"), picture), ("F",), ("S",), ("I",),
+            ("M", acknowledgement(3, 3)), ("I",), ("S",), ("M", acknowledgement(4, 4)), ("I",), ("S",),
+            ("M", acknowledgement(9, 5)), ("M", b"")):
         yield live.FRONT.pack(ord(kind), sum(map(len, parts))) + b"".join(parts)
 
 

@@ -244,6 +244,13 @@ class LiveServer(Program):
         body = self.must("S", "S")
         return Served(Turned(body[0]), body[1:])
 
+    def improve_idle(self) -> bool:
+        """Where nothing else is to do, pushes a frame that improves what shows; whether there was something to improve."""
+        answer, name = self.ask("I")
+        if answer not in "Y-":
+            raise NotDone(answer, name.decode("ascii", "replace"))
+        return answer == "Y"
+
     def wants_frame(self) -> bool:
         """Whether a frame that were pushed now could go at once."""
         answer, _ = self.ask("?")

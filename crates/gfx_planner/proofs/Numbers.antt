@@ -3,5 +3,5 @@ use Rattle.std.proofs.Common.{◌≡◌, refl}
 use Rattle.gfx_planner.specs.declared.planner.TheConstants.{MOST_FRAMES}
 use Rattle.gfx_planner.specs.declared.messages.TheConstants.{PRIMARY}
 
-pub numbers : (MOST_FRAMES ≡ 100000) × (PRIMARY ≡ 1)
+pub numbers : (MOST_FRAMES ≡ 4000000000) × (PRIMARY ≡ 1)
 numbers = (refl, refl)

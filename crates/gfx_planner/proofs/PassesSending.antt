@@ -62,7 +62,7 @@ has_some picture at sides =
     grind (arith, nat_tests)
 
 -- the live tiles are of the setting of the script
-live_by : (setting : Setting) (live : Live) (records : Records) (surfaces : Surfaces) → HoldsTiles setting live records surfaces → AreBy setting live
+pub live_by : (setting : Setting) (live : Live) (records : Records) (surfaces : Surfaces) → HoldsTiles setting live records surfaces → AreBy setting live
 live_by setting live records surfaces holds key = by (get live key) refl (get surfaces key.surface) refl
   where
     by : (o : Option TileSend) → get live key ≡ o → (s : Option Picture) → get surfaces key.surface ≡ s → IfSome o (IsBy setting)

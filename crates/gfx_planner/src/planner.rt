@@ -1,6 +1,8 @@
 ghost use Rattle.std.specs.Prelude.{◌≡◌, ◌<◌, ◌+◌, [], ◌∷◌, IfOk, OnOk, OnErr, None, true, false};
 ghost use Rattle.std.specs.Option.{is_some};
 ghost use Rattle.gfx_import.specs.Imported.{imported};
+ghost use Rattle.gfx_prog_live.specs.Inside.{AreBy};
+ghost use Rattle.gfx_prog_live.specs.Raising.{AreRaisable};
 ghost use Rattle.gfx_planner.specs.Server.{at_start, server_with};
 ghost use Rattle.gfx_planner.specs.Wire.{frame_start, frame_end};
 ghost use Rattle.gfx_planner.specs.After.{after_open, after_close};
@@ -23,7 +25,7 @@ use std::alloc::Global;
 use std::marker::Model;
 
 /// No planner opens more frames.
-pub const MOST_FRAMES: u32 = 100_000;
+pub const MOST_FRAMES: u32 = 4_000_000_000;
 
 /// The server's end: it makes steps into messages, and keeps the state that they give. Its calls
 /// append whole channel messages. Without memory it is spent, and answers that from then on.
@@ -120,6 +122,18 @@ impl Planner {
         ensures { result ≡ is_some self.now.server.state.frame }
     {
         self.sender.state().frame().is_some()
+    }
+
+    /// The surfaces that have live tiles which aren't at the last level, so that an improvement would raise them: each once,
+    /// in any order. An error says that memory ran out, here or before; here it leaves the planner as it is.
+    pub fn raisable(&self, script: &Script) -> Result<Vec<u16>, NoMemory>
+        requires by { self.now.spent ≡ false → AreBy script.now.setting self.now.server.passes.live }
+        ensures { IfOk result (λ ids. AreRaisable self.now.server.passes.live ids.items) }
+    {
+        if self.spent {
+            return Err(NoMemory);
+        }
+        self.passes.raisable(self.alloc, script.setting())
     }
 
     /// Opens the next frame, and answers its id ([MS-RDPEGFX] RDPGFX_START_FRAME_PDU). Frames are

@@ -17,7 +17,7 @@ use Rattle.gfx_prog_encode.specs.declared.send.TileSend.{TileSend}
 use Rattle.gfx_script.specs.Writes.{Area, area}
 use Rattle.gfx_prog_live.specs.Cells.{cell_key}
 use Rattle.gfx_prog_live.specs.Inside.{AreInPlace, IsInPlace}
-use Rattle.gfx_prog_live.specs.Live.{Live, ended_in}
+use Rattle.gfx_prog_live.specs.Live.{Live, ended_in, without_surface}
 
 -- whether a key lies in an area
 abbrev pub lies : Area → Key → Bool
@@ -63,6 +63,13 @@ pub none_ended : (live : Live) (area : Area) → len live ≡ 0 → live ≡ end
 none_ended live area none = same_map key_total key_same _ _ (λ q.
     let nothing : get live q ≡ None = ap (λ m. get m q) (empty_of_len live none) ∙ get-empty key_cmp q in
     nothing ∙ none_left (not (lies area q)) ∙ ap (λ o. cond (not (lies area q)) o None) (sym nothing) ∙ sym (get-ended_in live area q))
+
+-- nor is any of a surface that is deleted
+pub none_dropped : (live : Live) (id : ℕ) → len live ≡ 0 → live ≡ without_surface live id
+none_dropped live id none = same_map key_total key_same _ _ (λ q.
+    let nothing : get live q ≡ None = ap (λ m. get m q) (empty_of_len live none) ∙ get-empty key_cmp q in
+    nothing ∙ none_left (not (q.surface == id)) ∙ ap (λ o. cond (not (q.surface == id)) o None) (sym nothing)
+    ∙ sym (get-retain_keys live (λ key. not (key.surface == id)) q (λ x tie. ap (λ (key : Key). not (key.surface == id)) (sym (key_same q x tie)))))
 
 no_pixels : (rect : Rect) (c : Cell) → has_pixels rect ≡ false → meets rect c ≡ false
 no_pixels rect c none = grind (arith, nat_tests)

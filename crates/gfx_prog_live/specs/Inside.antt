@@ -41,6 +41,10 @@ AreBy setting live = (key : Key) → IfSome (finmap.get live key) (IsBy setting)
 abbrev pub Lists : ℕ → TileSend → Type 0
 Lists listed send = length send.tile.setting.levels ≡ listed
 
+-- so does each live tile
+abbrev pub AreListed : ℕ → Live → Type 0
+AreListed listed live = (key : Key) → IfSome (finmap.get live key) (Lists listed)
+
 -- what holds of the picture of a number, if there is one
 abbrev pub OfPicture : Script → ℕ → (Picture → Type 0) → Type 0
 OfPicture script picture P = (drawing : Picture) → slice_get script.pictures picture ≡ Some drawing → P drawing

@@ -9,6 +9,7 @@ mod keys;
 mod live;
 mod messages;
 mod passes;
+mod places;
 mod tiles;
 
 pub use passes::Passes;

@@ -2,14 +2,19 @@
 ghost use Rattle.std.specs.Prelude.{◌≡◌, ◌≤◌, ◌==◌, IfOk, IfSome, OnOk, [], ◌∷◌, not};
 ghost use Rattle.std.specs.FinMap as finmap;
 ghost use Rattle.std.specs.Option.{is_some, option_and_then, option_copied};
+ghost use Rattle.gfx_base.specs.Cells.{cells_met};
+ghost use Rattle.gfx_base.specs.Geometry.{sized};
 ghost use Rattle.gfx_script.specs.Writes.{area};
 ghost use Rattle.gfx_prog_encode.specs.Inside.{AreRaised};
 ghost use Rattle.gfx_prog_live.specs.Cells.{cell_key};
-ghost use Rattle.gfx_prog_live.specs.Inside.{AreBy, AreInPlace, Lists, without_taken};
+ghost use Rattle.gfx_prog_live.specs.Inside.{AreBy, AreInPlace, AreListed, Lists, without_taken};
 ghost use Rattle.gfx_prog_live.specs.Live.{after_sends, ended_in, improved_sends, raised, with_live, without_surface};
+ghost use Rattle.gfx_prog_live.specs.Places.{ArePlaces};
+ghost use Rattle.gfx_prog_live.specs.Raising.{AreRaisable};
 
 use crate::keys::cell_key;
-use gfx_base::{Cell, Cells, NoMemory, Rect};
+use crate::places::{is_new, place_to_raise};
+use gfx_base::{Cell, Cells, NoMemory, Rect, cells_along};
 use gfx_prog_decode::Key;
 use gfx_prog_encode::TileSend;
 use gfx_quant::Setting;
@@ -86,7 +91,25 @@ impl LiveTiles {
         Ok(())
     }
 
-    /// Takes out the tiles that an improvement of a surface of these sides sends, each raised by one level.
+    /// The surfaces that have live tiles which aren't at the last level, each once, in any order. An error says that memory
+    /// ran out.
+    pub(crate) fn raisable(&self, alloc: Global, setting: &Setting) -> Result<Vec<u16>, NoMemory>
+        requires one_setting { AreBy setting.now self.now }
+        ensures { IfOk result (λ ids. AreRaisable self.now ids.items) }
+    {
+        self.are_in_place();
+        let listed = setting.levels.len();
+        let mut ids = Vec::new(alloc);
+        'tiles: for (key, send) in self.tiles.iter() {
+            if is_new(listed, key.surface, send.level, ids.as_slice()) {
+                ids.push(key.surface)?;
+            }
+        }
+        Ok(ids)
+    }
+
+    /// Takes out the tiles that an improvement of a surface of these sides, in pixels, sends, each raised by one level.
+    /// It looks at the live tiles alone, however large the surface is.
     pub(crate) fn take_improved(
         &mut self,
         alloc: Global,
@@ -103,13 +126,38 @@ impl LiveTiles {
         self.are_in_place();
         let listed = setting.levels.len();
         let cells = Cells::met(Rect::sized(width, height));
+        let places = self.places_to_raise(alloc, listed, id, width, height)?;
         let mut sends = Vec::new(alloc);
-        'cells: for place in 0..cells.len() {
+        'places: for place in places {
             if let Some(send) = self.take_raised(listed, id, cells.at(place)) {
                 sends.push(send)?;
             }
         }
         Ok(sends)
+    }
+
+    /// The places of the tiles that an improvement of a surface of these sides, in pixels, raises, among the cells of the
+    /// surface, in order. So many levels are listed before the last.
+    fn places_to_raise(
+        &self,
+        alloc: Global,
+        listed: usize,
+        id: u16,
+        width: u16,
+        height: u16,
+    ) -> Result<Vec<usize>, NoMemory>
+        requires levels { AreListed listed self.now }
+        ensures { IfOk result (λ places. ArePlaces self.now id (cells_met (sized width height)) places.items) }
+    {
+        let (columns, rows) = (cells_along(width), cells_along(height));
+        let mut places = Vec::new(alloc);
+        'tiles: for (key, send) in self.tiles.iter() {
+            if let Some(place) = place_to_raise(listed, id, columns, rows, *key, send.level) {
+                places.push(place)?;
+            }
+        }
+        places.sort_unstable();
+        Ok(places)
     }
 
     /// Takes out the tile of a cell, raised by one level, unless it is at the last, which this many are listed before.
@@ -164,6 +212,9 @@ impl LiveTiles {
     pub(crate) fn drop_surface(&mut self, id: u16)
         ensures { self.new ≡ without_surface self.old id }
     {
+        if self.is_empty() {
+            return;
+        }
         self.tiles.retain(
             |key: &Key, tile: &mut TileSend| -> bool
                 ensures { (result ≡ not (key.now.surface == id)) × (tile.new ≡ tile.old) }

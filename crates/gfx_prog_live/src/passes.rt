@@ -7,6 +7,7 @@ ghost use Rattle.gfx_quant.specs.Setting.{is_accepted};
 ghost use Rattle.gfx_script.specs.Writes.{area};
 ghost use Rattle.gfx_prog_live.specs.Inside.{AreBy};
 ghost use Rattle.gfx_prog_live.specs.Live.{at_start, ended_in, improve_all, improved_sends, paint_all, painted_sends, passes_after, without_surface};
+ghost use Rattle.gfx_prog_live.specs.Raising.{AreRaisable};
 
 use crate::live::LiveTiles;
 use crate::messages::{improve_messages, paint_messages};
@@ -92,6 +93,15 @@ impl Passes {
         let all = improve_messages(alloc, setting, sends.as_slice(), &mut self.next)?;
         self.live.keep_all(id, sends)?;
         Ok(all)
+    }
+
+    /// The surfaces that have live tiles which aren't at the last level, so that an improvement would raise them: each once,
+    /// in any order. An error says that memory ran out.
+    pub fn raisable(&self, alloc: Global, setting: &Setting) -> Result<Vec<u16>, NoMemory>
+        requires one_setting { AreBy setting.now self.now.live }
+        ensures { IfOk result (λ ids. AreRaisable self.now.live ids.items) }
+    {
+        self.live.raisable(alloc, setting)
     }
 
     /// Ends the tiles of the cells that a change in a rectangle touches.

@@ -1,12 +1,14 @@
 -- Two scripts that differ in pictures and steps alone, and agree on the pictures that steps name, do the same with those steps.
-use Rattle.std.proofs.Common.{◌≡◌, ℕ, ◌&&◌, ◌||◌, cond, List, [], ◌∷◌, ◌++◌, fold, Option, Some, None, refl, ap, ◌∙◌}
+use Rattle.std.proofs.Common.{◌≡◌, ℕ, ◌&&◌, ◌||◌, cond, List, [], ◌∷◌, ◌++◌, fold, Option, Some, None, refl, sym, ap, ◌∙◌}
 use Rattle.std.specs.List.{AllByRecursion, slice_get, cons_option}
 use Rattle.std.specs.FinMap.{get}
 use Rattle.gfx_planner.specs.Bitmaps.{sides_kept}
 use Rattle.std.specs.Option.{option_map, option_and_then, is_some, IfSome}
 use Rattle.gfx_base.specs.declared.geometry.Point.{Point}
 use Rattle.gfx_prog_live.specs.Live.{Passes, send_of}
-use Rattle.gfx_script.specs.Kinds.{KindedStep, as_kind}
+use Rattle.gfx_base.specs.Geometry.{moved, sized}
+use Rattle.gfx_script.specs.Drafts.{sides_of}
+use Rattle.gfx_script.specs.Kinds.{KindedStep, as_kind, is_plain_write}
 use Rattle.gfx_script.specs.Script.{step_at}
 use Rattle.gfx_script.specs.Scripted.{Script}
 use Rattle.gfx_script.specs.Ways.{goes_by}
@@ -33,7 +35,9 @@ use Rattle.gfx_planner.specs.VideoMessages.{painting_as_video}
 use Rattle.gfx_planner.specs.Wire.{messages, frame_start, frame_end}
 use Rattle.gfx_window.specs.Superseded.{plain_area, shows, covers, is_covered, is_left_out}
 use Rattle.gfx_window.specs.declared.window.Queued.{Queued}
+use Rattle.gfx_schedule.specs.Forgetting.{Sees}
 use Rattle.gfx_schedule.specs.Leaving.{steps_of, kept}
+use Rattle.gfx_schedule.specs.Sparing.{HasSides, SeesAt}
 use Rattle.gfx_schedule.specs.ServerEnd.{ScheduledEnd, can_send, due, with_sent, sends, bytes_sent}
 use Rattle.gfx_state.specs.Sending.{sent}
 use Rattle.gfx_planner.specs.PaintEffects.{with_painting, with_video}
@@ -45,11 +49,6 @@ use Rattle.gfx_schedule.proofs.LeavingItems.{all_among, only_leaves}
 -- the same script, of other pictures and steps
 abbrev pub other : Script → List Source → List Step → Script
 other script pictures steps = record script { pictures = pictures; steps = steps }
-
--- a paint's picture is the same in both lists
-abbrev pub Sees : List Source → List Source → Step → Type 0
-Sees some others (Paint id picture at named glyph) = slice_get others picture ≡ slice_get some picture
-Sees some others step = Unit {0}
 
 -- messages, and what is left of live tiles ---------------------------------------------------------------------------
 
@@ -158,20 +157,34 @@ module _ (script : Script) (pictures : List Source) (steps : List Step) where
   abbrev pub AgreesAt : Queued → Type 0
   AgreesAt item = (step_at steps item.step ≡ step_at script.steps item.step) × IfSome (step_at script.steps item.step) (Sees script.pictures pictures)
 
-  writes_plainly_same : (kind : Option Kind) (step : Step) → Sees script.pictures pictures step → writes_plainly now kind step ≡ writes_plainly script kind step
+  -- an item's step is the same in both scripts, and so are the sides of the picture that it paints
+  abbrev pub LooksAt : Queued → Type 0
+  LooksAt item = (step_at steps item.step ≡ step_at script.steps item.step) × IfSome (step_at script.steps item.step) (HasSides script.pictures pictures)
+
+  -- what a paint covers goes by the sides of its picture alone
+  abbrev by_sides : Kind → Option Sides → ℕ → Point → Option Area
+  by_sides kind sides id at = cond (is_plain_write kind) (option_map (λ one. area id (moved (sized one.width one.height) at ∷ [])) sides) None
+
+  plainly_by : (kind : Kind) (source : Option Source) (id : ℕ) (at : Point) → paints_plainly kind source id at ≡ by_sides kind (option_map sides_of source) id at
+  unfolding paints_plainly
+  plainly_by kind None id at = refl
+  plainly_by kind (Some source) id at = refl
+
+  writes_plainly_same : (kind : Option Kind) (step : Step) → HasSides script.pictures pictures step → writes_plainly now kind step ≡ writes_plainly script kind step
   unfolding writes_plainly
-  writes_plainly_same (Some kind) (Paint id picture at named glyph) sees = ap (λ z. paints_plainly kind z id at) sees
-  writes_plainly_same None step sees = refl
-  writes_plainly_same (Some kind) step sees = refl
+  writes_plainly_same (Some kind) (Paint id picture at named glyph) sides =
+      plainly_by kind (slice_get pictures picture) id at ∙ ap (λ z. by_sides kind z id at) sides ∙ sym (plainly_by kind (slice_get script.pictures picture) id at)
+  writes_plainly_same None step sides = refl
+  writes_plainly_same (Some kind) step sides = refl
 
-  plain_by : (kind : Option Kind) (step : Option Step) → IfSome step (Sees script.pictures pictures) → option_and_then (writes_plainly now kind) step ≡ option_and_then (writes_plainly script kind) step
-  plain_by kind None sees = refl
-  plain_by kind (Some step) sees = writes_plainly_same kind step sees
+  plain_by : (kind : Option Kind) (step : Option Step) → IfSome step (HasSides script.pictures pictures) → option_and_then (writes_plainly now kind) step ≡ option_and_then (writes_plainly script kind) step
+  plain_by kind None sides = refl
+  plain_by kind (Some step) sides = writes_plainly_same kind step sides
 
-  plain_area_same : (item : Queued) → AgreesAt item → plain_area now item ≡ plain_area script item
+  plain_area_same : (item : Queued) → LooksAt item → plain_area now item ≡ plain_area script item
   plain_area_same item agrees = ap (option_and_then (writes_plainly now item.kind)) agrees.0 ∙ plain_by item.kind (step_at script.steps item.step) agrees.1
 
-  is_covered_same : (written : Area) (items : List Queued) → AllByRecursion AgreesAt items → is_covered now written items ≡ is_covered script written items
+  is_covered_same : (written : Area) (items : List Queued) → AllByRecursion LooksAt items → is_covered now written items ≡ is_covered script written items
   unfolding is_covered
   is_covered_same written [] agree = refl
   is_covered_same written (item ∷ items) agree =
@@ -179,11 +192,11 @@ module _ (script : Script) (pictures : List Source) (steps : List Step) where
       let first = agree.0.0 in
       λ i. covers written (plain i) || ((is_some (plain i) || shows (first i)) && is_covered_same written items agree.1 i)
 
-  left_out_same : (written : Option Area) (items : List Queued) → AllByRecursion AgreesAt items → is_left_out now written items ≡ is_left_out script written items
+  left_out_same : (written : Option Area) (items : List Queued) → AllByRecursion LooksAt items → is_left_out now written items ≡ is_left_out script written items
   left_out_same None items agree = refl
   left_out_same (Some written) items agree = is_covered_same written items agree
 
-  kept_same : (items : List Queued) → AllByRecursion AgreesAt items → kept now items ≡ kept script items
+  kept_same : (items : List Queued) → AllByRecursion LooksAt items → kept now items ≡ kept script items
   unfolding kept
   kept_same [] agree = refl
   kept_same (item ∷ items) agree =
@@ -191,10 +204,10 @@ module _ (script : Script) (pictures : List Source) (steps : List Step) where
       ap (λ z. is_left_out now z items) (plain_area_same item agree.0) ∙ left_out_same (plain_area script item) items agree.1 in
       λ i. cond (out i) (kept_same items agree.1 i) (item ∷ kept_same items agree.1 i)
 
-  kept_agree : (items : List Queued) → AllByRecursion AgreesAt items → AllByRecursion AgreesAt (kept script items)
-  kept_agree items agree = all_among AgreesAt (kept script items) items (only_leaves script items).0 agree
+  kept_all : (P : Queued → Type 0) (items : List Queued) → AllByRecursion P items → AllByRecursion P (kept script items)
+  kept_all P items all = all_among P (kept script items) items (only_leaves script items).0 all
 
-  steps_same : (items : List Queued) → AllByRecursion AgreesAt items → steps_of now items ≡ steps_of script items
+  steps_same : (items : List Queued) → AllByRecursion LooksAt items → steps_of now items ≡ steps_of script items
   steps_same [] agree = refl
   steps_same (item ∷ items) agree =
       let first = agree.0.0 in
@@ -204,32 +217,56 @@ module _ (script : Script) (pictures : List Source) (steps : List Step) where
   seen_first kind None more first all = all
   seen_first kind (Some step) more first all = (first, all)
 
-  steps_seen : (items : List Queued) → AllByRecursion AgreesAt items → AreSeen (steps_of script items)
-  steps_seen [] agree = tt
-  steps_seen (item ∷ items) agree = seen_first item.kind (step_at script.steps item.step) (steps_of script items) agree.0.1 (steps_seen items agree.1)
+  steps_seen : (items : List Queued) → AllByRecursion (SeesAt script pictures) items → AreSeen (steps_of script items)
+  steps_seen [] seen = tt
+  steps_seen (item ∷ items) seen = seen_first item.kind (step_at script.steps item.step) (steps_of script items) seen.0 (steps_seen items seen.1)
 
   -- and so what a server's end sends ------------------------------------------------------------------------------------
 
-  module _ (end : ScheduledEnd) (agree : AllByRecursion AgreesAt end.window.pending) where
+  -- where all that waits has pictures of the same sides, and what is kept of it the same pictures
+  module _ (end : ScheduledEnd) (looks : AllByRecursion LooksAt end.window.pending) (seen : AllByRecursion (SeesAt script pictures) (kept script end.window.pending)) where
     due_same : due now end ≡ due script end
-    due_same = ap (steps_of now) (kept_same end.window.pending agree) ∙ steps_same (kept script end.window.pending) (kept_agree end.window.pending agree)
+    due_same = ap (steps_of now) (kept_same end.window.pending looks) ∙ steps_same (kept script end.window.pending) (kept_all LooksAt end.window.pending looks)
 
     due_seen : AreSeen (due script end)
-    due_seen = steps_seen (kept script end.window.pending) (kept_agree end.window.pending agree)
+    due_seen = steps_seen (kept script end.window.pending) seen
 
-    pub sends_alike : sends now end ≡ sends script end
+    pub sends_by : sends now end ≡ sends script end
     unfolding sends
-    sends_alike =
+    sends_by =
         let frame : after_frame now end.server (due now end) ≡ after_frame script end.server (due script end) =
         ap (after_frame now end.server) due_same ∙ after_frame_same end.server (due script end) due_seen in
         ap (λ z. cond (can_send end) (with_sent end z) end) frame
 
-    pub bytes_alike : bytes_sent now end ≡ bytes_sent script end
+    pub bytes_by : bytes_sent now end ≡ bytes_sent script end
     unfolding bytes_sent
-    bytes_alike =
+    bytes_by =
         let frame : frame_of now end.server (due now end) ≡ frame_of script end.server (due script end) =
         ap (frame_of now end.server) due_same ∙ frame_of_same end.server (due script end) due_seen in
         ap (λ z. cond (can_send end) (sent z) []) frame
+
+  looks_by : (step : Step) → Sees script.pictures pictures step → HasSides script.pictures pictures step
+  looks_by (Paint id picture at named glyph) sees = ap (option_map sides_of) sees
+  looks_by step sees = tt
+
+  looks_if : (step : Option Step) → IfSome step (Sees script.pictures pictures) → IfSome step (HasSides script.pictures pictures)
+  looks_if None sees = tt
+  looks_if (Some step) sees = looks_by step sees
+
+  looks_all : (items : List Queued) → AllByRecursion AgreesAt items → AllByRecursion LooksAt items
+  looks_all [] agree = tt
+  looks_all (item ∷ items) agree = ((agree.0.0, looks_if (step_at script.steps item.step) agree.0.1), looks_all items agree.1)
+
+  sees_all_at : (items : List Queued) → AllByRecursion AgreesAt items → AllByRecursion (SeesAt script pictures) items
+  sees_all_at [] agree = tt
+  sees_all_at (item ∷ items) agree = (agree.0.1, sees_all_at items agree.1)
+
+  -- so where all of it has the same pictures
+  pub sends_alike : (end : ScheduledEnd) → AllByRecursion AgreesAt end.window.pending → sends now end ≡ sends script end
+  sends_alike end agree = sends_by end (looks_all end.window.pending agree) (kept_all (SeesAt script pictures) end.window.pending (sees_all_at end.window.pending agree))
+
+  pub bytes_alike : (end : ScheduledEnd) → AllByRecursion AgreesAt end.window.pending → bytes_sent now end ≡ bytes_sent script end
+  bytes_alike end agree = bytes_by end (looks_all end.window.pending agree) (kept_all (SeesAt script pictures) end.window.pending (sees_all_at end.window.pending agree))
 
   -- what is wanted ------------------------------------------------------------------------------------------------------
 

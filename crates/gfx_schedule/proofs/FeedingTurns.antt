@@ -23,11 +23,12 @@ use Rattle.gfx_planner.proofs.Lists.{all_both}
 use Rattle.gfx_planner.proofs.Streams.{bare}
 use Rattle.gfx_window.specs.declared.window.Queued.{Queued}
 use Rattle.gfx_schedule.specs.Feeding.{grown, with_more, world_with_more, has_frame, FindsFrame, FindFrames, LaterStepsAreNotSeen}
+use Rattle.gfx_schedule.specs.Forgetting.{Sees}
 use Rattle.gfx_schedule.specs.Hearing.{Heard, listening, hears}
 use Rattle.gfx_schedule.specs.ServerEnd.{ScheduledEnd, first_frame, behind_frame, numbered, queued, can_send, due, with_sent, sends, bytes_sent, serves, serving}
 use Rattle.gfx_schedule.specs.Starts.{Start}
 use Rattle.gfx_schedule.specs.World.{World, begin_from, server_turns, client_takes, server_heard, happens}
-use Rattle.gfx_schedule.proofs.FeedingScripts.{Sees, AgreesAt, sends_alike, bytes_alike}
+use Rattle.gfx_schedule.proofs.FeedingScripts.{AgreesAt, sends_alike, bytes_alike}
 use Rattle.gfx_schedule.proofs.Items.{frame_parts}
 use Rattle.gfx_script.proofs.MoreSteps.{get_before, held_through-first, pictures_stay}
 use Rattle.gfx_schedule.proofs.Unheard.{hears_by, hears_pending}
@@ -115,7 +116,7 @@ step_by : (steps more : List Step) (number : ℕ) (b : Bool) → (number == 0) �
 step_by steps more number true is le = refl
 step_by steps more number false is le = let some = eqb-false number 0 is in get_before steps more (number - 1) (omega (arith, some))
 
-got : (P : Step → Type 0) (all : List Step) (n : ℕ) → AllByRecursion P all → IfSome (slice_get all n) P
+pub got : (P : Step → Type 0) (all : List Step) (n : ℕ) → AllByRecursion P all → IfSome (slice_get all n) P
 got P [] n each = tt
 got P (step ∷ all) zero each = each.0
 got P (step ∷ all) (suc n) each = got P all n each.1

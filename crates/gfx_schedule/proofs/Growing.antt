@@ -15,10 +15,11 @@ use Rattle.gfx_planner.specs.Agree.{Agree}
 use Rattle.gfx_planner.proofs.Lists.{all_both}
 use Rattle.gfx_planner.proofs.Streams.{bare}
 use Rattle.gfx_schedule.specs.Feeding.{Event, Feeding, Grows, StaysGood, IsGood, Takes, fed_at_start, goes_on, grown, start_of, with_more}
+use Rattle.gfx_schedule.specs.Forgetting.{Sees}
 use Rattle.gfx_schedule.specs.Growing.{AreChecked, BeganInStep, ChecksMakeFeeds, GrowthIsGood, GrowthIsPlanned, GrowthStaysInStep, MayGrow}
 use Rattle.gfx_schedule.specs.ServerEnd.{ScheduledEnd}
 use Rattle.gfx_schedule.specs.Starts.{MayStart, Start}
-use Rattle.gfx_schedule.proofs.FeedingScripts.{Sees, want_same}
+use Rattle.gfx_schedule.proofs.FeedingScripts.{want_same}
 use Rattle.gfx_schedule.proofs.FeedingTurns.{all_name, all_see}
 use Rattle.gfx_script.proofs.MoreSteps.{more_sides, through_more, through_both, framed_both, sides_both}
 

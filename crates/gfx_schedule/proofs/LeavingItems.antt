@@ -50,7 +50,7 @@ all_among P (x ∷ some) [] among each = absurd among
 all_among P (x ∷ some) (y ∷ all) (inl here) each = (subst P (sym here.0) each.0, all_among P some all here.1 each.1)
 all_among P (x ∷ some) (y ∷ all) (inr later) each = all_among P (x ∷ some) all later each.1
 
-among-more : {A : Type 0} (some all : List A) (y : A) → AreAmong some all → AreAmong some (y ∷ all)
+pub among-more : {A : Type 0} (some all : List A) (y : A) → AreAmong some all → AreAmong some (y ∷ all)
 among-more [] all y among = tt
 among-more (x ∷ some) all y among = inr among
 

@@ -24,5 +24,8 @@ pub mod Queueing
 pub mod Fed
 pub mod FedPromises
 pub mod Growing
+pub mod ForgottenScripts
+pub mod ForgottenPlans
+pub mod SparedScripts
 pub mod Unwatched
 pub mod Suspended

@@ -11,4 +11,6 @@ pub mod World
 pub mod Schedule
 pub mod Feeding
 pub mod Growing
+pub mod Forgetting
+pub mod Sparing
 pub mod Suspending

@@ -7,8 +7,12 @@ pub mod StartPlaces
 pub mod OwnKinds
 pub mod Limits
 pub mod MoreSteps
+pub mod ForgottenItems
+pub mod Improving
 pub mod Ranged
 pub mod Drafting
+pub mod ForgottenDrafts
+pub mod OwnPictures
 pub mod HeadLemmas
 pub mod ChosenOffers
 pub mod Builds

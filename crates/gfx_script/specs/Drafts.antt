@@ -116,3 +116,7 @@ frame_ended script draft = do
 -- the last step is taken back, which left what was held as it was
 abbrev pub without_step : Draft → Draft
 without_step draft = record draft { steps = take (length draft.steps - 1) draft.steps }
+
+-- all steps are taken back, which left what was held as it was
+abbrev pub without_steps : Draft → Draft
+without_steps draft = record draft { steps = [] }

@@ -12,6 +12,7 @@ pub mod Kinds
 pub mod Script
 pub mod Writes
 pub mod Drafts
+pub mod Forgetting
 pub mod Heads
 pub mod Building
 pub mod Rows

@@ -24,6 +24,11 @@ abbrev pub is_frame : Step → Bool
 is_frame Frame = true
 is_frame step = false
 
+-- the step paints a picture
+abbrev pub is_paint : Step → Bool
+is_paint (Paint id picture at named glyph) = true
+is_paint step = false
+
 -- how many steps are frames
 abbrev pub frames_in : List Step → ℕ
 frames_in steps = length (filter is_frame steps)

@@ -1,9 +1,12 @@
 //! Pictures and steps that are pushed one after another, before they stand in a script.
 
-ghost use Rattle.std.specs.Prelude.{◌≡◌, ◌≤◌, ◌++◌, ◌==◌, [], IfOk, IsTrue, OnErr, OnOk, length};
+ghost use Rattle.std.specs.Prelude.{◌≡◌, ◌≤◌, ◌++◌, ◌==◌, [], IfOk, IsTrue, OnErr, OnOk, length, map};
 ghost use Rattle.gfx_base.specs.Outcome.{Gives};
 ghost use Rattle.gfx_script.specs.declared.TheConstants.{MOST_STEPS};
-ghost use Rattle.gfx_script.specs.Drafts.{behind_picture, has_room_for_picture, moved_out, nothing_drafted, painted, pushed, steps_so_far, with_picture, without_picture, without_step};
+ghost use Rattle.gfx_script.specs.Drafts.{behind_picture, has_room_for_picture, moved_out, nothing_drafted, painted, pushed, steps_so_far, with_picture, without_picture, without_step, without_steps};
+ghost use Rattle.gfx_script.specs.Building.{each_in_turn};
+ghost use Rattle.gfx_script.specs.declared.step.Step.TheVariants.{Improve};
+ghost use Rattle.gfx_script.specs.Forgetting.{draft_forgotten};
 ghost use Rattle.gfx_script.specs.Starting.{IsStart, stock_with};
 
 use crate::MOST_STEPS;
@@ -97,6 +100,28 @@ impl Draft {
             unreachable!()
         };
         Ok(())
+    }
+
+    /// Pushes an improvement of each of these surfaces where no step is there yet: all of them or, after any error, none.
+    pub fn improve_all(&mut self, ids: &[u16]) -> Result<(), Flaw>
+        requires { self.old.steps ≡ [] }
+        ensures exact { Gives (λ _. self.new) result (each_in_turn pushed self.old (map Improve ids.now)) }
+        ensures unchanged { OnErr result (self.new ≡ self.old) }
+    {
+        'ids: for id in ids {
+            if let Err(flaw) = self.push(Step::Improve { id: *id }) {
+                self.take_steps_back();
+                return Err(flaw);
+            }
+        }
+        Ok(())
+    }
+
+    /// Takes all steps back, which left what was held as it was.
+    pub fn take_steps_back(&mut self)
+        ensures { self.new ≡ without_steps self.old }
+    {
+        self.steps.clear();
     }
 
     /// Adds a picture and pushes its paint: either both or, after any error, nothing.
@@ -210,6 +235,15 @@ impl Draft {
         ensures { self.new ≡ without_step self.old }
     {
         self.steps.pop();
+    }
+
+    /// Forgets the sides of so many of the first pictures, all of which a script has taken: blank ones stand for them, and
+    /// the others have the numbers that they had.
+    pub fn forget_pictures(&mut self, count: u32)
+        requires { count ≤ length self.old.held.pictures }
+        ensures { self.new ≡ draft_forgotten count self.old }
+    {
+        self.held.forget_pictures(count);
     }
 
     /// Moves pictures and steps behind others: all of them, or none without memory.

@@ -1,15 +1,17 @@
 //! What the steps so far have left, as far as later ones are checked against it.
 
-ghost use Rattle.std.specs.Prelude.{◌≡◌, IsTrue, IfOk, OnErr, OnOk, length, slice_get};
+ghost use Rattle.std.specs.Prelude.{◌≡◌, ◌≤◌, IsTrue, IfOk, OnErr, OnOk, length, slice_get};
 ghost use Rattle.std.specs.FinMap as map;
 ghost use Rattle.gfx_base.specs.Geometry.{sized};
 ghost use Rattle.gfx_script.specs.Checks.{held_first, held_from, sides_of_all, may_add, with_surface, without_surface, surface_made, surface_deleted, surface_mapped, rects_filled, rect_copied, rect_kept, key_shown, key_forgotten, is_glyph, takes_glyph, picture_painted, held_after};
 ghost use Rattle.gfx_script.specs.Drafts.{with_sides, without_last_sides};
+ghost use Rattle.gfx_script.specs.Forgetting.{sides_forgotten};
 ghost use Rattle.gfx_script.specs.Starting.{IsStart, stock_with};
 ghost use Rattle.gfx_base.specs.Outcome.{Gives, Says};
 
 use crate::MOST_GLYPH_AREA;
 use crate::error::{Flaw, ScriptKind};
+use crate::forgetting::{BLANK_SIDES, numbered};
 use crate::picture::Picture;
 use crate::start::StartBitmap;
 use crate::step::{Kind, Step};
@@ -27,10 +29,11 @@ pub struct Sides {
     pub height: u16,
 }
 
-/// The sides of the pictures, those of the surfaces by their ids, how many cells these have
-/// together, and the bitmaps.
+/// The sides of the pictures, of which so many of the first are forgotten, those of the surfaces by their ids, how many
+/// cells these have together, and the bitmaps.
 #[derive(Drop)]
 pub struct Held {
+    forgotten: u32,
     pictures: Vec<Sides>,
     sides: IndexMap<u16, Sides>,
     cells: u32,
@@ -73,6 +76,7 @@ impl Held {
         let pictures = sides_of_all(alloc, pictures)?;
         let stock = Stock::with_bitmaps(alloc, small, start)?;
         Ok(Held {
+            forgotten: 0,
             pictures,
             sides: IndexMap::new(alloc),
             cells: 0,
@@ -262,7 +266,7 @@ impl Held {
     pub(crate) fn picture_count(&self) -> usize
         ensures { result ≡ length self.now.pictures }
     {
-        self.pictures.len()
+        self.forgotten as usize + self.pictures.len()
     }
 
     /// The sides of one more picture.
@@ -278,14 +282,35 @@ impl Held {
     pub fn take_picture_back(&mut self)
         ensures { self.new ≡ without_last_sides self.old }
     {
-        self.pictures.pop();
+        if self.pictures.pop().is_none() {
+            self.forgotten = self.forgotten.saturating_sub(1);
+        }
+    }
+
+    /// Forgets the sides of so many of the first pictures.
+    pub(crate) fn forget_pictures(&mut self, count: u32)
+        requires { count ≤ length self.old.pictures }
+        ensures { self.new ≡ sides_forgotten count self.old }
+    {
+        if count <= self.forgotten {
+            return;
+        }
+        let more = (count - self.forgotten) as usize;
+        self.pictures.drain(..more);
+        self.forgotten = count;
     }
 
     /// The sides of the picture of this number, if there is one.
     fn picture_sides(&self, picture: u32) -> Option<Sides>
         ensures { result ≡ slice_get self.now.pictures picture }
     {
-        self.pictures.get(picture as usize).copied()
+        numbered(
+            self.forgotten,
+            &BLANK_SIDES,
+            self.pictures.as_slice(),
+            picture,
+        )
+        .copied()
     }
 
     /// Whether a surface has this id.

@@ -12,6 +12,7 @@
 mod builder;
 mod draft;
 mod error;
+mod forgetting;
 mod head;
 mod held;
 mod laws;
@@ -38,13 +39,16 @@ pub use step::{Entropy, Kind, Step};
 pub use turn::Turn;
 pub use way::Way;
 
-/// The most steps of a script.
-pub const MOST_STEPS: u32 = 100_000;
+/// The most steps of a script, and the most pictures, those that it has forgotten too.
+pub const MOST_STEPS: u32 = 4_000_000_000;
+
+/// The most steps of a script that is read.
+pub const MOST_STEPS_READ: u32 = 100_000;
 
 /// The most rectangles of a fill, and the most points of a copy or of a bitmap that is shown.
 pub const MOST_RECTS: usize = 1024;
 
-/// The most pictures of a script that is read. One that grows by calls may have `MOST_STEPS`.
+/// The most pictures of a script that is read.
 pub const MOST_PICTURES: usize = 1024;
 
 /// The most pixels of a picture.

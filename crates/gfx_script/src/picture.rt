@@ -34,6 +34,20 @@ pub struct Picture {
     pub pattern: Pattern,
 }
 
+/// The picture that stands for one that a script has forgotten: a black pixel.
+pub(crate) const BLANK: Picture = Picture {
+    width: 1,
+    height: 1,
+    pattern: Pattern::Solid {
+        colour: Pixel {
+            b: 0,
+            g: 0,
+            r: 0,
+            a: 255,
+        },
+    },
+};
+
 impl Picture {
     /// The pixel at column x of row y.
     pub fn pixel(&self, x: u16, y: u16) -> Pixel

@@ -1,17 +1,20 @@
 //! A script: pictures and steps, and what a session of them is like.
 
-ghost use Rattle.std.specs.Prelude.{◌≡◌, ◌==◌, IsSome, OnErr, OnOk, Some, drop, length};
+ghost use Rattle.std.specs.Prelude.{◌≡◌, ◌≤◌, ◌==◌, IsSome, OnErr, OnOk, Some, drop, length};
 ghost use Rattle.std.specs.List.{slice_get};
 ghost use Rattle.std.specs.Option.{option_copied, option_map};
 ghost use Rattle.gfx_script.specs.Patterns.{pixel_of};
 ghost use Rattle.gfx_base.specs.Outcome.{Gives};
 ghost use Rattle.gfx_script.specs.Drafts.{frame_ended, grown_by, moved_out};
+ghost use Rattle.gfx_script.specs.Forgetting.{forgotten};
 ghost use Rattle.gfx_script.specs.Parts.{parts_seen};
+ghost use Rattle.gfx_script.specs.declared.TheConstants.{MOST_STEPS};
 ghost use Rattle.gfx_script.specs.Script.{IsAcceptedAtStart, frames_in, step_at, is_framed};
 
 use crate::draft::Draft;
 use crate::error::Flaw;
-use crate::picture::Picture;
+use crate::forgetting::numbered;
+use crate::picture::{BLANK, Picture};
 use crate::start::StartBitmap;
 use crate::step::{Entropy, Step};
 use crate::turn::Turn;
@@ -20,7 +23,8 @@ use gfx_caps::Offers;
 use gfx_quant::Setting;
 use std::marker::Model;
 
-/// A script as it was read or built.
+/// A script as it was read or built, or as it grows. It may have forgotten steps and pictures that were sent; contracts
+/// see a frame for each of those steps and a blank picture for each of those pictures.
 #[derive(Debug, Drop)]
 pub struct Script {
     window: u8,
@@ -34,6 +38,11 @@ pub struct Script {
     start: Vec<StartBitmap>,
     steps: Vec<Step>,
     turns: Vec<Turn>,
+    forgotten_steps: u32,
+    forgotten_pictures: u32,
+    /// What stands for a step that is forgotten, and for a picture.
+    standing_step: Step,
+    standing_picture: Picture,
 }
 
 /// What a script is made of.
@@ -53,11 +62,16 @@ pub struct ScriptParts {
 }
 
 impl Model for Script {
+    ghost use Rattle.std.specs.Prelude.{◌≡◌, ◌++◌, replicate};
+    ghost use Rattle.gfx_script.specs.Forgetting.{blank};
     ghost use Rattle.gfx_script.specs.Scripted.{Script};
+    ghost use Rattle.gfx_script.specs.declared.step.Step.TheVariants.{Frame};
 
     ghost Value = { Script };
 
-    ghost view = { λ s. record { window = s.window; offers = s.offers; setting = s.setting; differences = s.differences; pictures = s.pictures.items; small = s.small; thin = s.thin; entropy = s.entropy; start = s.start.items; steps = s.steps.items; turns = s.turns.items } };
+    ghost view = { λ s. record { window = s.window; offers = s.offers; setting = s.setting; differences = s.differences; pictures = replicate s.forgotten_pictures blank ++ s.pictures.items; small = s.small; thin = s.thin; entropy = s.entropy; start = s.start.items; steps = replicate s.forgotten_steps Frame ++ s.steps.items; turns = s.turns.items } };
+
+    ghost invariant = { λ s. (s.standing_step ≡ Frame) × (s.standing_picture ≡ blank) };
 }
 
 impl Script {
@@ -91,6 +105,10 @@ impl Script {
             start,
             steps,
             turns,
+            forgotten_steps: 0,
+            forgotten_pictures: 0,
+            standing_step: Step::Frame,
+            standing_picture: BLANK,
         }
     }
 
@@ -129,6 +147,19 @@ impl Script {
         }
     }
 
+    /// Forgets all of its steps and pictures, and gives back what they took: a frame stands for each step from then on,
+    /// and a blank picture for each picture.
+    pub fn forget(&mut self)
+        requires few { length self.old.steps ≤ MOST_STEPS }
+        requires few_pictures { length self.old.pictures ≤ MOST_STEPS }
+        ensures { self.new ≡ forgotten self.old }
+    {
+        self.forgotten_steps += self.steps.len() as u32;
+        self.steps.clear();
+        self.forgotten_pictures += self.pictures.len() as u32;
+        self.pictures.clear();
+    }
+
     /// What the client offers.
     pub fn offers(&self) -> &Offers
         ensures { result.now ≡ self.now.offers }
@@ -165,16 +196,27 @@ impl Script {
     pub fn step_count(&self) -> usize
         ensures { result ≡ length self.now.steps }
     {
-        self.steps.len()
+        self.forgotten_steps as usize + self.steps.len()
+    }
+
+    /// How many pictures it has.
+    pub fn picture_count(&self) -> usize
+        ensures { result ≡ length self.now.pictures }
+    {
+        self.forgotten_pictures as usize + self.pictures.len()
     }
 
     /// How many frames stand behind the step of this number, counted from 1.
     pub fn frames_behind(&self, number: u32) -> usize
         ensures { result ≡ frames_in (drop number self.now.steps) }
     {
-        let steps = self.steps.as_slice();
-        let (_, behind) = steps.split_at(steps.len().min(number as usize));
-        frames_in(behind)
+        if number as usize >= self.step_count() {
+            return 0;
+        }
+        let forgotten = self.forgotten_steps.saturating_sub(number) as usize;
+        let passed = number.saturating_sub(self.forgotten_steps) as usize;
+        let (_, behind) = self.steps.as_slice().split_at(passed);
+        forgotten + frames_in(behind)
     }
 
     /// The step of this number, counted from 1, if there is one.
@@ -184,14 +226,19 @@ impl Script {
         if number == 0 {
             return None;
         }
-        self.steps.get(number as usize - 1)
+        numbered(
+            self.forgotten_steps,
+            &self.standing_step,
+            self.steps.as_slice(),
+            number - 1,
+        )
     }
 
     /// Width and height of the picture of this number, counted from 0, if there is one.
     pub fn picture_size(&self, picture: u32) -> Option<(u16, u16)>
         ensures { result ≡ option_map (λ one. (one.width, one.height)) (slice_get self.now.pictures picture) }
     {
-        match self.pictures.get(picture as usize) {
+        match self.picture(picture) {
             Some(picture) => Some((picture.width, picture.height)),
             None => None,
         }
@@ -201,7 +248,12 @@ impl Script {
     pub fn picture(&self, picture: u32) -> Option<&Picture>
         ensures { option_copied result ≡ slice_get self.now.pictures picture }
     {
-        self.pictures.get(picture as usize)
+        numbered(
+            self.forgotten_pictures,
+            &self.standing_picture,
+            self.pictures.as_slice(),
+            picture,
+        )
     }
 
     /// The pixel at column x of row y of the picture of this number.
@@ -209,7 +261,10 @@ impl Script {
         requires { IsSome (slice_get self.now.pictures picture) }
         ensures { option_map (λ one. pixel_of one x y) (slice_get self.now.pictures picture) ≡ Some result }
     {
-        self.pictures[picture as usize].pixel(x, y)
+        let Some(picture) = self.picture(picture) else {
+            unreachable!()
+        };
+        picture.pixel(x, y)
     }
 
     /// Whether the small limits on bitmaps bind the client: of the version that is chosen of what it offers, it asks

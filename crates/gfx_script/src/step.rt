@@ -1,6 +1,6 @@
 ghost use Rattle.std.specs.Prelude.{◌≡◌};
 ghost use Rattle.gfx_script.specs.Kinds.{is_plain_write, kind_of};
-ghost use Rattle.gfx_script.specs.Script.{is_frame, is_step};
+ghost use Rattle.gfx_script.specs.Script.{is_frame, is_paint, is_step};
 
 use crate::MOST_KEY;
 use crate::ranges::{
@@ -141,6 +141,14 @@ impl Step {
     {
         matches!(self, Step::Frame)
     }
+
+    /// Whether it paints a picture.
+    pub fn is_paint(&self) -> bool
+        ensures { result ≡ is_paint self.now }
+    {
+        matches!(self, Step::Paint { .. })
+    }
+
     /// Whether the numbers of the step are within their ranges.
     #[tactic(auto, unfolding(crate::specs::Script::is_step))]
     pub fn is_in_range(&self) -> bool

@@ -9,7 +9,7 @@ use Rattle.gfx_bitmap_cache.specs.Slots.{Entry}
 use Rattle.gfx_import.specs.Entries.{are_distinct, entry_keys}
 use Rattle.gfx_import.specs.Imported.{imported}
 use Rattle.gfx_quant.specs.Setting.{IsSetting}
-use Rattle.gfx_script.specs.declared.TheConstants.{MOST_PICTURES, MOST_STEPS}
+use Rattle.gfx_script.specs.declared.TheConstants.{MOST_PICTURES, MOST_STEPS_READ}
 use Rattle.gfx_script.specs.declared.error.ScriptKind.{ScriptKind}
 use Rattle.gfx_script.specs.declared.error.ScriptKind.TheVariants.{Range, Unframed}
 use Rattle.gfx_script.specs.declared.start.StartBitmap.{StartBitmap}
@@ -78,7 +78,7 @@ record HeadGood (top : Top) (head : Head) : Type 0 where
   window : IsWindow head.window
   offers : AreOffers head.offers
   setting : IsSetting head.progressive.setting
-  few : length top.step ≤ MOST_STEPS
+  few : length top.step ≤ MOST_STEPS_READ
   pictures : AreGood head.gallery
 
 head_of-good : (top : Top) → Has (head_of top) (HeadGood top)
@@ -94,7 +94,7 @@ head_of-good top =
       window = (window_of-fits top.window).each window found_window;
       offers = (offers_of-good top.client).each offers found_offers;
       setting = (progressive_of-good top.progressive).each progressive found_progressive;
-      few = leb-true (length top.step) MOST_STEPS (check_ok Range _ are_few);
+      few = leb-true (length top.step) MOST_STEPS_READ (check_ok Range _ are_few);
       pictures = (pictures_of-good top.picture).each gallery found_gallery;
     }))))))
 
@@ -102,6 +102,7 @@ head_of-good top =
 pub record Begun (starts : Bool → List StartBitmap) (script : Script) : Type 0 where
   pub start : script.start ≡ starts script.small
   pub pictures : length script.pictures ≤ MOST_PICTURES
+  pub steps : length script.steps ≤ MOST_STEPS_READ
   pub accepted : IsAcceptedFrom (held_at_start script) script
 
 pub begun : (starts : Bool → List StartBitmap) (text : List ℕ) (script : Script) → script_from starts text ≡ Ok script → Begun starts script
@@ -121,6 +122,7 @@ begun starts text script is =
     subst (Begun starts) same record {
       start = refl;
       pictures = before.pictures.few;
+      steps = subst (λ n. n ≤ MOST_STEPS_READ) (sym good.many) before.few;
       accepted = record {
         window_from = before.window.0;
         window_most = before.window.1;
@@ -132,7 +134,7 @@ begun starts text script is =
         thin = refl;
         few_pictures = omega (arith, before.pictures.few);
         pictures = before.pictures.each;
-        few = subst (λ n. n ≤ MOST_STEPS) (sym good.many) before.few;
+        few = omega (arith, good.many, before.few);
         numbers = good.numbers;
         held = good.after;
         checked = good.checked;
@@ -151,6 +153,10 @@ pub few_pictures : (text : List ℕ) (script : Script) → script_of text ≡ Ok
 unfolding script_of
 few_pictures text script is = (begun (λ small. []) text script is).pictures
 
+pub few_steps : (text : List ℕ) (script : Script) → script_of text ≡ Ok script → length script.steps ≤ MOST_STEPS_READ
+unfolding script_of
+few_steps text script is = (begun (λ small. []) text script is).steps
+
 pub accepted : (text : List ℕ) (script : Script) → script_of text ≡ Ok script → IsAccepted script
 unfolding script_of
 accepted text script is =
@@ -166,6 +172,10 @@ starts_with_kept server client text script is = (begun (λ small. starts_of (imp
 pub few_pictures_kept : (server client : List Entry) (text : List ℕ) (script : Script) → script_kept server client text ≡ Ok script → length script.pictures ≤ MOST_PICTURES
 unfolding script_kept
 few_pictures_kept server client text script is = (begun (λ small. starts_of (imported server client small)) text script is).pictures
+
+pub few_steps_kept : (server client : List Entry) (text : List ℕ) (script : Script) → script_kept server client text ≡ Ok script → length script.steps ≤ MOST_STEPS_READ
+unfolding script_kept
+few_steps_kept server client text script is = (begun (λ small. starts_of (imported server client small)) text script is).steps
 
 pub accepted_with : (server client : List Entry) (text : List ℕ) (script : Script) → IsStart script.start script.small → script_kept server client text ≡ Ok script
     → IsAcceptedAtStart script

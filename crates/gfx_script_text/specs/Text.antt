@@ -8,7 +8,7 @@ use Rattle.gfx_base.specs.Results.{◌>>=◌, check}
 use Rattle.gfx_bitmap_cache.specs.Slots.{Entry}
 use Rattle.gfx_caps.specs.declared.offer.Offer.{Offer}
 use Rattle.gfx_caps.specs.Offers.{small_of, thin_of}
-use Rattle.gfx_script.specs.declared.TheConstants.{MOST_STEPS}
+use Rattle.gfx_script.specs.declared.TheConstants.{MOST_STEPS_READ}
 use Rattle.gfx_import.specs.Imported.{imported}
 use Rattle.gfx_script.specs.declared.error.ScriptKind.{ScriptKind}
 use Rattle.gfx_script.specs.declared.error.ScriptKind.TheVariants.{Toml, Key, Range, Unframed}
@@ -87,7 +87,7 @@ head_of top = do
   progressive ← progressive_of top.progressive
   entropy ← video_of top.video
   gallery ← pictures_of top.picture
-  few ← check Range (nat_le (length top.step) MOST_STEPS)
+  few ← check Range (nat_le (length top.step) MOST_STEPS_READ)
   Ok record { window = window; offers = offers; progressive = progressive; entropy = entropy; gallery = gallery }
 
 -- the step that a value is, and what is held after it

@@ -6,7 +6,7 @@ ghost use Rattle.toml.specs.Data.{get_member};
 ghost use Rattle.toml.specs.View.{table_view, view};
 ghost use Rattle.gfx_base.specs.Outcome.{Gives, Says};
 ghost use Rattle.gfx_import.specs.Imported.{imported};
-ghost use Rattle.gfx_script.specs.declared.TheConstants.{MOST_PICTURES, MOST_STEPS};
+ghost use Rattle.gfx_script.specs.declared.TheConstants.{MOST_PICTURES, MOST_STEPS_READ};
 ghost use Rattle.gfx_script.specs.Parts.{parts_seen};
 ghost use Rattle.gfx_script.specs.Script.{IsAccepted, IsAcceptedAtStart};
 ghost use Rattle.gfx_script.specs.Starting.{IsStart, starts_of};
@@ -26,7 +26,7 @@ use crate::words::read_step;
 use gfx_caps::{Offers, offers_small, offers_thin};
 use gfx_import::Kept;
 use gfx_script::{
-    Entropy, Flaw, Held, MOST_STEPS, Script, ScriptKind, ScriptParts, Step, imported_start,
+    Entropy, Flaw, Held, MOST_STEPS_READ, Script, ScriptKind, ScriptParts, Step, imported_start,
     is_framed,
 };
 use std::alloc::Global;
@@ -59,6 +59,7 @@ pub fn read_script(alloc: Global, text: &[u8]) -> Result<Script, ScriptError>
     ensures exact { Reads (λ script. script) result (script_of text.now) }
     ensures accepted { IfOk result IsAccepted }
     ensures pictures { IfOk result (λ script. length script.pictures ≤ MOST_PICTURES) }
+    ensures steps { IfOk result (λ script. length script.steps ≤ MOST_STEPS_READ) }
     ensures starts { IfOk result (λ script. script.start ≡ []) }
     // Bytes that are no text take no memory.
     ensures memory { IfErr result (λ error. error ≡ Memory → is_utf8 text.now ≡ true) }
@@ -79,6 +80,7 @@ pub fn read_script_kept(
     ensures exact { Reads (λ script. script) result (script_kept server.now client.now text.now) }
     ensures accepted { IfOk result IsAcceptedAtStart }
     ensures pictures { IfOk result (λ script. length script.pictures ≤ MOST_PICTURES) }
+    ensures steps { IfOk result (λ script. length script.steps ≤ MOST_STEPS_READ) }
     ensures start { IfOk result (λ script. script.start ≡ starts_of (imported server.now client.now script.small)) }
     // Bytes that are no text take no memory.
     ensures memory { IfErr result (λ error. error ≡ Memory → is_utf8 text.now ≡ true) }
@@ -223,14 +225,14 @@ fn items_or_none<'a>(table: &'a Table, key: &str) -> Result<&'a [Value], ScriptK
 #[tactic(auto, unfolding(crate::specs::Text::head_of, gfx_base::specs::Results::and_then))]
 fn read_head(alloc: Global, top: Top<'_>) -> Result<Head<'_>, Flaw>
     ensures exact { Gives head_seen result (head_of (top_seen top.entry)) }
-    ensures few { IfOk result (λ _. length top.entry.step.now ≤ MOST_STEPS) }
+    ensures few { IfOk result (λ _. length top.entry.step.now ≤ MOST_STEPS_READ) }
 {
     let window = read_window(top.window)?;
     let offers = read_client(alloc, top.client)?;
     let progressive = read_progressive(top.progressive)?;
     let entropy = read_video(top.video)?;
     let gallery = read_pictures(alloc, top.picture)?;
-    if top.step.len() > MOST_STEPS as usize {
+    if top.step.len() > MOST_STEPS_READ as usize {
         return Err(Flaw::Refused(ScriptKind::Range));
     }
     Ok(Head {
@@ -249,7 +251,7 @@ fn read_steps(
     held: Held,
     values: &[Value],
 ) -> Result<Vec<Step>, ScriptError>
-    requires { length values.now ≤ MOST_STEPS }
+    requires { length values.now ≤ MOST_STEPS_READ }
     ensures { Reads (λ steps. steps.items) result (steps_of names.now 1 held (map view values.now)) }
 {
     let mut steps = Vec::new(alloc);

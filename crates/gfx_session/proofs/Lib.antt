@@ -12,3 +12,5 @@ pub mod ChosenKinds
 pub mod TurnLemmas
 pub mod KeptClient
 pub mod LiveLemmas
+pub mod LiveForgetting
+pub mod LiveImproving

@@ -1,7 +1,7 @@
 -- A live end: what was pushed stays checked behind the script, and a server's end whose script grows is one still.
-use Rattle.std.proofs.Common.{◌≡◌, ℕ, ◌+◌, ◌-◌, ◌≤◌, Bool, IsTrue, true, false, cond, List, [], ◌∷◌, ◌++◌, length, drop, map, Option, Result, Ok, Err, refl, sym, ap, ◌∙◌, subst, append-nil, length-append, arith}
+use Rattle.std.proofs.Common.{◌≡◌, ℕ, ◌+◌, ◌-◌, ◌≤◌, Bool, IsTrue, true, false, cond, List, [], ◌++◌, length, drop, map, Option, Result, Ok, Err, refl, sym, ap, ◌∙◌, subst, length-append, arith}
 use Rattle.std.specs.List.{AllByRecursion}
-use Rattle.std.proofs.lemmas.List.{drop-append-le, map-append}
+use Rattle.std.proofs.lemmas.List.{drop-append-le, length-map, map-append}
 use Rattle.gfx_base.specs.Outcome.{Gives}
 use Rattle.gfx_base.specs.declared.answer.Cause.{Cause}
 use Rattle.gfx_base.specs.declared.answer.Cause.TheVariants as cause
@@ -19,6 +19,8 @@ use Rattle.gfx_schedule.proofs.Items.{length-numbered}
 use Rattle.gfx_window.specs.Window.{Window}
 use Rattle.gfx_script.specs.declared.TheConstants.{MOST_STEPS}
 use Rattle.gfx_script.specs.declared.error.ScriptKind.{ScriptKind}
+use Rattle.gfx_script.specs.declared.error.ScriptKind.TheVariants.{Name}
+use Rattle.gfx_script.specs.declared.held.Sides.{Sides}
 use Rattle.gfx_script.specs.declared.head.HeadParts.{HeadParts}
 use Rattle.gfx_script.specs.declared.picture.Picture.{Picture}
 use Rattle.gfx_script.specs.declared.step.Kind.{Kind}
@@ -26,18 +28,20 @@ use Rattle.gfx_script.specs.declared.step.Step.{Step}
 use Rattle.gfx_script.specs.declared.step.Step.TheVariants.{Frame}
 use Rattle.gfx_caps.specs.Offers.{small_of}
 use Rattle.gfx_script.specs.Checks.{Held, held_from, held_through, sides_of_all}
-use Rattle.gfx_script.specs.Drafts.{Draft, GoesOn, frame_ended, grown_by, moved_out, nothing_drafted, painted, pushed}
+use Rattle.gfx_script.specs.Drafts.{Draft, GoesOn, frame_ended, grown_by, moved_out, nothing_drafted, painted, pushed, sides_of}
+use Rattle.gfx_script.specs.Forgetting.{PaintsFrom}
 use Rattle.gfx_script.specs.Heads.{script_from}
 use Rattle.gfx_script.specs.Kinds.{KindedStep, Fits, own}
-use Rattle.gfx_script.specs.Script.{IsAcceptedFrom, IsStep, is_frame, is_framed}
+use Rattle.gfx_script.specs.Script.{IsAcceptedFrom, IsStep, is_frame, is_framed, is_paint}
 use Rattle.gfx_script.specs.declared.start.StartBitmap.{StartBitmap}
 use Rattle.gfx_script.specs.Scripted.{Script}
 use Rattle.gfx_script.specs.Starting.{stock_with}
 use Rattle.gfx_script.proofs.Drafting.{frame_pushed, grown_accepted, moved_goes_on, nothing_goes_on, step_goes_on}
-use Rattle.gfx_script.proofs.MoreSteps.{held_through-none, more_sides, sides_both}
+use Rattle.gfx_script.proofs.MoreSteps.{held_through-none, more_sides, pictures_stay_through, sides_both}
+use Rattle.gfx_script.proofs.OwnPictures.{pictures_before}
 use Rattle.gfx_script.proofs.OwnKinds.{own_steps_fit}
 use Rattle.gfx_session.specs.Kept.{InStep, IsServerEndFrom, Stands}
-use Rattle.gfx_session.specs.Live.{Feeds, IsLive, StandsWithMore, fault_of_flaw, fed, frame_fed, paint_fed, step_fed}
+use Rattle.gfx_session.specs.Live.{Feeds, IsLive, fault_of_flaw, fed, frame_fed, paint_fed, step_fed}
 use Rattle.gfx_session.specs.Noting.{Listens}
 use Rattle.gfx_session.specs.Serving.{Serves}
 use Rattle.gfx_session.specs.declared.live_end.LiveEnd.{LiveEnd}
@@ -51,7 +55,7 @@ use Rattle.gfx_session.proofs.Plans.{within}
 -- the checks of the same steps leave the same ---------------------------------------------------------------------------
 
 -- from what is equal, however they were passed
-same_held : (held other : Held) (script : Script) (a : IsAcceptedFrom held script) (b : IsAcceptedFrom other script) → other ≡ held → b.held ≡ a.held
+pub same_held : (held other : Held) (script : Script) (a : IsAcceptedFrom held script) (b : IsAcceptedFrom other script) → other ≡ held → b.held ≡ a.held
 same_held held other script a b same =
     let here : ◌≡◌ {A = Result Held ScriptKind} (Ok a.held) (Ok b.held) = sym a.checked ∙ ap (λ h. held_through h script.steps) (sym same) ∙ b.checked in
     cc
@@ -69,6 +73,7 @@ pub still_live : (old new : LiveEnd) → IsLive old → ((held : Held) → IsSer
 still_live old new is keeps script draft =
     let end : IsServerEndFrom is.held new.end = keeps is.held is.end in
     let same : end.good.held ≡ is.end.good.held = held_again is.held old.end.script new.end.script is.end.good end.good script in
+    let count : length old.end.script.pictures ≡ length new.end.script.pictures = ap (λ (s : Script). length s.pictures) (sym script) in
     record {
       held = is.held;
       sides = is.sides ∙ ap (λ (s : Script). sides_of_all s.pictures) (sym script);
@@ -77,11 +82,22 @@ still_live old new is keeps script draft =
           subst (GoesOn end.good.held (length new.end.script.steps)) (sym draft)
           (subst (λ n. GoesOn end.good.held n old.draft) (ap (λ (s : Script). length s.steps) (sym script))
           (subst (λ h. GoesOn h (length old.end.script.steps) old.draft) (sym same) is.draft));
+      own =
+          subst (λ (d : Draft). AllByRecursion (PaintsFrom (length new.end.script.pictures)) d.steps) (sym draft)
+          (subst (λ n. AllByRecursion (PaintsFrom n) old.draft.steps) count is.own);
     }
 
 -- where what is pushed goes on from the same
-pub drafted_live : (live : LiveEnd) (draft : Draft) → IsLive live → ((from : Held) (count : ℕ) → GoesOn from count live.draft → GoesOn from count draft) → IsLive (record live { draft = draft })
-drafted_live live draft is goes = record { held = is.held; sides = is.sides; end = is.end; draft = goes is.end.good.held (length live.end.script.steps) is.draft }
+pub drafted_live : (live : LiveEnd) (draft : Draft) → IsLive live → ((from : Held) (count : ℕ) → GoesOn from count live.draft → GoesOn from count draft) → AllByRecursion (PaintsFrom (length live.end.script.pictures)) draft.steps
+    → IsLive (record live { draft = draft })
+drafted_live live draft is goes own = record { held = is.held; sides = is.sides; end = is.end; draft = goes is.end.good.held (length live.end.script.steps) is.draft; own = own }
+
+-- there are as many pictures as the script has at least
+pub pictures_behind : (live : LiveEnd) → IsLive live → length live.end.script.pictures ≤ length live.draft.held.pictures
+pictures_behind live is =
+    let sides : List Sides = is.end.good.held.pictures in
+    let same : sides ≡ sides_of_all live.end.script.pictures = pictures_stay_through is.held is.end.good.held live.end.script.steps is.end.good.checked ∙ is.sides in
+    omega (arith, ap length same, length-map live.end.script.pictures sides_of, pictures_before is.end.good.held (length live.end.script.steps) live.draft is.draft)
 
 -- a frame ends -------------------------------------------------------------------------------------------------------------
 
@@ -147,6 +163,7 @@ taken_live live draft is goes framed =
           subst (λ h. GoesOn h (length (live.end.script.steps ++ draft.steps)) (moved_out draft)) (sym accepted.1)
           (subst (λ n. GoesOn draft.held n (moved_out draft)) (sym (length-append live.end.script.steps draft.steps))
           (moved_goes_on is.end.good.held (length live.end.script.steps) draft on));
+      own = tt;
     }
 
 -- the script and the draft that are left when a frame ends
@@ -184,21 +201,6 @@ stands_more end script at more few st gained =
           ∙ ap (drop at.last) (sym gained);
     }
 
-pub ended_stands : (live : LiveEnd) (script : Script) (draft : Draft) → IsLive live → StandsWithMore live (record live { end = with_script live.end script; draft = draft })
-ended_stands live script draft is at more st gained = stands_more live.end script at more (within live.end (is.end.in_step st.fresh)) st gained
-
--- nothing was added to the script
-no_more : (ys xs : List Step) → xs ≡ xs ++ ys → ys ≡ []
-no_more [] xs e = refl
-no_more (y ∷ ys) xs e = absurd (omega (arith, ap length e, length-append xs (y ∷ ys)))
-
-none_kinded : (end : ServerEnd) (at : ScheduledEnd) (more : List KindedStep) → map (λ (one : KindedStep). one.step) more ≡ [] → Stands end at → Stands end (with_more at more)
-none_kinded end at [] e st = subst (λ l. Stands end (record at { left = l })) (sym (append-nil at.left)) st
-none_kinded end at (one ∷ more) e st = absurd cc
-
-pub kept_stands : (live : LiveEnd) (draft : Draft) → StandsWithMore live (record live { draft = draft })
-kept_stands live draft at more st gained = none_kinded live.end at more (no_more (map (λ (one : KindedStep). one.step) more) live.end.script.steps gained) st
-
 -- a live end that has begun ----------------------------------------------------------------------------------------------
 
 pub begun_live : (live : LiveEnd) (script : Script) (head : HeadParts) (start : List StartBitmap) → script ≡ script_from head start → live.end.script ≡ script
@@ -217,6 +219,7 @@ begun_live live script head start is same here draft =
           subst (λ h. GoesOn h (length live.end.script.steps) live.draft) (sym left)
           (subst (λ n. GoesOn held n live.draft) (ap (λ (s : Script). length s.steps) (sym all))
           (subst (GoesOn held 0) (sym draft) (nothing_goes_on (stock_with start (small_of head.offers)))));
+      own = subst (λ (d : Draft). AllByRecursion (PaintsFrom (length live.end.script.pictures)) d.steps) (sym draft) tt;
     }
 
 -- the schedule's end that a live end stands for before anything was pushed, whatever the script starts with
@@ -232,11 +235,14 @@ begun_stands end script from at is none stands =
 pub feeds_as : (result : Result (Unit {0}) LiveFault) (full : Bool) (due other : Result LiveEnd ScriptKind) (old new : LiveEnd) → full ≡ false → other ≡ due → Feeds result false due old new → Feeds result full other old new
 feeds_as result full due other old new none is feeds = subst (λ b. Feeds result b other old new) (sym none) (subst (λ d. Feeds result false d old new) (sym is) feeds)
 
-pub fed_frame : (live : LiveEnd) (step : Step) → is_frame step ≡ true → fed live step ≡ frame_fed live
-fed_frame live step is = ap (λ b. cond b (frame_fed live) (step_fed live step)) is
+pub fed_frame : (live : LiveEnd) (step : Step) → is_paint step ≡ false → is_frame step ≡ true → fed live step ≡ frame_fed live
+fed_frame live step none is = ap (λ b. cond b (Err Name) (cond (is_frame step) (frame_fed live) (step_fed live step))) none ∙ ap (λ b. cond b (frame_fed live) (step_fed live step)) is
 
-pub fed_other : (live : LiveEnd) (step : Step) → is_frame step ≡ false → fed live step ≡ step_fed live step
-fed_other live step is = ap (λ b. cond b (frame_fed live) (step_fed live step)) is
+pub fed_other : (live : LiveEnd) (step : Step) → is_paint step ≡ false → is_frame step ≡ false → fed live step ≡ step_fed live step
+fed_other live step none is = ap (λ b. cond b (Err Name) (cond (is_frame step) (frame_fed live) (step_fed live step))) none ∙ ap (λ b. cond b (frame_fed live) (step_fed live step)) is
+
+pub fed_paint : (live : LiveEnd) (step : Step) → is_paint step ≡ true → fed live step ≡ Err Name
+fed_paint live step is = ap (λ b. cond b (Err Name) (cond (is_frame step) (frame_fed live) (step_fed live step))) is
 
 -- a flaw, where nothing has changed
 refused : {X : Type 0} (view : Unit {0} → X) (flaw : Cause ScriptKind) (first : Result X ScriptKind) (due : Result LiveEnd ScriptKind) (old new : LiveEnd)
@@ -259,9 +265,6 @@ frame_refused live new flaw view gives same = refused view flaw (frame_ended liv
 
 pub ended_is : (live : LiveEnd) (end : ServerEnd) (draft : Draft) → IsLive live → frame_ended live.end.script live.draft ≡ Ok (end.script, draft) → end ≡ with_script live.end end.script → IsLive (record { end = end; draft = draft })
 ended_is live end draft is ended alone = subst (λ (e : ServerEnd). IsLive (record live { end = e; draft = draft })) (sym alone) (ended_live live end.script draft is ended)
-
-pub ended_stands_by : (live : LiveEnd) (end : ServerEnd) (draft : Draft) → IsLive live → end ≡ with_script live.end end.script → StandsWithMore live (record { end = end; draft = draft })
-ended_stands_by live end draft is alone = subst (λ (e : ServerEnd). StandsWithMore live (record live { end = e; draft = draft })) (sym alone) (ended_stands live end.script draft is)
 
 -- another step
 pub step_feeds : (live : LiveEnd) (draft : Draft) (step : Step) → pushed live.draft step ≡ Ok draft → step_fed live step ≡ Ok (record live { draft = draft })

@@ -1,6 +1,9 @@
 pub mod Kept
 pub mod Live
 pub mod Serving
+pub mod Whole
+pub mod LiveServing
+pub mod Idle
 pub mod Taking
 pub mod Queueing
 pub mod Frames

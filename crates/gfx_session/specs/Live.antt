@@ -1,29 +1,31 @@
 -- A server's end whose script grows while it goes on: what is pushed, and for what it stands then. This project's own rule.
-use Rattle.std.specs.Prelude.{◌≡◌, ℕ, ◌+◌, ◌-◌, Bool, true, false, ◌&&◌, not, nat_le, List, ◌++◌, length, map, drop, if◌then◌else◌, Option, Result, Ok, Err}
+use Rattle.std.specs.Prelude.{◌≡◌, ℕ, ◌+◌, ◌-◌, Bool, true, false, ◌&&◌, not, nat_le, List, length, drop, if◌then◌else◌, Option, Result, Ok, Err}
+use Rattle.std.specs.List.{AllByRecursion}
+use Rattle.gfx_base.specs.Results.{◌>>=◌}
 use Rattle.gfx_base.specs.declared.answer.Cause.{Cause}
 use Rattle.gfx_base.specs.declared.answer.Cause.TheVariants as cause
 use Rattle.gfx_base.specs.declared.geometry.Point.{Point}
-use Rattle.gfx_base.specs.Results.{◌>>=◌}
 use Rattle.gfx_bitmap_cache.specs.Slots.{Entry}
 use Rattle.gfx_caps.specs.Offers.{small_of}
 use Rattle.gfx_import.specs.Imported.{imported}
-use Rattle.gfx_schedule.specs.Feeding.{with_more}
-use Rattle.gfx_schedule.specs.ServerEnd.{ScheduledEnd, is_none}
+use Rattle.gfx_schedule.specs.ServerEnd.{is_none}
 use Rattle.gfx_script.specs.declared.TheConstants.{MOST_STEPS}
 use Rattle.gfx_script.specs.declared.error.ScriptKind.{ScriptKind}
+use Rattle.gfx_script.specs.declared.error.ScriptKind.TheVariants.{Name}
 use Rattle.gfx_script.specs.declared.head.HeadParts.{HeadParts}
 use Rattle.gfx_script.specs.declared.picture.Picture.{Picture}
 use Rattle.gfx_script.specs.declared.step.Kind.{Kind}
 use Rattle.gfx_script.specs.declared.step.Step.{Step}
 use Rattle.gfx_script.specs.Checks.{Held, sides_of_all}
 use Rattle.gfx_script.specs.Drafts.{Draft, GoesOn, frame_ended, painted, pushed, steps_so_far}
+use Rattle.gfx_script.specs.Forgetting.{PaintsFrom}
 use Rattle.gfx_script.specs.Heads.{script_from}
-use Rattle.gfx_script.specs.Kinds.{KindedStep}
-use Rattle.gfx_script.specs.Script.{frames_in, is_frame}
+use Rattle.gfx_script.specs.Script.{frames_in, is_frame, is_paint}
 use Rattle.gfx_script.specs.Scripted.{Script}
 use Rattle.gfx_script.specs.Starting.{starts_of}
 use Rattle.gfx_window.specs.Window.{has_room}
-use Rattle.gfx_session.specs.Kept.{IsServerEndFrom, Stands}
+use Rattle.gfx_session.specs.Kept.{IsServerEndFrom}
+use Rattle.gfx_session.specs.declared.server_end.ServerEnd.{ServerEnd}
 use Rattle.gfx_session.specs.declared.live_end.KeptFault.{KeptFault}
 use Rattle.gfx_session.specs.declared.live_end.KeptFault.TheVariants as kept
 use Rattle.gfx_session.specs.declared.live_end.LiveEnd.{LiveEnd}
@@ -51,8 +53,9 @@ step_fed live step = do
   draft ← pushed live.draft step
   Ok (record live { draft = draft })
 
+-- a paint is pushed with its picture alone, by another call
 abbrev pub fed : LiveEnd → Step → Result LiveEnd ScriptKind
-fed live step = if is_frame step then frame_fed live else step_fed live step
+fed live step = if is_paint step then Err Name else (if is_frame step then frame_fed live else step_fed live step)
 
 -- a picture is pushed with its paint
 unfoldable pub paint_fed : LiveEnd → Picture → ℕ → Point → Option Kind → Option ℕ → Result LiveEnd ScriptKind
@@ -67,19 +70,14 @@ Feeds (Err Full) full due old new = (full ≡ true) × (new ≡ old)
 Feeds (Err (Wrong kind)) full due old new = (full ≡ false) × (due ≡ Err kind) × (new ≡ old)
 Feeds (Err Memory) full due old new = new ≡ old
 
--- a server's end stands for the schedule's with more steps, whatever kinds they go as: those that its script has gained
-abbrev pub StandsWithMore : LiveEnd → LiveEnd → Type 0
-StandsWithMore old new =
-    (at : ScheduledEnd) (more : List KindedStep) → Stands old.end at → new.end.script.steps ≡ old.end.script.steps ++ map (λ one. one.step) more
-    → Stands new.end (with_more at more)
-
--- what holds of every live end that is made, and stays through each of its calls: it is a server's end, and what was pushed
--- since the last frame passes the checks behind the script
+-- what holds of every live end that is made, and stays through each of its calls: it is a server's end, what was pushed
+-- since the last frame passes the checks behind the script, and paints pictures of its own
 pub record IsLive (live : LiveEnd) : Type 0 where
   pub held : Held
   pub sides : held.pictures ≡ sides_of_all live.end.script.pictures
   pub end : IsServerEndFrom held live.end
   pub draft : GoesOn end.good.held (length live.end.script.steps) live.draft
+  pub own : AllByRecursion (PaintsFrom (length live.end.script.pictures)) live.draft.steps
 
 -- ---- beginning with kept bitmaps
 
@@ -95,10 +93,13 @@ BeginsKept (Err kept.Memory) same = same ≡ true
 
 -- ---- what a caller asks
 
+-- all of the script was sent, and nothing waits
+abbrev pub has_sent_all : ServerEnd → Bool
+has_sent_all end = is_none end.window.pending && is_none (drop end.last end.script.steps)
+
 -- all that was pushed in whole frames was sent, and a frame that were pushed now could go at once
 abbrev pub wants_frame : LiveEnd → Bool
-wants_frame live =
-    not live.end.spent && (live.end.confirmed && (has_room live.end.window && (is_none live.end.window.pending && is_none (drop live.end.last live.end.script.steps))))
+wants_frame live = not live.end.spent && (live.end.confirmed && (has_room live.end.window && has_sent_all live.end))
 
 -- how many of the frames that were pushed weren't sent; none will be of one that is spent
 abbrev pub frames_behind : LiveEnd → ℕ

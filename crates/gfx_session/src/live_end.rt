@@ -1,6 +1,6 @@
 //! A server's end that is fed: its script grows while the session goes on.
 
-ghost use Rattle.std.specs.Prelude.{◌≡◌, ◌+◌, [], false, nat_le, IfOk, OnOk};
+ghost use Rattle.std.specs.Prelude.{◌≡◌, ◌+◌, ◌++◌, ◌∷◌, [], true, false, nat_le, not, length, map, IfOk, OnOk};
 ghost use Rattle.gfx_import.specs.Agreed.{have_same_sides};
 ghost use Rattle.gfx_caps.specs.Offers.{small_of};
 ghost use Rattle.gfx_chooser.specs.Seen.{seen};
@@ -8,13 +8,16 @@ ghost use Rattle.gfx_schedule.specs.ServerEnd.{server_at_start, server_end_from}
 ghost use Rattle.gfx_schedule.specs.Starts.{from_kept};
 ghost use Rattle.gfx_script.specs.Drafts.{nothing_drafted, steps_so_far};
 ghost use Rattle.gfx_script.specs.declared.TheConstants.{MOST_STEPS};
-ghost use Rattle.gfx_script.specs.declared.step.Step.TheVariants.{Paint};
+ghost use Rattle.gfx_script.specs.declared.step.Step.TheVariants.{Frame, Improve, Paint};
+ghost use Rattle.gfx_script.specs.Forgetting.{PaintsFrom};
 ghost use Rattle.gfx_script.specs.Heads.{script_from};
+ghost use Rattle.gfx_script.specs.Script.{is_frame};
 ghost use Rattle.gfx_script.specs.Starting.{stock_with};
-ghost use Rattle.gfx_session.specs.Kept.{Stands};
-ghost use Rattle.gfx_session.specs.Live.{BeginsKept, Feeds, IsLive, StandsWithMore, fed, frame_fed, frames_behind, is_full, paint_fed, script_kept, step_fed, steps_behind, wants_frame};
+ghost use Rattle.gfx_session.specs.Idle.{ImprovesIdle, improvements_fed, is_idle};
+ghost use Rattle.gfx_session.specs.Live.{BeginsKept, Feeds, IsLive, fed, frame_fed, frames_behind, is_full, paint_fed, script_kept, step_fed, steps_behind, wants_frame};
 ghost use Rattle.gfx_session.specs.Noting.{Listens};
-ghost use Rattle.gfx_session.specs.Serving.{Serves};
+ghost use Rattle.gfx_session.specs.LiveServing.{ServesLive, behind_serving};
+ghost use Rattle.gfx_session.specs.Whole.{StandsWhole, StandsWithMore};
 
 use crate::digests::Digests;
 use crate::server_end::{ServerEnd, ServerFault, ShownFrame};
@@ -34,12 +37,22 @@ pub enum LiveFault {
     /// It is wrong, as `gfx_script_text::read_script` would say of the same step.
     #[error("the step is wrong: {0}")]
     Wrong(ScriptKind),
-    /// The script has no room for it: `MOST_STEPS` steps, of which one is kept for the frame that ends the others.
+    /// The script has no room for it: `MOST_STEPS` steps in all, of which one is kept for the frame that ends the others.
     #[error("the script has no room for one more step")]
     Full,
     /// No memory is left.
     #[error("no memory is left")]
     Memory,
+}
+
+impl From<NoMemory> for LiveFault {
+    ghost use Rattle.gfx_session.specs.declared.live_end.LiveFault.TheVariants.{Memory};
+
+    ghost from_gives = { λ _ fault. fault ≡ Memory };
+
+    fn from(_lack: NoMemory) -> LiveFault {
+        LiveFault::Memory
+    }
 }
 
 impl From<Flaw> for LiveFault {
@@ -76,7 +89,8 @@ impl From<NoMemory> for KeptFault {
     }
 }
 
-/// A server's end, and the steps that were pushed since the last frame, which aren't in its script yet.
+/// A server's end, and the steps that were pushed since the last frame, which aren't in its script yet. It takes memory
+/// for what its client shows and for what wasn't sent yet; what was sent it forgets.
 #[derive(Drop)]
 pub struct LiveEnd {
     end: ServerEnd,
@@ -86,7 +100,7 @@ pub struct LiveEnd {
 impl LiveEnd {
     /// A live end of this head, of whose script nothing is there yet. It makes digests, or none.
     pub fn new(alloc: Global, head: Head, digests: Digests) -> Result<LiveEnd, NoMemory>
-        ensures stands { IfOk result (λ live. Stands live.end (server_at_start (script_from head []) [])) }
+        ensures stands { IfOk result (λ live. StandsWhole live.end (script_from head []) (server_at_start (script_from head []) [])) }
         ensures starts { IfOk result (λ live. (live.end.script ≡ script_from head []) × (live.end.closed ≡ false) × (live.end.digests ≡ digests) × (live.draft ≡ nothing_drafted (stock_with [] live.end.script.small))) }
         ensures is { IfOk result IsLive }
     {
@@ -106,7 +120,7 @@ impl LiveEnd {
         digests: Digests,
     ) -> Result<LiveEnd, KeptFault>
         ensures begins { BeginsKept result (have_same_sides server.now client.now (small_of head.offers)) }
-        ensures stands { IfOk result (λ live. Stands live.end (server_end_from (from_kept (script_kept head server.now client.now) server.now client.now) (script_kept head server.now client.now) [])) }
+        ensures stands { IfOk result (λ live. StandsWhole live.end (script_kept head server.now client.now) (server_end_from (from_kept (script_kept head server.now client.now) server.now client.now) (script_kept head server.now client.now) [])) }
         ensures starts { IfOk result (λ live. (live.end.script ≡ script_kept head server.now client.now) × (live.end.closed ≡ false) × (live.end.digests ≡ digests) × (live.draft ≡ nothing_drafted (stock_with live.end.script.start live.end.script.small))) }
         ensures is { IfOk result IsLive }
     {
@@ -121,7 +135,8 @@ impl LiveEnd {
         Ok(LiveEnd { end, draft })
     }
 
-    /// The script of all that was pushed in whole frames.
+    /// The script of all that was pushed in whole frames. Once all of it was sent it is forgotten: a frame stands for each
+    /// step then, and a blank picture for each picture.
     pub fn script(&self) -> &Script
         ensures { result.now ≡ self.now.end.script }
     {
@@ -129,16 +144,20 @@ impl LiveEnd {
     }
 
     /// Pushes a step. `Step::Frame` says that the screen is whole: what was pushed since the last one is in the
-    /// script from then on, and waits until `serve` sends it. A picture is pushed by `paint`; a step that paints one
-    /// of those that were pushed may be pushed too.
+    /// script from then on, and waits until `serve` sends it. A picture is pushed by `paint`: a step that paints one by
+    /// its number is wrong here, by the fault Name.
     pub fn push(&mut self, step: Step) -> Result<(), LiveFault>
         requires { IsLive self.old }
         ensures feeds { Feeds result (is_full self.old.draft step) (fed self.old step) self.old self.new }
-        ensures stands { OnOk result (StandsWithMore self.old self.new) }
+        ensures stands { is_frame step ≡ true → OnOk result (StandsWithMore self.old.draft.pictures (self.old.draft.steps ++ Frame ∷ []) self.old.end self.new.end) }
+        ensures end { is_frame step ≡ false → self.new.end ≡ self.old.end }
         ensures is { IsLive self.new }
     {
         if self.is_full(&step) {
             return Err(LiveFault::Full);
+        }
+        if step.is_paint() {
+            return Err(LiveFault::Wrong(ScriptKind::Name));
         }
         if step.is_frame() {
             self.end_frame()
@@ -171,18 +190,43 @@ impl LiveEnd {
         }
     }
 
-    /// A turn of the server's end, as `ServerEnd::serve`: Ended says that nothing is left to do until more is pushed.
+    /// A turn of the server's end, as `ServerEnd::serve`: Ended says that nothing is left to do until more is pushed. Where
+    /// all that was pushed in whole frames has been sent then, its steps and pictures are forgotten.
     pub fn serve<C: Chooser>(
         &mut self,
         choosers: &mut Vec<C>,
         out: &mut Bytes,
     ) -> Result<Turned, NoMemory>
         requires { IsLive self.old }
-        ensures serves { Serves result self.old.end self.new.end (seen C.reply C.is_spent choosers.old.items) (seen C.reply C.is_spent choosers.new.items) out.old out.new }
-        ensures draft { self.new.draft ≡ self.old.draft }
+        ensures serves { ServesLive result self.old self.new (seen C.reply C.is_spent choosers.old.items) (seen C.reply C.is_spent choosers.new.items) out.old out.new }
         ensures is { IsLive self.new }
     {
-        self.end.serve(choosers, out)
+        let turned = self.end.serve(choosers, out)?;
+        self.forget_sent();
+        Ok(turned)
+    }
+
+    /// Improves what the client shows where nothing else is to do: where all that was pushed was sent, nothing was pushed
+    /// since the last frame and the window has room, it pushes an improvement of each surface that has a tile below its
+    /// last level, and a frame, which `serve` sends. False where it isn't idle, and where every tile is at its last level,
+    /// so that a server which calls this whenever it is idle ends at the best picture, and then sends nothing.
+    pub fn improve_idle(&mut self) -> Result<bool, LiveFault>
+        requires { IsLive self.old }
+        ensures improves { ImprovesIdle result self.old self.new }
+        ensures is { IsLive self.new }
+    {
+        if !self.is_idle() {
+            return Ok(false);
+        }
+        let ids = self.end.raisable()?;
+        if ids.is_empty() {
+            return Ok(false);
+        }
+        if !self.has_room_for(ids.len()) {
+            return Err(LiveFault::Full);
+        }
+        self.improve_each(ids.as_slice())?;
+        Ok(true)
     }
 
     /// Takes the next bytes of the client, cut anywhere, puts out what is answered to them, and notes the frames
@@ -229,11 +273,60 @@ impl LiveEnd {
         self.end.frames_behind()
     }
 
+    /// Forgets all that was sent, where nothing is left and nothing waits.
+    fn forget_sent(&mut self)
+        requires live { IsLive self.old }
+        requires fresh { self.old.end.spent ≡ false }
+        ensures forgets { self.new ≡ behind_serving self.old }
+        ensures is { IsLive self.new }
+    {
+        if self.end.has_sent_all() {
+            let count = self.end.script().picture_count() as u32;
+            self.end.forget_script();
+            self.draft.forget_pictures(count);
+        }
+    }
+
+    /// Whether nothing was pushed since the last frame, and it wants a frame.
+    fn is_idle(&self) -> bool
+        requires { IsLive self.now }
+        ensures { result ≡ is_idle self.now }
+    {
+        self.draft.is_empty() && self.wants_frame()
+    }
+
+    /// Whether the script has room for so many steps and the frame that ends them.
+    fn has_room_for(&self, count: usize) -> bool
+        ensures { result ≡ not (nat_le MOST_STEPS (steps_so_far self.now.draft + count)) }
+    {
+        count < (MOST_STEPS - self.draft.steps_so_far()) as usize
+    }
+
+    /// Pushes an improvement of each of these surfaces, and a frame: all of it or, after an error, nothing.
+    fn improve_each(&mut self, ids: &[u16]) -> Result<(), LiveFault>
+        requires live { IsLive self.old }
+        requires bare { self.old.draft.steps ≡ [] }
+        ensures feeds { Feeds result false (improvements_fed self.old ids.now) self.old self.new }
+        ensures stands { OnOk result (StandsWithMore self.old.draft.pictures (map Improve ids.now ++ Frame ∷ []) self.old.end self.new.end) }
+        ensures is { IsLive self.new }
+    {
+        if let Err(flaw) = self.draft.improve_all(ids) {
+            return Err(flaw.into());
+        }
+        match self.end_frame() {
+            Ok(()) => Ok(()),
+            Err(fault) => {
+                self.draft.take_steps_back();
+                Err(fault)
+            }
+        }
+    }
+
     /// Ends the frame: what was pushed is in the script.
     fn end_frame(&mut self) -> Result<(), LiveFault>
         requires { IsLive self.old }
         ensures feeds { Feeds result false (frame_fed self.old) self.old self.new }
-        ensures stands { OnOk result (StandsWithMore self.old self.new) }
+        ensures stands { OnOk result (StandsWithMore self.old.draft.pictures (self.old.draft.steps ++ Frame ∷ []) self.old.end self.new.end) }
         ensures is { IsLive self.new }
     {
         match self.end.end_frame(&mut self.draft) {
@@ -242,11 +335,12 @@ impl LiveEnd {
         }
     }
 
-    /// Keeps a step until its frame ends.
+    /// Keeps a step, which paints nothing, until its frame ends.
     fn keep(&mut self, step: Step) -> Result<(), LiveFault>
-        requires { IsLive self.old }
+        requires live { IsLive self.old }
+        requires bare { PaintsFrom (length self.old.end.script.pictures) step }
         ensures feeds { Feeds result false (step_fed self.old step) self.old self.new }
-        ensures stands { OnOk result (StandsWithMore self.old self.new) }
+        ensures end { self.new.end ≡ self.old.end }
         ensures is { IsLive self.new }
     {
         match self.draft.push(step) {

@@ -5,16 +5,20 @@ ghost use Rattle.gfx_base.specs.Outcome.{Gives};
 ghost use Rattle.gfx_import.specs.Imported.{imported};
 ghost use Rattle.gfx_planner.specs.Planned.{ready};
 ghost use Rattle.gfx_planner.specs.Server.{server_with};
-ghost use Rattle.gfx_schedule.specs.ServerEnd.{is_none, server_at_start, server_end_from};
+ghost use Rattle.gfx_prog_live.specs.Inside.{AreBy};
+ghost use Rattle.gfx_prog_live.specs.Raising.{AreRaisable};
+ghost use Rattle.gfx_schedule.specs.ServerEnd.{server_at_start, server_end_from};
 ghost use Rattle.gfx_schedule.specs.Starts.{MayImport, from_kept};
 ghost use Rattle.gfx_script.specs.Checks.{held_first, sides_of_all};
 ghost use Rattle.gfx_script.specs.Drafts.{frame_ended};
+ghost use Rattle.gfx_script.specs.Forgetting.{forgotten};
 ghost use Rattle.gfx_script.specs.Script.{IsAccepted, frames_in, held_at_start};
 ghost use Rattle.gfx_script.specs.declared.TheConstants.{MOST_STEPS};
 ghost use Rattle.gfx_window.specs.Window.{has_room};
 ghost use Rattle.gfx_script.specs.Kinds.{Fits, KindedStep};
 ghost use Rattle.gfx_session.specs.Beginning.{IsOpened};
 ghost use Rattle.gfx_session.specs.Kept.{Stands, IsServerEndFrom};
+ghost use Rattle.gfx_session.specs.Live.{has_sent_all};
 
 mod listening;
 mod serving;
@@ -127,15 +131,38 @@ impl ServerEnd {
     pub(crate) fn wants_frame(&self) -> bool
         requires within { self.now.spent ≡ false → self.now.last ≤ length self.now.script.steps }
         requires few { length self.now.script.steps ≤ MOST_STEPS }
-        ensures { result ≡ (not self.now.spent && (self.now.confirmed && (has_room self.now.window && (is_none self.now.window.pending && is_none (drop self.now.last self.now.script.steps))))) }
+        ensures { result ≡ (not self.now.spent && (self.now.confirmed && (has_room self.now.window && has_sent_all self.now))) }
     {
         if self.spent {
             return false;
         }
-        self.confirmed
-            && self.window.can_send()
-            && self.window.due() == 0
-            && self.script.step(self.last + 1).is_none()
+        self.confirmed && self.window.can_send() && self.has_sent_all()
+    }
+
+    /// Whether all of the script was sent, and nothing waits.
+    pub(crate) fn has_sent_all(&self) -> bool
+        requires within { self.now.last ≤ length self.now.script.steps }
+        requires few { length self.now.script.steps ≤ MOST_STEPS }
+        ensures { result ≡ has_sent_all self.now }
+    {
+        self.window.due() == 0 && self.script.step(self.last + 1).is_none()
+    }
+
+    /// Forgets all steps and pictures of the script.
+    pub(crate) fn forget_script(&mut self)
+        requires few { length self.old.script.steps ≤ MOST_STEPS }
+        requires few_pictures { length self.old.script.pictures ≤ MOST_STEPS }
+        ensures { self.new ≡ record self.old { script = forgotten self.old.script } }
+    {
+        self.script.forget();
+    }
+
+    /// The surfaces that have a tile which an improvement would raise.
+    pub(crate) fn raisable(&self) -> Result<Vec<u16>, NoMemory>
+        requires { AreBy self.now.script.setting self.now.planner.server.passes.live }
+        ensures { IfOk result (λ ids. AreRaisable self.now.planner.server.passes.live ids.items) }
+    {
+        self.planner.raisable(&self.script)
     }
 
     /// How many steps of the script weren't sent yet. None will be of one that is spent.

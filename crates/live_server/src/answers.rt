@@ -28,8 +28,8 @@ pub enum Answer {
     Untimely,
     /// There was a turn.
     Served(Turned),
-    /// Whether a frame that were pushed now could go at once.
-    Wants(bool),
+    /// Yes or no.
+    Says(bool),
     /// So many steps weren't sent yet.
     Behind(u32),
     /// There is no such record.
@@ -92,8 +92,8 @@ impl Answer {
             Answer::NoMemory => b'N',
             Answer::Untimely => b'E',
             Answer::Served(_) => b'S',
-            Answer::Wants(true) => b'Y',
-            Answer::Wants(false) => b'-',
+            Answer::Says(true) => b'Y',
+            Answer::Says(false) => b'-',
             Answer::Behind(_) => b'B',
             Answer::Unknown => b'U',
         }
@@ -166,7 +166,7 @@ fn put_inner(answer: Answer, shown: &[ShownFrame], inner: &mut Bytes) -> Result<
         | Answer::Full
         | Answer::NoMemory
         | Answer::Untimely
-        | Answer::Wants(_)
+        | Answer::Says(_)
         | Answer::Unknown => Ok(()),
     }
 }

@@ -33,6 +33,8 @@ pub enum Command {
     Paint,
     /// The server's end has a turn.
     Serve,
+    /// Where nothing else is to do, what shows is improved.
+    ImproveIdle,
     /// Whether a frame that were pushed now could go at once.
     WantsFrame,
     /// How many of the steps that were pushed weren't sent yet.
@@ -74,6 +76,7 @@ impl Command {
             b'H' => Some(Command::Settle),
             PAINT => Some(Command::Paint),
             b'S' => Some(Command::Serve),
+            b'I' => Some(Command::ImproveIdle),
             b'?' => Some(Command::WantsFrame),
             b'B' => Some(Command::StepsBehind),
             _ => Some(Command::Push(Word::of_kind(kind)?)),
@@ -84,7 +87,7 @@ impl Command {
     fn is_bare(self) -> bool {
         matches!(
             self,
-            Command::Serve | Command::WantsFrame | Command::StepsBehind
+            Command::Serve | Command::ImproveIdle | Command::WantsFrame | Command::StepsBehind
         )
     }
 }

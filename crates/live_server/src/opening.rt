@@ -66,7 +66,7 @@ impl Opening {
             Err(answer) => Early::Answered(answer),
             Ok(Command::Take) => self.take(record.body),
             Ok(Command::Settle) => Early::Answered(self.settle(record.body)),
-            Ok(Command::WantsFrame) => Early::Answered(Answer::Wants(false)),
+            Ok(Command::WantsFrame | Command::ImproveIdle) => Early::Answered(Answer::Says(false)),
             Ok(Command::StepsBehind) => Early::Answered(Answer::Behind(0)),
             Ok(Command::Push(_) | Command::Paint | Command::Serve) => {
                 Early::Answered(Answer::Untimely)

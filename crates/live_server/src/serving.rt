@@ -116,7 +116,8 @@ fn obey(
         Command::Push(word) => push(alloc, live, word, record.body),
         Command::Paint => paint(alloc, live, record.body),
         Command::Serve => serve(live, choosers, said),
-        Command::WantsFrame => Answer::Wants(live.wants_frame()),
+        Command::ImproveIdle => improve(live),
+        Command::WantsFrame => Answer::Says(live.wants_frame()),
         Command::StepsBehind => Answer::Behind(live.steps_behind()),
     }
 }
@@ -153,6 +154,17 @@ fn paint(alloc: Global, live: &mut LiveEnd, body: &[u8]) -> Answer
 {
     match read_paint(alloc, body) {
         Ok(paint) => pushed(live.paint(paint.id, paint.at, paint.picture, paint.kind, paint.glyph)),
+        Err(fault) => fault.into(),
+    }
+}
+
+/// Improves what shows, where nothing else is to do.
+fn improve(live: &mut LiveEnd) -> Answer
+    requires { IsLive live.old }
+    ensures { IsLive live.new }
+{
+    match live.improve_idle() {
+        Ok(improved) => Answer::Says(improved),
         Err(fault) => fault.into(),
     }
 }

@@ -1,5 +1,5 @@
 //! A turn of the server's end.
-ghost use Rattle.std.specs.Prelude.{◌≡◌, ◌≤◌, ◌+◌, ◌&&◌, ◌||◌, if◌then◌else◌, true, false, drop, length};
+ghost use Rattle.std.specs.Prelude.{◌≡◌, ◌≤◌, ◌+◌, ◌&&◌, ◌||◌, if◌then◌else◌, true, false, drop, length, OnOk};
 ghost use Rattle.gfx_chooser.specs.Seen.{seen};
 ghost use Rattle.gfx_schedule.specs.ServerEnd.{is_none, may_send};
 ghost use Rattle.gfx_schedule.specs.declared.turned.Turned.TheVariants.{Moved, Waiting};
@@ -34,6 +34,7 @@ impl ServerEnd {
         requires { IsServerEnd self.old }
         ensures serves { Serves result self.old self.new (seen C.reply C.is_spent choosers.old.items) (seen C.reply C.is_spent choosers.new.items) out.old out.new }
         ensures is { (held : Held) → IsServerEndFrom held self.old → IsServerEndFrom held self.new }
+        ensures fresh { OnOk result (self.new.spent ≡ false) }
     {
         if self.spent {
             return Err(NoMemory);

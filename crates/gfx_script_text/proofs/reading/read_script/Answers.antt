@@ -1,4 +1,4 @@
-use Rattle.gfx_script_text.proofs.FromNothing.{read_empty, read_few, read_good, read_none}
+use Rattle.gfx_script_text.proofs.FromNothing.{read_empty, read_few, read_good, read_none, read_steps_few}
 use Rattle.gfx_script_text.proofs.reading.read_script.Goals as goal
 
 pub returns-clause-exact : goal.returns-clause-exact
@@ -12,3 +12,6 @@ returns-clause-starts c = read_empty _ c.args.text.now (returns-clause-exact c)
 
 pub returns-clause-pictures : goal.returns-clause-pictures
 returns-clause-pictures c = read_few _ c.args.text.now (returns-clause-exact c)
+
+pub returns-clause-steps : goal.returns-clause-steps
+returns-clause-steps c = read_steps_few _ c.args.text.now (returns-clause-exact c)

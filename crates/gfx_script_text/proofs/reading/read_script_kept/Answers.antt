@@ -1,7 +1,7 @@
 use Rattle.std.proofs.Common.{Ok, ap, sym, subst, ◌∙◌}
 use Rattle.std.proofs.lemmas.Result.{err_from_is_err_and}
 use Rattle.gfx_script.specs.Script.{IsAcceptedAtStart}
-use Rattle.gfx_script_text.proofs.Accepted.{accepted_with, few_pictures_kept, starts_with_kept}
+use Rattle.gfx_script_text.proofs.Accepted.{accepted_with, few_pictures_kept, few_steps_kept, starts_with_kept}
 use Rattle.gfx_script_text.proofs.Documents.{fault_read, may_want, script_other, script_read}
 use Rattle.gfx_script_text.proofs.reading.read_script_kept.Goals as goal
 
@@ -22,6 +22,9 @@ returns-clause-accepted c =
 
 pub returns-clause-pictures : goal.returns-clause-pictures
 returns-clause-pictures c = few_pictures_kept c.args.server.now c.args.client.now c.args.text.now _ (returns-clause-exact c)
+
+pub returns-clause-steps : goal.returns-clause-steps
+returns-clause-steps c = few_steps_kept c.args.server.now c.args.client.now c.args.text.now _ (returns-clause-exact c)
 
 pub returns-clause-start : goal.returns-clause-start
 returns-clause-start c = starts_with_kept c.args.server.now c.args.client.now c.args.text.now _ (returns-clause-exact c)

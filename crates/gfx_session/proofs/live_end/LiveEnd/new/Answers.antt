@@ -6,11 +6,15 @@ use Rattle.gfx_script.specs.Heads.{script_from}
 use Rattle.gfx_script.specs.Scripted.{Script}
 use Rattle.gfx_script.specs.Starting.{stock_with}
 use Rattle.gfx_session.specs.Kept.{IsServerEndFrom}
+use Rattle.gfx_session.proofs.LiveForgetting.{begun_whole}
 use Rattle.gfx_session.proofs.LiveLemmas.{begun_live, begun_stands}
 use Rattle.gfx_session.proofs.live_end.LiveEnd.new.Goals as goal
 
 pub returns-clause-stands : goal.returns-clause-stands
-returns-clause-stands c = begun_stands c.in_ok-end.end c.script.result (script_from c.args.head []) server_at_start c.script.ensures.script refl c.in_ok-end.ensures.stands
+returns-clause-stands c =
+    begun_whole c.in_ok-end.end (script_from c.args.head []) (server_at_start (script_from c.args.head []) [])
+    (begun_stands c.in_ok-end.end c.script.result (script_from c.args.head []) server_at_start c.script.ensures.script refl c.in_ok-end.ensures.stands)
+    (c.in_ok-end.ensures.is.1 ∙ c.script.ensures.script) refl
 
 pub returns-clause-is : goal.returns-clause-is
 returns-clause-is c =

@@ -27,7 +27,6 @@
 #include <winpr/synch.h>
 #include <winpr/wtsapi.h>
 
-#include "anew.h"
 #include "program.h"
 #include "say.h"
 #include "screen.h"
@@ -40,8 +39,7 @@ enum {
     MOST_TURNS = 8,          /* behind a frame */
     BETWEEN_FRAMES = 25,     /* milliseconds, at least */
     BEFORE_IMPROVING = 200,  /* of rest */
-    BEFORE_GRAPHICS = 20000, /* till the first message of the client over the channel */
-    MOST_STEPS = 90000       /* of one live_server, which takes 100,000 */
+    BEFORE_GRAPHICS = 20000  /* till the first message of the client over the channel */
 };
 
 /* The surface, and what its pictures are told as. */
@@ -57,12 +55,9 @@ typedef struct {
     Program server;
     bool is_known, is_refused; /* by its credentials */
     bool is_fed;               /* live_server has its server's end */
-    bool is_rough;             /* something may show better by an `i` */
-    bool is_anew;              /* the channel is open anew, and the client has caches of before */
+    bool is_rough;             /* something may show better by an `I` */
     bool has_ended;            /* and a line has said why */
     uint64_t begun, last_frame, last_change;
-    uint64_t pushed; /* bytes of pixels that live_server keeps */
-    uint32_t steps;  /* that it keeps too */
     uint32_t frames, acknowledged;
     uint8_t *message; /* of the client, behind its length */
     size_t room;
@@ -266,7 +261,6 @@ static void send_messages(Session *session, uint8_t *bytes, size_t size)
             end(session, "live_server's messages are cut");
             return;
         }
-        session->is_anew = session->is_anew && !anew_reset_bands(bytes + 4, length);
         if (!WTSVirtualChannelWrite(session->channel, (PCHAR)bytes + 4, length, &written)) {
             end(session, "the client takes no graphics any more");
             return;
@@ -351,16 +345,13 @@ static void push_piece(Session *session, const Piece *piece)
     at = put_number(at, ANY_KIND, 1);
     put_number(at, NO_GLYPH, 2);
     must(session, 'O', 'p', (const Part[]){{front, sizeof front}, {piece->pixels, piece->size}}, 2);
-    session->pushed += piece->size;
-    session->steps++;
 }
 
-static void end_frame(Session *session)
+/* What was pushed in whole frames is sent. */
+static void send_frame(Session *session)
 {
-    push(session, 'F', NULL, 0);
     turn(session);
     session->frames++;
-    session->steps += 2;
     session->last_frame = now();
 }
 
@@ -374,19 +365,24 @@ static void push_changes(Session *session)
         has_pushed = true;
     }
     if (has_pushed) {
-        end_frame(session);
+        push(session, 'F', NULL, 0);
+        send_frame(session);
         session->is_rough = true;
         session->last_change = now();
     }
 }
 
+/* What shows is improved by a level, and by the next one behind as long a rest, until nothing is left to improve. */
 static void push_improvement(Session *session)
 {
-    uint8_t body[2];
-    put_number(body, SURFACE, 2);
-    push(session, 'i', body, 2);
-    end_frame(session);
-    session->is_rough = false;
+    char answer = ask(session, 'I', NULL, 0);
+    if (answer == 'Y') {
+        send_frame(session);
+        session->last_change = now();
+    } else if (answer == '-')
+        session->is_rough = false;
+    else if (answer != 0)
+        end(session, "live_server can't improve what shows");
 }
 
 /* The client's bytes: one of its channel messages, with its length before it. */
@@ -484,26 +480,6 @@ static void hear_channels(Session *session)
         hear_client(session);
 }
 
-/* live_server keeps what was pushed till it ends. So behind much of it a new one begins, over a channel that is opened
- * anew: the client draws all again, and goes on. */
-static void renew(Session *session)
-{
-    WTSVirtualChannelClose(session->channel);
-    session->channel = session->channel_event = NULL;
-    stop_server(session);
-    session->is_fed = session->is_rough = false;
-    session->pushed = session->steps = 0;
-    session->is_anew = true;
-    session->begun = now();
-    if (!start_server(session))
-        session->has_ended = true;
-}
-
-static bool is_full(const Session *session)
-{
-    return session->pushed >= session->share->most_pushed || session->steps >= MOST_STEPS;
-}
-
 /* ---- The loop */
 
 /* Milliseconds until there is something to do of which no handle tells. */
@@ -557,9 +533,7 @@ static bool make_frame(Session *session)
         return has_changed;
     if (ask(session, '?', NULL, 0) != 'Y')
         return false;
-    if (is_full(session))
-        renew(session);
-    else if (has_changed)
+    if (has_changed)
         push_changes(session);
     else
         push_improvement(session);

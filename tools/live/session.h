@@ -10,7 +10,6 @@
 typedef struct {
     const char *display, *user, *password;
     const char *server, *sandbox; /* live_server, and what is laid over it */
-    uint64_t most_pushed;         /* bytes of pixels, for one live_server */
     Certificate certificate;
 } Share;
 

@@ -28,7 +28,7 @@
 #include "screen.h"
 #include "session.h"
 
-enum { DEFAULT_PORT = 3389, MOST_CLIENTS = 16, WAITING = 8, DEFAULT_MEMORY = 512 };
+enum { DEFAULT_PORT = 3389, MOST_CLIENTS = 16, WAITING = 8 };
 
 /* Seconds: till the first graphics of a client, till one is lost that takes nothing any more, and till one is killed
  * where share ends. */
@@ -36,12 +36,11 @@ enum { BEFORE_CLIENT = 30, BEFORE_LOST = 30, BEFORE_KILLED = 4 };
 
 static const char usage[] =
     "share --display NAME --user NAME [--password WORD] [--listen ADDRESS] [--port N]\n"
-    "      [--certificate FILE --key FILE] [--server PATH] [--memory MEGABYTES]\n"
+    "      [--certificate FILE --key FILE] [--server PATH]\n"
     "\n"
     "Shares the X display of that name with clients of Remote Desktop, at port 3389 of 127.0.0.1 unless other words\n"
     "say so. Without --password the password is what SHARE_PASSWORD says. Without --certificate one is made. The\n"
     "server's end is live_server at PATH, crates/live_server/out/live_server of this repository where none is named.\n"
-    "Behind so many MEGABYTES of pictures, 512 where no number is named, a new one begins, and all is drawn again.\n"
     "It goes on until it is interrupted. README.md of tools/live says more.\n";
 
 typedef struct {
@@ -96,7 +95,7 @@ static void read_words(Words *words, int count, char **given)
         {"password", required_argument, NULL, 'p'}, {"listen", required_argument, NULL, 'l'},
         {"port", required_argument, NULL, 'P'}, {"certificate", required_argument, NULL, 'c'},
         {"key", required_argument, NULL, 'k'}, {"server", required_argument, NULL, 's'},
-        {"memory", required_argument, NULL, 'm'}, {"help", no_argument, NULL, 'h'}, {NULL, 0, NULL, 0}};
+        {"help", no_argument, NULL, 'h'}, {NULL, 0, NULL, 0}};
     opterr = 0;
     for (int option; (option = getopt_long(count, given, "", options, NULL)) >= 0;)
         switch (option) {
@@ -108,9 +107,6 @@ static void read_words(Words *words, int count, char **given)
         case 'k': words->key = optarg; break;
         case 's': words->share.server = optarg; break;
         case 'P': words->port = read_number(optarg, 1, 65535, "--port is 1 to 65535"); break;
-        case 'm':
-            words->share.most_pushed = (uint64_t)read_number(optarg, 1, 100000, "--memory is 1 to 100000") << 20;
-            break;
         case 'h':
             fputs(usage, stdout);
             exit(0);
@@ -302,8 +298,7 @@ int main(int count, char **given)
 {
     char *server = program_path("../../../crates/live_server/out/live_server");
     char *sandbox = program_path("sandbox.so");
-    Words words = {.share = {.password = getenv("SHARE_PASSWORD"), .server = server, .sandbox = sandbox,
-                             .most_pushed = (uint64_t)DEFAULT_MEMORY << 20},
+    Words words = {.share = {.password = getenv("SHARE_PASSWORD"), .server = server, .sandbox = sandbox},
                    .address = "127.0.0.1", .port = DEFAULT_PORT};
     say_as("share");
     read_words(&words, count, given);

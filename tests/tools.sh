@@ -311,6 +311,26 @@ report "check-script, what hangs on a fault isn't told" "2: step 1: Key" \
     "$(printf '%s\n' 'step = [' '{ do = "surfce", id = 1, width = 2, height = 1 },' '{ do = "improve", id = 1 },' \
         '{ do = "delete", id = 1 }, { do = "frame" }]' |
         "$tools/check-script" 2> /dev/null | sed 's/^script:\([0-9]*: [^:]*: [A-Za-z]*\):.*/\1/')"
+report "check-script, all rectangles and points outside" "3:rectangle 1|4:rectangle 2|5:point 1|5:point 3" \
+    "$(printf '%s\n' 'step = [' '{ do = "surface", id = 1, width = 8, height = 8 },' \
+        '{ do = "fill", id = 1, colour = "ff0000ff", rects = [[0, 0, 9, 1],' '[0, 0, 1, 9]] },' \
+        '{ do = "copy", from = 1, to = 1, rect = [0, 0, 2, 2], points = [[7, 0], [0, 0], [0, 7]] },' \
+        '{ do = "frame" } ]' | "$tools/check-script" 2> /dev/null |
+        sed 's/^script:\([0-9]*\): .*\(rectangle [0-9]\|point [0-9]\) of .*/\1:\2/' | paste -sd '|')"
+report "check-script, a step that is no table, at its line" "3: step 2: Key: a step is a table, and here stands the number 5" \
+    "$(printf '%s\n' 'step = [' '{ do = "reset", width = 8, height = 8 },' '5,' '{ do = "frame" } ]' |
+        "$tools/check-script" 2> /dev/null | sed 's/^script://')"
+report "check-script, a bracket that is missing" \
+    "3:1: the text: Toml: the ] of what begins in line 1 is missing: here stands [progressive]" \
+    "$(printf '%s\n' 'step = [' '{ do = "frame" },' '[progressive]' 'transform = "plain"' |
+        "$tools/check-script" 2> /dev/null | sed 's/^script://')"
+report "check-script, faults of each level" "3 4" \
+    "$(four="$(printf '4, %.0s' 1 2 3 4 5 6 7 8 9)"; printf '%s\n' '[progressive]' 'level = [' \
+        "{ y = [${four}99], cb = [${four}4], cr = [${four}4] }," "{ y = [${four}4], cb = [${four}99], cr = [${four}4] }," ']' |
+        "$tools/check-script" 2> /dev/null | cut -d: -f2 | paste -sd ' ')"
+report "check-script, thin with version 10" \
+    "1: offer 1 of client: Key: a client of version 10 is never thin: versions 8 and 8.1 have that flag" \
+    "$(echo 'client = [{ version = "10", thin = true }]' | "$tools/check-script" 2> /dev/null | sed 's/^script://')"
 report "check-script, a missing surface is told once" "1: step 1 (improve): SurfaceAbsent" \
     "$(echo 'step = [{ do = "improve", id = 4 }, { do = "delete", id = 4 }, { do = "frame" }]' |
         "$tools/check-script" 2> /dev/null | sed 's/^script:\([0-9]*: [^:]*: [A-Za-z]*\):.*/\1/')"

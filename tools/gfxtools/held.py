@@ -3,7 +3,7 @@
 import collections
 
 from . import entry
-from .fields import CLEAR_KINDS, PIXEL, STEPS, choice, counted, meant, only
+from .fields import CLEAR_KINDS, PIXEL, STEPS, Wrong, choice, counted, meant, only
 from .toml import quoted
 
 # The numbers of docs/PROFILE.md.
@@ -30,14 +30,22 @@ def moved(sides, place):
     return [place[0], place[1], place[0] + sides[0], place[1] + sides[1]]
 
 
-def outside(what, rect, id, sides):
+def outside(what, rect, id, sides, at=None):
+    """A fault: its place, or None for that of the step, and why it is one."""
     left, top, right, bottom = rect
     why = f"doesn't lie on surface {id}, which is {sides[0]} by {sides[1]}"
     if left > right:
         why += "; its right side is left of its left one"
     elif top > bottom:
         why += "; its bottom is above its top"
-    return only("Outside", None, f"{what} [{left}, {top}, {right}, {bottom}] {why}")
+    return at, f"{what} [{left}, {top}, {right}, {bottom}] {why}"
+
+
+def check_inside(faults):
+    """Tells all that lies outside, if anything does."""
+    found = list(faults)
+    if found:
+        raise Wrong("Outside", found)
 
 
 class Stock:
@@ -170,22 +178,20 @@ class Held:
 
     def do_fill(self, step, number):
         sides = self.surface(step["id"])
-        for nth, rect in enumerate(step["rects"], 1):
-            if not lies_in(sides, rect):
-                raise outside(f"rectangle {nth} of rects,", rect, step["id"], sides)
+        check_inside(outside(f"rectangle {nth} of rects,", rect, step["id"], sides, rect.at)
+                     for nth, rect in enumerate(step["rects"], 1) if not lies_in(sides, rect))
 
     def put_at_points(self, step, sides):
         """A rectangle of these sides is put at the points of a step."""
         target = self.surface(step["to"])
-        for nth, place in enumerate(step["points"], 1):
-            if not lies_in(target, moved(sides, place)):
-                raise outside(f"at point {nth} of points the rectangle", moved(sides, place), step["to"], target)
+        check_inside(outside(f"at point {nth} of points the rectangle", moved(sides, place), step["to"], target, place.at)
+                     for nth, place in enumerate(step["points"], 1) if not lies_in(target, moved(sides, place)))
 
     def sides_of_rect(self, step, sides):
         """The sides of a step's rectangle, which has to lie on a surface of these sides."""
         left, top, right, bottom = step["rect"]
         if not lies_in(sides, step["rect"]):
-            raise outside("rect", step["rect"], step["from" if "from" in step else "id"], sides)
+            check_inside([outside("rect", step["rect"], step["from" if "from" in step else "id"], sides)])
         return right - left, bottom - top
 
     def do_copy(self, step, number):
@@ -218,7 +224,7 @@ class Held:
         surface, sides = self.surface(step["id"]), self.sides_of_picture(step)
         name = quoted(step["picture"])
         if not lies_in(surface, moved(sides, step["at"])):
-            raise outside(f"picture {name} at", moved(sides, step["at"]), step["id"], surface)
+            check_inside([outside(f"picture {name} at", moved(sides, step["at"]), step["id"], surface)])
         if "glyph" not in step:
             return
         if step.get("kind", "auto") not in CLEAR_KINDS:

@@ -31,6 +31,8 @@ PLAIN = {
     ("'", False): re.compile(r"[^'\x00-\x08\x0a-\x1f\x7f]*"),
     ("'", True): re.compile(r"[^'\x00-\x08\x0b-\x1f\x7f]*"),
 }
+# A line that has the header of a table and nothing else. An array of one number looks like none.
+HEADER_LINE = re.compile(r"(\[\[?[ \t]*[A-Za-z_][A-Za-z0-9_.-]*[ \t]*\]\]?)[ \t]*(?:#[^\n]*)?\r?(?:\n|\Z)")
 ESCAPES = {"b": "\b", "e": "\x1b", "f": "\f", "n": "\n", "r": "\r", "t": "\t", '"': '"', "\\": "\\"}
 CODES = {"x": re.compile(r"[0-9A-Fa-f]{2}"), "u": re.compile(r"[0-9A-Fa-f]{4}"), "U": re.compile(r"[0-9A-Fa-f]{8}")}
 
@@ -66,13 +68,14 @@ class Table(dict):
 
 
 class Array(list):
-    """An array, and where it begins. It is open where headers in double brackets add to it."""
+    """An array, where it begins, and where each value in its brackets stands. It is open where headers in double brackets
+    add to it."""
 
-    __slots__ = ("at", "is_open")
+    __slots__ = ("at", "is_open", "places")
 
     def __init__(self, at, is_open=False):
         super().__init__()
-        self.at, self.is_open = at, is_open
+        self.at, self.is_open, self.places = at, is_open, []
 
 
 def front(text):
@@ -324,12 +327,23 @@ def next_of(text, at, closing, begin):
     return at
 
 
+def check_for_header(text, at, begin):
+    """Where the header of a table stands in an array's place for a value, the array isn't closed."""
+    is_first = not text[text.rfind("\n", 0, at) + 1:at].strip()
+    header = HEADER_LINE.match(text, at) if is_first else None
+    if header:
+        line = text.count("\n", 0, begin) + 1
+        raise Fault(at, f"the ] of what begins in line {line} is missing: here stands {front(header[1])}")
+
+
 def array_at(text, begin, deep):
     found, at = Array(begin), begin + 1
     while True:
         at = BLANK.match(text, at).end()
         if text[at:at + 1] == "]":
             return found, at + 1
+        check_for_header(text, at, begin)
+        found.places.append(at)
         value, at = value_at(text, at, deep)
         found.append(value)
         at = next_of(text, at, "]", begin)

@@ -98,6 +98,48 @@ else:
 PYTHON
 }
 
+# Runs a tool, and the program in it, with no more memory than so many KiB.
+limited() {
+    (ulimit -v "$1" && shift && "$@")
+}
+
+# Runs a tool, and interrupts it once it writes beside a file of the folder in the first word: its exit number, and
+# what it says.
+interrupted() {
+    python3 - "$@" <<'PYTHON'
+import os, signal, subprocess, sys, time
+folder, words = sys.argv[1], sys.argv[2:]
+usual = lambda: signal.signal(signal.SIGINT, signal.SIG_DFL)
+tool = subprocess.Popen(words, stdin=subprocess.PIPE, stderr=subprocess.PIPE, preexec_fn=usual, text=True)
+for _ in range(600):
+    if any(name.startswith(".new-") for name in os.listdir(folder)):
+        break
+    time.sleep(0.05)
+time.sleep(0.2)
+tool.send_signal(signal.SIGINT)
+said = tool.stderr.read()
+print(tool.wait(), said.strip())
+PYTHON
+}
+
+# Runs a tool on a terminal: its exit number, how many bytes that are no text come, and whether a line speaks of it.
+on_terminal() {
+    python3 - "$@" <<'PYTHON'
+import os, pty, sys
+got = bytearray()
+child, end = pty.fork()
+if child == 0:
+    os.execv(sys.argv[1], sys.argv[1:])
+try:
+    while piece := os.read(end, 65536):
+        got.extend(piece)
+except OSError:
+    pass
+print(os.waitstatus_to_exitcode(os.waitpid(child, 0)[1]), sum(byte < 7 or byte > 126 for byte in got),
+      "terminal" if b"terminal" in got else "")
+PYTHON
+}
+
 xz -dc "$examples/gnome.bin.xz" > "$work/gnome.bin"
 { echo "step = ["; printf '{ do = "fill" },\n%.0s' $(seq 5000); echo "]"; } > "$work/faults.toml"
 
@@ -143,7 +185,7 @@ report "stream on a closed output" "1 stream: the standard output is closed" "$(
 "$tools/stream" list 2> "$work/err" <&-
 report "stream on a closed input" "1 stream: the standard input is closed" "$(ended $?)"
 "$tools/stream" list < /dev/null > "$work/out" 2> "$work/err"
-report "stream on an empty input" "0 stream: the recording is empty" "$(ended $?)"
+report "stream on an empty input" "0 stream: the standard input: the recording is empty" "$(ended $?)"
 
 # ---- Tables
 python3 - "$tools" "$docs" > "$work/out" <<'PYTHON'
@@ -208,7 +250,7 @@ for line in sys.stdin:
     print(one["number"], one["message"], one["bytes"])' < "$work/json" > "$work/out"
     report "stream json of $example is what audit says" "same" "$(same "$work/out" "$work/wanted")"
     report "stream of $example, its end" "$(cat "$work/wanted.err")" \
-        "$(sed 's/^stream: \(message [0-9]*: [0-9]* [A-Za-z]*\).*/\1/' "$work/err")"
+        "$(sed 's/^stream: [^ ]*: \(message [0-9]*: [0-9]* [A-Za-z]*\).*/\1/' "$work/err")"
 done
 "$tools/stream" list "$examples/gnome.bin.xz" > "$work/out"
 report "stream list reads .xz and the standard input alike" "same" \
@@ -233,7 +275,7 @@ for cut in 4 50 100 240 241; do
     "$program" audit < "$work/cut.bin" 2> "$work/wanted" > /dev/null
     "$tools/stream" list "$work/cut.bin" 2> "$work/err" > /dev/null
     report "stream of $cut bytes of text" "$(cat "$work/wanted")" \
-        "$(sed 's/^stream: \(message [0-9]*: [0-9]* [A-Za-z]*\).*/\1/' "$work/err")"
+        "$(sed 's/^stream: [^ ]*: \(message [0-9]*: [0-9]* [A-Za-z]*\).*/\1/' "$work/err")"
 done
 # Messages and codecs that the profile leaves out, versions, and a rest of two bytes.
 python3 - "$tools" > "$work/foreign.bin" <<'PYTHON'
@@ -275,7 +317,7 @@ sys.stdout.buffer.write(data[:half] + data[half:].replace(b"\x01\x00\x40\x00\x28
 "$program" audit < "$work/twice.bin" 2> "$work/wanted" > /dev/null
 "$tools/stream" list "$work/twice.bin" --program "$program" 2> "$work/err" > /dev/null
 report "stream --program asks it" "$(cat "$work/wanted")" \
-    "$(sed 's/^stream: \(message [0-9]*: [0-9]* [A-Za-z]*\).*/\1/' "$work/err")"
+    "$(sed 's/^stream: [^ ]*: \(message [0-9]*: [0-9]* [A-Za-z]*\).*/\1/' "$work/err")"
 
 # ---- check-script
 for example in "$examples"/*.toml; do
@@ -297,8 +339,8 @@ while IFS= read -r row; do
         "$("$tools/check-script" --line "$work/fault.toml" > "$work/out"; echo $?) $(cat "$work/out")"
     "$tools/check-script" "$work/fault.toml" > "$work/out" 2> "$work/err"
     report "fault $rows, check-script" "$work/fault.toml:$told" "$(head -n 1 "$work/out")"
-    report "fault $rows, check-script, its end" "check-script: 1 fault; the program says: $said" \
-        "$(sed 's/^\(check-script: \)[0-9]* faults/\11 fault/' "$work/err")"
+    report "fault $rows, check-script, its end" "check-script: $work/fault.toml: 1 fault; the program says: $said" \
+        "$(sed 's/^\(check-script: [^ ]*: \)[0-9]* faults/\11 fault/' "$work/err")"
 done < "$here/faults/table.txt"
 report "the table of faults has all kinds" "13" \
     "$(sed -n 's/^script: \(step [0-9]*: \)\{0,1\}\([A-Za-z]*\) |.*/\2/p' "$here/faults/table.txt" | sort -u | wc -l)"
@@ -336,7 +378,7 @@ report "check-script, a missing surface is told once" "1: step 1 (improve): Surf
         "$tools/check-script" 2> /dev/null | sed 's/^script:\([0-9]*: [^:]*: [A-Za-z]*\):.*/\1/')"
 "$tools/check-script" "$work/faults.toml" > "$work/out" 2> "$work/err"
 report "check-script, of many faults twenty" \
-    "1 check-script: 15,001 faults, of which the first 20 are told (--all); the program says: script: step 1: Key 20" \
+    "1 check-script: $work/faults.toml: 15,001 faults, of which the first 20 are told (--all); the program says: script: step 1: Key 20" \
     "$(ended $?) $(wc -l < "$work/out")"
 report "check-script --all" "15001" "$("$tools/check-script" --all "$work/faults.toml" 2> "$work/err" | wc -l)"
 cat > "$work/levels.toml" <<'TOML'
@@ -364,7 +406,7 @@ report "check-script of a recording" "1 1" "$(ended_lines "$tools/check-script" 
 report "check-script of a recording, what it looks like" "looks like a recording" \
     "$(grep -o "looks like a recording" "$work/err")"
 "$tools/check-script" /dev/null > "$work/out" 2> "$work/err"
-report "check-script of nothing" "0 check-script: the script is empty" "$(ended $?)"
+report "check-script of nothing" "0 check-script: /dev/null: the script is empty" "$(ended $?)"
 head -c 67108865 /dev/zero | tr '\0' ' ' | "$tools/check-script" > "$work/out" 2> "$work/err"
 report "check-script beyond the limit" "1 1" "$? $(grep -c TooLong "$work/err")"
 python3 - "$tools" "$examples"/*.toml > "$work/out" <<'PYTHON'
@@ -502,6 +544,182 @@ report "gfx into its own input" "2 1" "$(ended_lines "$tools/gfx" render "$work/
 report "gfx into its own input leaves it" "same" "$(same "$work/fill.bin" "$examples/fill.bin")"
 report "gfx stream is stream" "same" \
     "$("$tools/gfx" stream list "$work/gnome.bin" | cmp -s - <("$tools/stream" list "$work/gnome.bin") && echo same)"
+
+# ---- Bounds
+# An output of the largest sides, a surface of these sides, mapped to it, and a frame without drawing.
+wide() {
+    python3 - "$tools" "$1" <<'PYTHON'
+import struct, sys
+sys.path.insert(0, sys.argv[1])
+from gfxtools import recording
+BODIES = (
+    (0x0E, struct.pack("<III", 32766, 32766, 0) + bytes(320)),
+    (0x09, struct.pack("<HHHB", 1, int(sys.argv[2]), int(sys.argv[2]), 0x20)),
+    (0x0F, struct.pack("<HHII", 1, 0, 0, 0)),
+    (0x0B, struct.pack("<II", 0, 1)),
+    (0x0C, struct.pack("<I", 1)),
+)
+payloads = [struct.pack("<HHI", kind, 0, 8 + len(body)) + body for kind, body in BODIES]
+sys.stdout.buffer.write(b"".join(map(recording.wrap, payloads)))
+PYTHON
+}
+wide 8192 > "$work/wide.bin"
+wide 4096 > "$work/half.bin"
+mkdir "$work/bounds"
+report "a small recording of a large output" "433" "$(stat -c %s "$work/wide.bin")"
+for words in "frames $work/wide.bin $work/bounds/to" "frames $work/wide.bin $work/bounds/to.png --end" \
+    "frames $work/wide.bin $work/bounds/to.raw --video" "frames $work/wide.bin - --video" "play $work/wide.bin"; do
+    # shellcheck disable=SC2086
+    report "${words//$work/..} of too many pixels" "1 1 --most-pixels 0" \
+        "$(ended_lines limited 1048576 "$tools/"$words) $(grep -o -e --most-pixels "$work/err") $(stat -c %s "$work/out")"
+done
+limited 1048576 "$tools/gfx" render --output "$work/wide.bin" 2> "$work/err" |
+    limited 1048576 "$tools/picture" "$work/bounds/to.png" 2> "$work/out"
+report "picture of too many pixels" "1 --most-pixels " \
+    "${PIPESTATUS[1]} $(grep -o -e --most-pixels "$work/out") $(cat "$work/err")"
+printf 'output 70000x1\n' > "$work/long.txt"
+report "picture of a side that no picture has" "1 1" \
+    "$(ended_lines "$tools/picture" "$work/bounds/to.png" --from "$work/long.txt")"
+report "what has too many pixels leaves nothing" "" "$(ls -A "$work/bounds")"
+limited 1048576 "$tools/frames" "$work/wide.bin" "$work/bounds/frames.png" --end --of 1 2> "$work/err"
+report "frames --end of the largest surface" "0 $work/bounds/frames.png: surface 1 at the end of frame 1" "$(ended $?)"
+limited 524288 "$tools/frames" "$work/half.bin" "$work/bounds/frames.png" --end --of 1 2> "$work/err"
+"$tools/gfx" render "$work/half.bin" | limited 524288 "$tools/picture" "$work/bounds/picture.png" 2> "$work/err"
+report "picture of a large surface" "0  same" \
+    "$(ended "${PIPESTATUS[1]}") $(same "$work/bounds/frames.png" "$work/bounds/picture.png")"
+report "play of a large surface" "0 0 frame 1 of 1" \
+    "$(ended_lines limited 524288 "$tools/play" "$work/half.bin" --of 1 --columns 16) $(tail -n 1 "$work/out")"
+limited 524288 "$tools/compare" <("$program" render < "$work/half.bin") <("$program" render < "$work/half.bin") 2> "$work/err"
+report "compare of large surfaces" "0 " "$(ended $?)"
+report "picture of a line without an end" "1 1" \
+    "$(head -c 4000000000 /dev/zero | ended_lines limited 524288 "$tools/picture" "$work/bounds/to.png")"
+report "--most-pixels, one more than it" "1 1" \
+    "$(ended_lines "$tools/frames" "$examples/desktop.bin" "$work/bounds/few" --of 1 --most-pixels 15999)"
+report "--most-pixels, as many" "0 1" \
+    "$(ended_lines "$tools/frames" "$examples/desktop.bin" "$work/bounds/few" --of 1 --most-pixels 16000)"
+report "--most-pixels, a scale counts" "1 1" \
+    "$(ended_lines "$tools/picture" 1 "$work/bounds/to.png" --scale 2 --most-pixels 63999 --from "$examples/desktop.txt")"
+report "compare --picture --most-pixels" "1 1" "$(ended_lines "$tools/compare" "$work/a.txt" "$work/b.txt" \
+    --picture "$work/bounds/to.png" --most-pixels 3)"
+rm -rf "$work/bounds"
+
+# ---- What is written
+mkdir "$work/kept"
+kept=$work/kept
+# What is in the folder, and whether the old files are as they were.
+untouched() {
+    echo "$(cd "$kept" && ls -A | paste -sd ' ') $(same "$kept/in.bin" "$examples/desktop.bin") $(same "$kept/in.txt" \
+        "$examples/desktop.txt") $(cat "$kept/old")"
+}
+cp "$examples/desktop.bin" "$kept/in.bin"
+cp "$examples/desktop.txt" "$kept/in.txt"
+ln -s in.bin "$kept/link"
+ln "$kept/in.txt" "$kept/second"
+echo old > "$kept/old"
+as_it_was="in.bin in.txt link old second same same old"
+for words in "frames $kept/in.bin $kept/in.bin --end --of 1" "frames $kept/in.bin $kept/link --end --of 1" \
+    "frames $kept/link $kept/in.bin --video --of 1" "picture 1 $kept/in.txt --from $kept/in.txt" \
+    "picture 1 $kept/second --from $kept/in.txt" "gfx render $kept/in.bin $kept/in.bin" \
+    "gfx fragment $kept/in.bin $kept/link" "compare $kept/in.txt $examples/desktop.txt --of 1 --picture $kept/in.txt" \
+    "compare $kept/in.txt $examples/desktop.txt --of 1 --counts $kept/second"; do
+    # shellcheck disable=SC2086
+    report "${words//$kept/..} over its input" "2 1" "$(ended_lines "$tools/"$words)"
+done
+report "frames over its standard input" "2 1" \
+    "$(ended_lines "$tools/frames" - "$kept/in.bin" --end --of 1 < "$kept/in.bin")"
+report "picture over its standard input" "2 1" "$(ended_lines "$tools/picture" 1 "$kept/in.txt" < "$kept/in.txt")"
+report "what is read isn't written over" "$as_it_was" "$(untouched)"
+head -c 240 "$examples/text.bin" > "$work/cut.bin"
+head -c 3000 "$examples/desktop.txt" > "$work/cut.txt"
+for words in "gfx render $work/cut.bin $kept/old" "gfx render $docs/gnome.png $kept/old" \
+    "gfx join $examples/fill.bin $kept/old" "gfx join $examples/fill.bin $kept/new" \
+    "gfx encode $examples/fill.bin $kept/old" "picture $kept/old --from $work/cut.txt" \
+    "picture --all $kept/new --from $work/cut.txt" "frames $examples/outside.bin $kept/old --end" \
+    "frames $work/cut.bin $kept/new" "gfx render $examples/fill.bin $kept/none/new"; do
+    # shellcheck disable=SC2086
+    report "${words//$kept/..} fails" "1 1" "$(ended_lines "$tools/"$words)"
+done
+"$tools/picture" < "$work/cut.txt" > "$work/out" 2> "$work/err"
+report "picture of a cut dump writes nothing" "1 0" "$? $(stat -c %s "$work/out")"
+report "what fails leaves what was there" "$as_it_was" "$(untouched)"
+report "gfx, interrupted" "130 gfx: interrupted" "$(interrupted "$kept" "$tools/gfx" render - "$kept/old")"
+# A program that begins with a picture, and doesn't end.
+cat > "$work/slow" <<SLOW
+#!/bin/sh
+[ "\$1" = render ] || exec "$program" "\$@"
+echo surface 1 80x48 xrgb
+exec sleep 60
+SLOW
+chmod +x "$work/slow"
+for more in "old --end" "new --video"; do
+    # shellcheck disable=SC2086
+    report "frames ${more#* }, interrupted" "130 frames: interrupted" \
+        "$(interrupted "$kept" "$tools/frames" "$examples/passes.bin" "$kept/"$more --program "$work/slow")"
+done
+mkdir "$work/pictures"
+report "frames, interrupted" "130 frames: interrupted" \
+    "$(interrupted "$work/pictures" "$tools/frames" "$examples/passes.bin" "$work/pictures" --program "$work/slow")"
+report "an interrupt leaves what was there" "$as_it_was " "$(untouched) $(ls -A "$work/pictures")"
+(ulimit -f 8 && trap '' XFSZ && exec "$tools/frames" "$examples/passes.bin" "$kept/old" --video) > "$work/out" 2> "$work/err"
+report "frames where no more can be written" "1 frames: $kept/old can't be written: File too large" "$(ended $?)"
+report "what has no room leaves what was there" "$as_it_was" "$(untouched)"
+chmod 600 "$kept/old"
+ln -s old "$kept/to-old"
+"$tools/gfx" render "$examples/desktop.bin" "$kept/to-old" 2> "$work/err"
+report "a link is followed, and who may read stays" "0 same 600 old" \
+    "$(ended $?)$(same "$kept/old" "$examples/desktop.txt") $(stat -c %a "$kept/old") $(readlink "$kept/to-old")"
+"$tools/gfx" render "$examples/desktop.bin" /dev/stdout 2> "$work/err" | cmp -s - "$examples/desktop.txt"
+report "a pipe is written where it is" "0 0" "${PIPESTATUS[*]}"
+rm -rf "$kept" "$work/pictures"
+
+# ---- Ends and lines
+for words in "frames $examples/passes.bin - --end" "frames $examples/passes.bin - --video" \
+    "picture 1 --from $examples/desktop.txt" "picture 1 - --from $examples/desktop.txt" "gfx encode $examples/text.toml" \
+    "gfx fragment $examples/text.bin -" "load blank"; do
+    # shellcheck disable=SC2086
+    report "${words//$here\/../..} on a terminal" "2 0 terminal" "$(on_terminal "$tools/"$words)"
+done
+: > "$work/nothing.txt"
+"$tools/compare" "$work/nothing.txt" "$work/nothing.txt" > "$work/out" 2> "$work/err"
+report "compare of nothing" \
+    "1 compare: neither $work/nothing.txt nor $work/nothing.txt has a pixel: there is nothing to compare" \
+    "$(ended $?)$(cat "$work/out")"
+report "compare of nothing and something" "1 surface 1: $work/a.txt alone has it" \
+    "$("$tools/compare" "$work/nothing.txt" "$work/a.txt" > "$work/out"; echo $?) $(cat "$work/out")"
+printf 'surface 2 1x1 xrgb\n000000ff\nsurface 1 1x1 xrgb\n000000ff\n' > "$work/falling.txt"
+report "compare of surfaces out of order" "1 1" "$(ended_lines "$tools/compare" "$work/falling.txt" "$work/a.txt")"
+for tool in frames play; do
+    to=$([ $tool = frames ] && echo "$work/to")
+    # shellcheck disable=SC2086
+    "$tools/$tool" "$examples/passes.bin" $to --first 500 > "$work/out" 2> "$work/err"
+    report "$tool --first behind the last" "1 $tool: $examples/passes.bin has 3 frames, and --first is 500" "$(ended $?)"
+    # shellcheck disable=SC2086
+    report "$tool --last before --first" "2 1" \
+        "$(ended_lines "$tools/$tool" "$examples/passes.bin" $to --first 3 --last 2)"
+done
+report "frames into what is named as a file" "2 1 --end" \
+    "$(ended_lines "$tools/frames" "$examples/passes.bin" "$work/passes.png") $(grep -o -e --end "$work/err")"
+report "frames into a file" "1 1" "$(ended_lines "$tools/frames" "$examples/passes.bin" "$work/a.txt")"
+report "frames --end into a folder" "2 1" "$(ended_lines "$tools/frames" "$examples/passes.bin" "$work" --end)"
+report "frames into what is named as a file makes no folder" "" "$(ls -d "$work/passes.png" 2> /dev/null)"
+printf 'surface 1 2x1 xrgb\n000000ff\n' > "$work/short.txt"
+printf 'surface 1 1x1 xrgb\n000000fg\n' > "$work/sign.txt"
+printf 'nonsense\n' > "$work/words.txt"
+for words in "picture $work/to.png --from $work/short.txt" "picture $work/to.png --from $work/sign.txt" \
+    "picture --list --from $work/words.txt" "picture 9 $work/to.png --from $work/a.txt" \
+    "picture $work/to.png --from $work/nothing.txt" "compare $work/a.txt $work/short.txt --of 1" \
+    "compare $work/a.txt $work/words.txt" "compare $work/a.txt $work/cut.xz" "compare $work/a.txt $work/b.txt --of 9" \
+    "stream list $work/cut.bin" "frames $examples/outside.bin $work/to" "frames $work/cut.bin $work/to" \
+    "play $examples/desktop.bin" "gfx render $examples/outside.bin" "gfx encode $docs/gnome.png" \
+    "check-script $docs/gnome.png"; do
+    # shellcheck disable=SC2086
+    "$tools/"$words > "$work/out" 2> "$work/err"
+    named=0
+    for word in $words; do
+        [ -f "$word" ] && grep -qF "$word" "$work/err" "$work/out" && named=1
+    done
+    report "${words//$work/..}, its line names the file" "1" "$named"
+done
 
 # ---- record, over FreeRDP's decoder
 if ! pkg-config --exists freerdp2 winpr2 2> /dev/null; then

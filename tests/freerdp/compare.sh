@@ -48,7 +48,7 @@ compare() {
     head -n 1 "$work/theirs.end" >> "$work/counts"
     if [ $ours -ne $theirs ]; then
         different "$1: exit $ours $(cat "$work/ours.end"), FreeRDP exit $theirs $(tail -n +2 "$work/theirs.end")"
-    elif [ "$2" -gt 0 ] || ! cmp -s "$work/ours" "$work/theirs"; then
+    elif { [ "$2" -gt 0 ] && [ -s "$work/ours" ]; } || ! cmp -s "$work/ours" "$work/theirs"; then
         local found
         found=$(../../tools/compare "$work/ours" "$work/theirs" --off "$2" --counts "$work/off") ||
             different "$1: ${found:-the dumps are none}"

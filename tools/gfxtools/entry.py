@@ -6,14 +6,46 @@ import io
 import lzma
 import os
 import select
+import signal
+import stat
 import sys
+import typing
 
 # The first bytes of an .xz file.
 XZ = b"\xfd7zXZ\0"
 
+# How much is read at a time.
+PIECE = 1 << 16
+
+
+# The exit number after a signal is this and the signal's number.
+SIGNALLED = 128
+
 
 class Wrong(Exception):
     """Why a tool can't go on, in a line. The exit number is then 1."""
+
+    number = 1
+
+
+class WrongWords(Wrong):
+    """Why a tool doesn't begin with these words. The exit number is then 2."""
+
+    number = 2
+
+
+class Signalled(BaseException):
+    """A signal that ends the tool, by its number."""
+
+
+# The signals that came, since what is raised by one may be lost where nobody can take it, as while memory is freed.
+CAME = []
+
+
+def check_signals() -> None:
+    """Ends the tool where a signal came that should have done so."""
+    if CAME:
+        raise Signalled(CAME[0])
 
 
 class Words(argparse.ArgumentParser):
@@ -65,6 +97,50 @@ def unpacked(file):
     return lzma.open(whole) if whole.peek(len(XZ)).startswith(XZ) else whole
 
 
+class Input:
+    """An input that is read; a fault names it."""
+
+    def __init__(self, name, file):
+        self.name = name
+        self.file = self.guarded(unpacked, file)
+
+    def read(self, size=-1):
+        return self.guarded(self.file.read, size)
+
+    def readline(self, size=-1):
+        return self.guarded(self.file.readline, size)
+
+    def guarded(self, call, given):
+        try:
+            return call(given)
+        except IsADirectoryError:
+            raise Wrong(f"{self.name} is a folder") from None
+        except (lzma.LZMAError, EOFError):
+            raise Wrong(f"{self.name} is no whole .xz file") from None
+        except OSError as error:
+            raise Wrong(f"{self.name} can't be read: {error.strerror}") from None
+
+
+# Device and number of each plain file that was opened to be read.
+READ = set()
+
+
+def note_read(status: os.stat_result) -> None:
+    """Keeps which file is read, so that it isn't written over."""
+    if stat.S_ISREG(status.st_mode):
+        READ.add((status.st_dev, status.st_ino))
+
+
+def was_read(status: os.stat_result) -> bool:
+    """Whether a file is one that was opened to be read."""
+    return (status.st_dev, status.st_ino) in READ
+
+
+def name_of(name: typing.Optional[str]) -> str:
+    """An input's name, for people."""
+    return "the standard input" if name in (None, "-") else name
+
+
 @contextlib.contextmanager
 def reading(name):
     """The input of this name, or the standard input for `-` and None. An .xz file is read as it is."""
@@ -73,25 +149,31 @@ def reading(name):
             raise Wrong("the standard input is closed")
         if sys.stdin.isatty():
             print("reading the standard input, which is a terminal", file=sys.stderr)
-        name, file = "the standard input", sys.stdin.buffer
+        file = sys.stdin.buffer
     else:
         try:
             file = open(name, "rb")
         except OSError as error:
             raise Wrong(f"{name} can't be opened: {error.strerror}") from None
-    try:
-        with file:
-            yield unpacked(file)
-    except IsADirectoryError:
-        raise Wrong(f"{name} is a folder") from None
-    except (lzma.LZMAError, EOFError):
-        raise Wrong(f"{name} is no whole .xz file") from None
+    note_read(os.fstat(file.fileno()))
+    with file:
+        yield Input(name_of(name), file)
 
 
-def whole_of(name):
-    """All bytes of an input."""
+def all_of(file: typing.BinaryIO, name: str, most: int) -> bytes:
+    """All bytes of a file, which may be so many."""
+    data = io.BytesIO()
+    while piece := file.read(PIECE):
+        if data.tell() + len(piece) > most:
+            raise Wrong(f"{name}: TooLong: it has more than {most:,} bytes")
+        data.write(piece)
+    return data.getvalue()
+
+
+def whole_of(name: typing.Optional[str], most: int) -> bytes:
+    """All bytes of an input, which may be so many."""
     with reading(name) as file:
-        return file.read()
+        return all_of(file, name_of(name), most)
 
 
 def as_file(data):
@@ -99,43 +181,19 @@ def as_file(data):
     return io.BytesIO(data)
 
 
-@contextlib.contextmanager
-def writing(name):
-    """The output of this name, or the standard output for `-` and None."""
-    if name in (None, "-"):
-        yield output()
-        return
-    try:
-        file = open(name, "wb")
-    except OSError as error:
-        raise Wrong(f"{name} can't be written: {error.strerror}") from None
-    with file:
-        yield file
-
-
-def write_file(name, data):
-    """Writes a file, or nothing of it: what is there is replaced only by the whole."""
-    place = os.path.realpath(name)
-    # What is no plain file, as /dev/null, is written where it is.
-    is_plain = os.path.isfile(place) or not os.path.exists(place)
-    beside = f"{place}.new-{os.getpid()}" if is_plain else place
-    try:
-        with open(beside, "wb") as file:
-            file.write(data)
-        if is_plain:
-            os.replace(beside, place)
-    except OSError as error:
-        if is_plain:
-            with contextlib.suppress(OSError):
-                os.unlink(beside)
-        raise Wrong(f"{name} can't be written: {error.strerror}") from None
-
-
 def output():
     """The standard output, for bytes."""
     if sys.stdout is None:
         raise Wrong("the standard output is closed")
     return sys.stdout.buffer
+
+
+def binary_output() -> typing.BinaryIO:
+    """The standard output, for bytes that a terminal shouldn't get."""
+    out = output()
+    if sys.stdout.isatty():
+        raise WrongWords("what is written is no text, and the standard output is a terminal: name a file")
+    return out
 
 
 class Progress:
@@ -163,31 +221,50 @@ def forget_output():
         os.dup2(nowhere, sys.stdout.fileno())
 
 
+def end_by_signal(number, _):
+    CAME.append(number)
+    raise Signalled(number)
+
+
+def heed_signals():
+    """A signal that ends the tool lets it take away what isn't whole, but for one that was to be passed over."""
+    for number in (signal.SIGINT, signal.SIGTERM, signal.SIGHUP):
+        if signal.getsignal(number) in (signal.SIG_DFL, signal.default_int_handler):
+            signal.signal(number, end_by_signal)
+
+
 def run(name, main):
     """Runs a tool to its end; `main` answers the exit number. An output that nobody reads on is no error."""
     try:
+        heed_signals()
         output()
         try:
             number = main()
         except SystemExit as end:  # --help, or wrong words
             number = end.code
+        check_signals()
         sys.stdout.flush()
         sys.exit(number)
     except BrokenPipeError:
         forget_output()
         sys.exit(0)
     except Wrong as wrong:
-        fault = str(wrong)
+        fault, number = str(wrong), wrong.number
     except OSError as error:
-        fault = f"{error.filename or 'a read or a write failed'}: {error.strerror}"
+        fault, number = f"{error.filename or 'a read or a write failed'}: {error.strerror}", 1
     except MemoryError:
-        fault = "no memory is left"
+        fault, number = "no memory is left", 1
     except KeyboardInterrupt:
-        fault = "interrupted"
+        fault, number = "interrupted", SIGNALLED + signal.SIGINT
+    except Signalled as signalled:
+        number = SIGNALLED + signalled.args[0]
+        fault = "interrupted" if signalled.args[0] == signal.SIGINT else "ended by a signal"
+    # A second interrupt changes nothing.
+    signal.signal(signal.SIGINT, signal.SIG_IGN)
     # What was said before stands before it.
     with contextlib.suppress(Exception):
         sys.stdout.flush()
     with contextlib.suppress(Exception):
         print(f"{name}: {fault}", file=sys.stderr)
     forget_output()
-    sys.exit(1)
+    sys.exit(number)

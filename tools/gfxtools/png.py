@@ -1,12 +1,14 @@
 """Pictures as PNG."""
 
 import struct
+import typing
 import zlib
 
-from . import entry
+from . import dump, entry
 
 MOST_SCALE = 64
 MOST_SIDE = 65535
+LEAST_CHUNK = 1 << 16  # bytes, but for the last
 
 
 def chunk(name, data):
@@ -25,23 +27,43 @@ def scanline(pixels, has_alpha, scale):
     return bytes(row)
 
 
-def png(title, width, height, rows, has_alpha=False, scale=1, level=9):
-    """The bytes of a PNG. Rows are bytes of blue, green, red, alpha."""
+class Chunks:
+    """Puts what a compressor gives into a file, in chunks of the picture's data."""
+
+    def __init__(self, file):
+        self.file, self.held, self.size = file, [], 0
+
+    def add(self, packed, least=LEAST_CHUNK):
+        self.held.append(packed)
+        self.size += len(packed)
+        if self.size >= least:
+            self.file.write(chunk(b"IDAT", b"".join(self.held)))
+            self.held, self.size = [], 0
+
+
+def write(file: typing.Any, title: str, sides: typing.Tuple[int, int], rows: typing.Iterable[bytes],
+          has_alpha: bool = False, scale: int = 1, level: int = 9) -> None:
+    """Writes a PNG, row by row as they come. Rows are bytes of blue, green, red, alpha."""
+    width, height = sides
     if width == 0 or height == 0:
         raise entry.Wrong(f"{title} has no pixels")
     if max(width, height) * scale > MOST_SIDE:
         raise entry.Wrong(f"{title}, {scale} times as large, has a side of more than {MOST_SIDE} pixels")
-    packer = zlib.compressobj(level)
-    packed = [packer.compress(scanline(row, has_alpha, scale) * scale) for row in rows]
-    packed.append(packer.flush())
     # Eight bits a channel; colour type 2 is red, green, blue, and 6 is these with alpha.
     head = struct.pack(">IIBBBBB", width * scale, height * scale, 8, 6 if has_alpha else 2, 0, 0, 0)
-    return b"\x89PNG\r\n\x1a\n" + chunk(b"IHDR", head) + chunk(b"IDAT", b"".join(packed)) + chunk(b"IEND", b"")
+    file.write(b"\x89PNG\r\n\x1a\n" + chunk(b"IHDR", head))
+    packer, chunks = zlib.compressobj(level), Chunks(file)
+    for row in rows:
+        line = scanline(row, has_alpha, scale)
+        for _ in range(scale):
+            chunks.add(packer.compress(line))
+    chunks.add(packer.flush(), least=1)
+    file.write(chunk(b"IEND", b""))
 
 
-def of_picture(picture, scale=1, level=9):
-    """A PNG of a picture of a dump."""
-    return png(picture.title, picture.width, picture.height, picture.rows(), picture.has_alpha, scale, level)
+def write_picture(file: typing.Any, picture: dump.Picture, scale: int = 1, level: int = 9) -> None:
+    """Writes a PNG of a picture of a dump."""
+    write(file, picture.title, picture.sides, picture.rows(), picture.has_alpha, scale, level)
 
 
 def scale_of(word):

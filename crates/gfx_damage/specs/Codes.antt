@@ -2,15 +2,8 @@
 use Rattle.std.specs.Prelude.{ℕ, Bool, refl}
 use Rattle.std.specs.Coded.{Coded, code_by, coded×, coded_ℕ, coded_bool, coded_list}
 use Rattle.std.specs.FinMap as finmap
-use Rattle.gfx_base.specs.declared.geometry.Rect.{Rect}
+use Rattle.gfx_base.specs.Codes.{rect_code}
 use Rattle.gfx_damage.specs.Damage.{Damage, Marks}
-
--- a rectangle as four numbers
-abbrev pub rect_code : Coded Rect
-rect_code =
-    code_by (ℕ × (ℕ × (ℕ × ℕ))) (coded× coded_ℕ (coded× coded_ℕ (coded× coded_ℕ coded_ℕ)))
-    (λ r. (r.left, (r.top, (r.right, r.bottom))))
-    (λ t. record { left = t.0; top = t.1.0; right = t.1.1.0; bottom = t.1.1.1 }) (λ _. refl)
 
 abbrev pub damage_code : Coded Damage
 damage_code =

@@ -58,8 +58,8 @@ impl Damage {
         self.whole
     }
 
-    /// The rectangles of the surface of this id that were written, at most `MOST_RECTS` of them, which lie on it and may
-    /// be empty.
+    /// The rectangles of the surface of this id that were written, at most `MOST_RECTS` of them. Each lay on the surface that
+    /// had this id when it was written, and may be empty; one that was deleted since may have been larger.
     pub fn rects(&self, surface: u16) -> &[Rect]
         ensures { result.now ≡ rects_on self.now.marks surface }
     {

@@ -16,13 +16,9 @@ use Rattle.gfx_tile_make.specs.Source.{Planes, SourceTile}
 use Rattle.gfx_prog_decode.specs.Codes.{transform_code}
 use Rattle.gfx_prog_decode.specs.Records.{key_code}
 use Rattle.gfx_base.specs.Cells.{cell}
+use Rattle.gfx_base.specs.Codes.{rect_code}
 use Rattle.gfx_prog_encode.specs.declared.send.TileSend.{TileSend}
 use Rattle.gfx_prog_live.specs.Live.{Live, Passes}
-
-abbrev rect_code : Coded Rect
-rect_code =
-    code_by (ℕ × (ℕ × (ℕ × ℕ))) (coded× coded_ℕ (coded× coded_ℕ (coded× coded_ℕ coded_ℕ)))
-    (λ r. (r.left, (r.top, (r.right, r.bottom)))) (λ t. record { left = t.0; top = t.1.0; right = t.1.1.0; bottom = t.1.1.1 }) (λ _. refl)
 
 abbrev quant_code : Coded Quant
 quant_code =

@@ -8,6 +8,7 @@ pub mod OwnKinds
 pub mod Limits
 pub mod MoreSteps
 pub mod ForgottenItems
+pub mod SparedPictures
 pub mod Improving
 pub mod Ranged
 pub mod Drafting

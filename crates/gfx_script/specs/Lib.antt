@@ -13,6 +13,7 @@ pub mod Script
 pub mod Writes
 pub mod Drafts
 pub mod Forgetting
+pub mod Sparing
 pub mod Heads
 pub mod Building
 pub mod Rows

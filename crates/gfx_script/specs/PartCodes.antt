@@ -4,7 +4,7 @@ use mathlib.Core.Logic.{inl, inr}
 use base.Stored.{coded_sub, coded_unit}
 use Rattle.std.specs.Prelude.{◌≡◌, ◌⊎◌, refl, ℕ, Bool, IsTrue, List, Option, Some, None}
 use Rattle.std.specs.Coded.{Coded, code_by, coded×, coded⊎, coded_ℕ, coded_bool, coded_list, coded_option}
-use Rattle.gfx_base.specs.Codes.{format_code, pixel_code}
+use Rattle.gfx_base.specs.Codes.{format_code, pixel_code, rect_code}
 use Rattle.gfx_base.specs.declared.format.Format.{Format}
 use Rattle.gfx_base.specs.declared.geometry.Point.{Point}
 use Rattle.gfx_base.specs.declared.geometry.Rect.{Rect}
@@ -39,11 +39,6 @@ use Rattle.gfx_script.specs.Drafts.{Draft}
 
 abbrev point_code : Coded Point
 point_code = code_by (ℕ × ℕ) (coded× coded_ℕ coded_ℕ) (λ p. (p.x, p.y)) (λ t. record { x = t.0; y = t.1 }) (λ _. refl)
-
-abbrev rect_code : Coded Rect
-rect_code =
-    code_by (ℕ × (ℕ × (ℕ × ℕ))) (coded× coded_ℕ (coded× coded_ℕ (coded× coded_ℕ coded_ℕ)))
-    (λ r. (r.left, (r.top, (r.right, r.bottom)))) (λ t. record { left = t.0; top = t.1.0; right = t.1.1.0; bottom = t.1.1.1 }) (λ _. refl)
 
 -- ---- pictures
 

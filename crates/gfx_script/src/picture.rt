@@ -5,6 +5,7 @@ ghost use Rattle.std.specs.List.{slice_index_or};
 ghost use Rattle.gfx_surface.specs.Picture.{no_pixel};
 ghost use Rattle.gfx_script.specs.Patterns.{opaque, hash_at, noise_pixel, is_ink, is_in_middle, pattern_pixel, pixel_of};
 ghost use Rattle.gfx_script.specs.Pictures.{are_sides, is_drawn};
+ghost use Rattle.gfx_script.specs.Sparing.{without_pixels};
 
 use crate::MOST_AREA;
 use gfx_base::{Pixel, Pixels};
@@ -34,18 +35,19 @@ pub struct Picture {
     pub pattern: Pattern,
 }
 
+/// The colour of pixels that a script has forgotten.
+const BLACK: Pixel = Pixel {
+    b: 0,
+    g: 0,
+    r: 0,
+    a: 255,
+};
+
 /// The picture that stands for one that a script has forgotten: a black pixel.
 pub(crate) const BLANK: Picture = Picture {
     width: 1,
     height: 1,
-    pattern: Pattern::Solid {
-        colour: Pixel {
-            b: 0,
-            g: 0,
-            r: 0,
-            a: 255,
-        },
-    },
+    pattern: Pattern::Solid { colour: BLACK },
 };
 
 impl Picture {
@@ -61,6 +63,15 @@ impl Picture {
         ensures { result ≡ is_drawn self.now }
     {
         are_sides(self.width, self.height)
+    }
+
+    /// Forgets its pixels where they are listed: all are black then.
+    pub(crate) fn forget_pixels(&mut self)
+        ensures { self.new ≡ without_pixels self.old }
+    {
+        if let Pattern::Hex { .. } = &self.pattern {
+            self.pattern = Pattern::Solid { colour: BLACK };
+        }
     }
 }
 

@@ -1,12 +1,13 @@
 //! A script: pictures and steps, and what a session of them is like.
 
-ghost use Rattle.std.specs.Prelude.{◌≡◌, ◌≤◌, ◌==◌, IsSome, OnErr, OnOk, Some, drop, length};
+ghost use Rattle.std.specs.Prelude.{◌≡◌, ◌≤◌, ◌==◌, IfOk, IsSome, OnErr, OnOk, Some, drop, length};
 ghost use Rattle.std.specs.List.{slice_get};
 ghost use Rattle.std.specs.Option.{option_copied, option_map};
 ghost use Rattle.gfx_script.specs.Patterns.{pixel_of};
 ghost use Rattle.gfx_base.specs.Outcome.{Gives};
 ghost use Rattle.gfx_script.specs.Drafts.{frame_ended, grown_by, moved_out};
 ghost use Rattle.gfx_script.specs.Forgetting.{forgotten};
+ghost use Rattle.gfx_script.specs.Sparing.{IsUnmarked, spared};
 ghost use Rattle.gfx_script.specs.Parts.{parts_seen};
 ghost use Rattle.gfx_script.specs.declared.TheConstants.{MOST_STEPS};
 ghost use Rattle.gfx_script.specs.Script.{IsAcceptedAtStart, frames_in, step_at, is_framed};
@@ -15,12 +16,14 @@ use crate::draft::Draft;
 use crate::error::Flaw;
 use crate::forgetting::numbered;
 use crate::picture::{BLANK, Picture};
+use crate::sparing::{Marks, spare};
 use crate::start::StartBitmap;
 use crate::step::{Entropy, Step};
 use crate::turn::Turn;
 use gfx_base::{NoMemory, Pixel};
 use gfx_caps::Offers;
 use gfx_quant::Setting;
+use std::alloc::Global;
 use std::marker::Model;
 
 /// A script as it was read or built, or as it grows. It may have forgotten steps and pictures that were sent; contracts
@@ -158,6 +161,20 @@ impl Script {
         self.steps.clear();
         self.forgotten_pictures += self.pictures.len() as u32;
         self.pictures.clear();
+    }
+
+    /// Marks for its pictures, none of which is marked yet.
+    pub fn unmarked(&self, alloc: Global) -> Result<Marks, NoMemory>
+        ensures { IfOk result (IsUnmarked self.now) }
+    {
+        Marks::new(alloc, self.forgotten_pictures, self.pictures.len())
+    }
+
+    /// Forgets the pixels of the pictures that aren't marked, and gives back what they took. Their sides stay.
+    pub fn spare(&mut self, marks: &Marks)
+        ensures { self.new ≡ spared marks.now self.old }
+    {
+        spare(&mut self.pictures, self.forgotten_pictures, marks);
     }
 
     /// What the client offers.

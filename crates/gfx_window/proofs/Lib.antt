@@ -3,3 +3,4 @@ pub mod CoverLoops
 pub mod RuleLaws
 pub mod Watched
 pub mod LastFrame
+pub mod SureLaws

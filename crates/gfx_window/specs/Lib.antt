@@ -2,3 +2,4 @@ pub mod Window
 pub mod Superseded
 pub mod Hulls
 pub mod Rule
+pub mod Sparing

@@ -110,7 +110,7 @@ fn covers(script: &Script, item: Queued, write: Write) -> bool
 
 /// Whether an item may stand between a write that is covered and the one that covers it.
 #[inline(always)]
-fn stands_aside(script: &Script, item: Queued) -> bool
+pub(crate) fn stands_aside(script: &Script, item: Queued) -> bool
     ensures { result ≡ stands_aside script.now item }
 {
     match script.step(item.step) {

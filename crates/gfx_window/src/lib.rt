@@ -8,6 +8,7 @@
 
 mod covering;
 mod promises;
+mod sparing;
 mod window;
 
 pub use promises::superseded_is_the_rule;

@@ -1,13 +1,15 @@
-ghost use Rattle.std.specs.Prelude.{◌≡◌, ◌++◌, ◌∷◌, ◌<◌, ◌≤◌, IsTrue, [], Some, length, map, OnOk, OnErr};
+ghost use Rattle.std.specs.Prelude.{◌≡◌, ◌++◌, ◌∷◌, ◌<◌, ◌≤◌, IsTrue, [], Some, drop, length, map, take, OnOk, OnErr};
 ghost use Rattle.std.specs.List.{slice_get, last_or};
 ghost use Rattle.gfx_base.specs.Outcome.{Says};
 ghost use Rattle.gfx_window.specs.Window.{no_frames, has_room, with_pending, sent, is_unwatched, left_flying, acknowledged, acknowledged_late};
+ghost use Rattle.gfx_window.specs.Sparing.{items_marked, surely_sent};
 ghost use Rattle.gfx_window.specs.Superseded.{superseded};
 
 use crate::covering::{is_covered, plain_write};
+use crate::sparing::mark_surely_sent;
 use gfx_base::NoMemory;
 use gfx_caps::SUSPENDS;
-use gfx_script::{Kind, Script};
+use gfx_script::{Kind, Marks, Script};
 use std::alloc::Global;
 use std::collections::VecDeque;
 use std::marker::Model;
@@ -108,6 +110,16 @@ impl Window {
             None => false,
             Some(write) => is_covered(script, write, later),
         }
+    }
+
+    /// Marks the pictures of the paints that wait, but for those that surely need not be sent: one of the items from this
+    /// place on, counted from 0, covers them.
+    pub fn mark_surely_sent(&self, script: &Script, newest: usize, marks: &mut Marks)
+        requires { newest ≤ length self.now.pending }
+        ensures { marks.new ≡ items_marked script.now marks.old (surely_sent script.now (take newest self.now.pending) (drop newest self.now.pending)) }
+    {
+        let (older, newest) = self.pending.split_at(newest);
+        mark_surely_sent(script, older, newest, marks);
     }
 
     /// How many frames were sent and not acknowledged.

@@ -1,5 +1,5 @@
 -- How long the data of a picture's message are.
-use Rattle.std.proofs.Common.{◌≡◌, ℕ, ◌+◌, ◌*◌, List, [], ◌∷◌, length, sym, ap, ◌∙◌, refl, arith}
+use Rattle.std.proofs.Common.{◌≡◌, ◌*◌, List, [], ◌∷◌, length, sym, ap, ◌∙◌, refl, arith}
 use Rattle.gfx_base.specs.declared.pixel.Pixel.{Pixel}
 use Rattle.gfx_clear.specs.State.{ClearState}
 use Rattle.gfx_estimate.proofs.Streams.{go_by_no_state, raw_is}

@@ -1,9 +1,24 @@
 pub mod Nearest
 pub mod Painted
-mod VideoPainted
+pub mod VideoPainted
 pub mod Raising
 pub mod Staying
 pub mod Delivering
 pub mod Bringing
 pub mod Unraised
 pub mod Costing
+pub mod Calling
+pub mod Refused
+pub mod Fronts
+pub mod Where
+pub mod Shapes
+pub mod Writing
+pub mod Placing
+pub mod Lasting
+pub mod Tiling
+pub mod Pictures
+pub mod Seeing
+pub mod Premising
+pub mod Acknowledging
+pub mod Living
+pub mod Keeping

@@ -54,13 +54,13 @@ onto-values tile old Y = refl
 onto-values tile old Cb = refl
 onto-values tile old Cr = refl
 
-onto-kept : (tile old : SourceTile) (component : Component) → (planes_of (difference_of tile old) component).kept ≡ (planes_of old component).own
+pub onto-kept : (tile old : SourceTile) (component : Component) → (planes_of (difference_of tile old) component).kept ≡ (planes_of old component).own
 onto-kept tile old Y = refl
 onto-kept tile old Cb = refl
 onto-kept tile old Cr = refl
 
 -- so whatever was live in its cell
-tile-is : (setting : Setting) (pixels : List Pixel) (differences : Bool) (before : Option TileSend) → IsTileOf setting pixels (gone_on differences before (source_of setting pixels))
+pub tile-is : (setting : Setting) (pixels : List Pixel) (differences : Bool) (before : Option TileSend) → IsTileOf setting pixels (gone_on differences before (source_of setting pixels))
 tile-is setting pixels differences before =
     gone-by (IsTileOf setting pixels) differences before (source_of setting pixels) record { coded = refl; values = plain-values setting pixels }
     (λ old last. record { coded = refl; values = λ component. onto-values (source_of setting pixels) old.tile component ∙ plain-values setting pixels component })

@@ -39,7 +39,7 @@ use Rattle.gfx_laws.specs.Raised.{ImprovementsRaiseLiveTiles, Raises, at_next_le
 
 -- ---- tiles of cells, each of its own
 
-abbrev Found : Option TileSend → Option TileSend → Option TileSend
+abbrev pub Found : Option TileSend → Option TileSend → Option TileSend
 Found None before = before
 Found (Some send) before = Some send
 
@@ -69,10 +69,10 @@ module _ (id : ℕ) (g : Cell → Option TileSend) (own : (c : Cell) (send : Til
       ∙ ap (λ b. cond b (Some send) (get live key)) (ap (eq_by_cmp key_cmp key) at ∙ differs)
 
   -- nothing is sent to this key
-  abbrev Passes-by : Key → Cell → Type 0
+  abbrev pub Passes-by : Key → Cell → Type 0
   Passes-by key c = (g c ≡ None) ⊎ (eq_by_cmp key_cmp key (cell_key id c) ≡ false)
 
-  untouched : (key : Key) (cells : List Cell) (live : Live) → AllByRecursion (Passes-by key) cells → get (after_sends id (filter_map g cells) live) key ≡ get live key
+  pub untouched : (key : Key) (cells : List Cell) (live : Live) → AllByRecursion (Passes-by key) cells → get (after_sends id (filter_map g cells) live) key ≡ get live key
   untouched key [] live all = refl
   untouched key (c ∷ cells) live all =
       ap (λ m. get m key) (sends-cons (g c) (filter_map g cells) live)
@@ -92,7 +92,7 @@ module _ (id : ℕ) (g : Cell → Option TileSend) (own : (c : Cell) (send : Til
   keys-turned c d apart = keys-differ d c (λ e e'. apart (sym e) (sym e'))
 
   -- to each cell its tile, if it has one
-  each-found : (cells : List Cell) (live : Live) → CellsApart cells
+  pub each-found : (cells : List Cell) (live : Live) → CellsApart cells
       → AllByRecursion (λ c. get (after_sends id (filter_map g cells) live) (cell_key id c) ≡ Found (g c) (get live (cell_key id c))) cells
   each-found [] live apart = tt
   each-found (c ∷ cells) live apart = (

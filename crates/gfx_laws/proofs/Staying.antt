@@ -64,7 +64,7 @@ kind-stays script held server wanted kind step id x y holds agree on on-then lea
     (step_within script held server wanted kind step holds agree).each id x y before after was is inside.0 inside.1
     (subst (λ w. IsOutside w id x y) (areas_same held script server wanted step holds agree) leaves)
 
-step-stays : (script : Script) (held : Held) (server : Server) (wanted : Wanted) (one : KindedStep) (id x y : ℕ) → Holds script held server → Agree server wanted → IsOn wanted id x y
+pub step-stays : (script : Script) (held : Held) (server : Server) (wanted : Wanted) (one : KindedStep) (id x y : ℕ) → Holds script held server → Agree server wanted → IsOn wanted id x y
     → IsOn (wanted_after script wanted one) id x y → Leaves script wanted one.step id x y → Same id x y wanted.shown.surfaces (wanted_after script wanted one).shown.surfaces
 step-stays script held server wanted one id x y holds agree on on-then leaves =
     kind-stays script held server wanted one.kind one.step id x y holds agree on (record { picture = on-then.picture; there = on-then.there; column = on-then.column; row = on-then.row }) leaves

@@ -6,3 +6,13 @@ pub mod Stays
 pub mod Delivered
 pub mod Choosing
 pub mod Costs
+pub mod Callers
+pub mod Refusing
+pub mod Decoded
+pub mod Written
+pub mod Seen
+pub mod Premises
+pub mod Acknowledged
+pub mod Lives
+pub mod Keeps
+pub mod Levels

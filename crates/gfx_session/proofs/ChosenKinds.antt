@@ -116,7 +116,7 @@ by_choosers session choosers u =
 -- and after a turn ------------------------------------------------------------------------------------------
 
 -- what is left then goes as the choosers choose that are left
-left_by : (origin : Start) (script : Script) (all : List KindedStep) (turns more : List Turn) (a b : ℕ) (cs ds : List Chooser) → Fits all script.steps → Asks script a b cs ds → a ≡ (world_from origin script all turns).server.last → b ≡ (world_from origin script all more).server.last
+pub left_by : (origin : Start) (script : Script) (all : List KindedStep) (turns more : List Turn) (a b : ℕ) (cs ds : List Chooser) → Fits all script.steps → Asks script a b cs ds → a ≡ (world_from origin script all turns).server.last → b ≡ (world_from origin script all more).server.last
     → GoesBy script cs (world_from origin script all turns).server → GoesBy script ds (world_from origin script all more).server
 left_by origin script all turns more a b cs ds fits asks a_is b_is goes =
     let reached : a + (b - a) ≡ b = omega (arith, asks.further) in

@@ -10,38 +10,16 @@
 # `--random-fault SEED WORDS`, where WORDS are the steps that may occur. 100 SEEDS are taken where none are named.
 # Each case is a line, `ok` or `FAILED`; the exit number is 1 where one failed.
 set -u
+# shellcheck source-path=SCRIPTDIR source=common.sh
+. "$(dirname "$0")/common.sh"
 if [ $# -lt 1 ] || [ $# -gt 3 ]; then
-    sed -n '6s/^# *//p' "$0" >&2
-    exit 2
+    wrong_words
 fi
-for named in "$1" ${2:+"$2"}; do
-    if [ ! -f "$named" ] || [ ! -x "$named" ]; then
-        echo "there is no program $named; rt run leaves the built one as crates/gfxpipe_main/out/gfxpipe_main" >&2
-        exit 2
-    fi
-done
+need_programs "$1" ${2:+"$2"}
 program=$(realpath "$1")
 reference=${2:+$(realpath "$2")}
 seeds=${3:-100}
 examples=$(realpath "$(dirname "$0")")/../examples
-work=$(mktemp -d)
-trap 'rm -rf "$work"' EXIT
-failures=0
-
-# The result of a case: its name, what is wanted and what came.
-report() {
-    if [ "$2" = "$3" ]; then
-        echo "ok      $1"
-    else
-        echo "FAILED  $1: wanted \"$2\", got \"$3\""
-        failures=$((failures + 1))
-    fi
-}
-
-# The exit number and the line on the standard error of the last run.
-ended() {
-    echo "$1 $(cat "$work/err")"
-}
 
 # Writes a stream of whole messages, as many bytes as the first number says, in a few large channel
 # messages; then, where there is a second word, what it names: `byte` a single byte, `refused` a frame's

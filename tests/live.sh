@@ -5,25 +5,23 @@
 #     tests/live.sh PROGRAM LIVE_SERVER LIVE_CLIENT [WORD ..]
 #
 # PROGRAM is gfxpipe. The words choose among the cases, by a part of their names. Each case is a line, `ok` or
-# `FAILED`, and behind some is what was counted; the exit number is 1 where one failed. It takes two minutes, and is no
+# `FAILED`, and behind some is what was counted; the exit number is 1 where one failed. It takes eight minutes, and is no
 # part of `rt ci`. Where packages of Debian are missing it names them, tries nothing, and ends with 0; the case of
-# gnome-remote-desktop is left out alone.
+# gnome-remote-desktop is left out alone, and so are those of FreeRDP 3, whose programs are xfreerdp3 and
+# freerdp-shadow-cli3, or what XFREERDP3 and SHADOW3 name, with their libraries where FREERDP3_LIBRARIES says.
 #
-# LONG=6000 has the session that goes on take ten minutes.
+# LONG=6000 has the session that goes on take ten minutes. PATIENCE=10 waits ten times as long for what has to come, on
+# a machine that is busy.
 #
 # It needs no network, and leaves no process: its programs are copied to a folder, and at the end of each case none may
 # run from there.
 set -u
+# shellcheck source-path=SCRIPTDIR source=common.sh
+. "$(dirname "$0")/common.sh"
 if [ $# -lt 3 ]; then
-    sed -n '5s/^# *//p' "$0" >&2
-    exit 2
+    wrong_words
 fi
-for program in "$1" "$2" "$3"; do
-    if [ ! -f "$program" ] || [ ! -x "$program" ]; then
-        echo "there is no program $program; rt run leaves those built in crates/NAME/out" >&2
-        exit 2
-    fi
-done
+need_programs "$1" "$2" "$3"
 
 missing=
 wants() {
@@ -40,8 +38,9 @@ wants freerdp-shadow-cli freerdp2-shadow-x11
 wants xwud x11-apps
 wants xterm xterm
 wants xdotool xdotool
+wants xrandr x11-xserver-utils
 for library in freerdp2 winpr2 libcrypto:libssl x11:libx11 xext:libxext xtst:libxtst xdamage:libxdamage \
-    xfixes:libxfixes; do
+    xfixes:libxfixes xcursor:libxcursor; do
     pkg-config --exists "${library%:*}" 2> /dev/null || missing="$missing ${library#*:}-dev"
 done
 if [ -n "$missing" ]; then
@@ -51,7 +50,6 @@ fi
 
 here=$(realpath "$(dirname "$0")")
 tools=$here/../tools
-work=$(mktemp -d)
 cp "$1" "$work/gfxpipe"
 cp "$2" "$work/live_server"
 cp "$3" "$work/live_client"
@@ -68,9 +66,10 @@ xz -dc "$here/../examples/gnome.bin.xz" > "$work/stream"
     echo "};"
 } > "$work/stream.h"
 cc -O2 -std=c11 -I "$work" -o "$work/compresses" "$here/live/stand_in.c" || exit 1
+# shellcheck disable=SC2046
+cc -O2 -std=c11 -o "$work/pointer" "$here/live/pointer.c" $(pkg-config --cflags --libs x11 xfixes) || exit 1
 cc -O2 -std=c11 -I "$work" -DNONSENSE -o "$work/sends_nonsense" "$here/live/stand_in.c" || exit 1
 export PYTHONDONTWRITEBYTECODE=1 PYTHONPATH=$tools HOME=$work
-failures=0
 pids=()
 
 end_all() {
@@ -84,16 +83,6 @@ trap end_all EXIT
 
 # ---- What cases are made of
 
-# The result of a case: its name, what is wanted and what came.
-report() {
-    if [ "$2" = "$3" ]; then
-        echo "ok      $1${4:+: $4}"
-    else
-        echo "FAILED  $1: wanted \"$2\", got \"$3\""
-        failures=$((failures + 1))
-    fi
-}
-
 is_chosen() {
     [ ${#chosen[@]} -eq 0 ] && return 0
     for word in "${chosen[@]}"; do
@@ -104,7 +93,7 @@ is_chosen() {
 
 # Waits until a command succeeds, for up to so many tenths of a second.
 until_true() {
-    local tenths=$1
+    local tenths=$(($1 * ${PATIENCE:-1}))
     shift
     for ((; tenths > 0; tenths--)); do
         "$@" > /dev/null 2>&1 && return 0
@@ -128,7 +117,8 @@ is_free() {
     ! is_listening "$1"
 }
 
-port=34000
+# Two runs beside each other have other ports.
+port=$((20000 + $$ % 1000 * 10))
 next_port() {
     port=$((port + 1))
     while is_listening $port; do port=$((port + 1)); done
@@ -163,7 +153,7 @@ begin_view() {
 
 # Waits for its end. Its exit number and its line are then in `ended`, without what counts.
 end_view() {
-    for ((tenths = 0; tenths < 100; tenths++)); do
+    for ((tenths = 100 * ${PATIENCE:-1}; tenths > 0; tenths--)); do
         kill -0 "$view" 2> /dev/null || break
         sleep 0.1
     done
@@ -176,6 +166,13 @@ end_view() {
 begin_xfreerdp() {
     DISPLAY=$client xfreerdp /v:127.0.0.1:$port /u:user "/p:${1:-secret}" /gfx /cert-ignore /log-level:OFF "${@:2}" \
         > "$work/xfreerdp.log" 2>&1 &
+    xfreerdp=$!
+}
+
+# Begins FreeRDP 3's, with the words for graphics in the first word, and more words.
+begin_xfreerdp3() {
+    DISPLAY=$client LD_LIBRARY_PATH=${FREERDP3_LIBRARIES:-} "$xfreerdp3" /v:127.0.0.1:$port /u:user /p:secret "$1" \
+        /cert:ignore /log-level:OFF "${@:2}" > "$work/xfreerdp.log" 2>&1 &
     xfreerdp=$!
 }
 
@@ -196,7 +193,7 @@ no_process() {
 
 # A window on the server's screen, by its name.
 window_of() {
-    DISPLAY=$server xdotool search --name "$1" | tail -n 1
+    DISPLAY=$server xdotool search --name "$1" 2> /dev/null | tail -n 1 | grep .
 }
 
 # Windows that move: a terminal that writes, a photograph that goes to and fro.
@@ -223,9 +220,10 @@ move() {
     rm "$work/moves"
 }
 
-# A screenshot of a display, as a dump of the sides of the server's screen.
+# A screenshot of a display, as a dump of the sides of the server's screen or of those in the last words.
 shoot() {
-    DISPLAY=$1 xwd -root -silent > "$work/shot" && python3 -m gfxtools.screenshot "$work/shot" 0 0 800 600 > "$2"
+    DISPLAY=$1 xwd -root -silent > "$work/shot" &&
+        python3 -m gfxtools.screenshot "$work/shot" 0 0 "${3:-800}" "${4:-600}" > "$2"
 }
 
 # How two dumps compare, in a word, where bytes of colour may be so far apart.
@@ -240,7 +238,7 @@ compared() {
 # The same, until they are the same, for up to so many tenths of a second: the client's screen beside the server's.
 screens() {
     local found
-    for ((tenths = $2; tenths > 0; tenths -= 5)); do
+    for ((tenths = $2 * ${PATIENCE:-1}; tenths > 0; tenths -= 5)); do
         shoot "$client" "$work/theirs"
         shoot "$server" "$work/ours"
         found=$(compared "$work/theirs" "$work/ours" "$1")
@@ -265,8 +263,33 @@ is_drawing() {
     [ "$(stat -c %s "$work/recording" 2> /dev/null || echo 0)" -gt 10000 ]
 }
 
+# The sides of view's window.
+sides_of() {
+    DISPLAY=$client xdotool search --name 127.0.0.1 getwindowgeometry | sed -n 's/.*Geometry: //p'
+}
+
+has_sides() {
+    [ "$(sides_of)" = "$1" ]
+}
+
 has_window() {
     DISPLAY=$client xdotool search --name 127.0.0.1
+}
+
+# A file of kept bitmaps as FreeRDP 3 has them: a head, and of each bitmap its key, width, height and pixels.
+keep_bitmaps() {
+    python3 -c 'import struct, sys
+bitmaps = b"".join(struct.pack("<QHH", key, 16, 16) + bytes([key]) * 1024 for key in range(1, 9))
+sys.stdout.buffer.write(b"RDP8bmp\0" + struct.pack("<I", 6) + bitmaps)'
+}
+
+# The form of the pointer on the client's screen, till it is that of the server's, for up to ten seconds.
+pointer_of() {
+    DISPLAY=$1 "$work/pointer"
+}
+
+has_same_pointer() {
+    [ "$(pointer_of "$client")" = "$(pointer_of "$server")" ]
 }
 
 # The process of the first client of share; that of its live_server.
@@ -298,6 +321,7 @@ scene
 apart=6
 gone="share: CLIENT: the client has gone; N frames, N acknowledged"
 closed="0 view: interrupted; N messages, N frames"
+no_logon="the client didn't log on: it has another user or password, or doesn't take the certificate"
 
 name="share to xfreerdp"
 if is_chosen "$name"; then
@@ -382,12 +406,9 @@ if is_chosen "$name"; then
     begin_share
     password=wrong begin_view
     end_view
-    report "$name: view" 3 "${ended%% *}" "${ended#* }"
-    begin_xfreerdp wrong
-    wait $xfreerdp
+    report "$name: view" 1 "${ended%% *}" "${ended#* }"
     end_share
-    refused="share: CLIENT: the client has another user or password; N frames, N acknowledged"
-    report "$name: share" "$refused"$'\n'"$refused" "$said"
+    report "$name: share" "share: CLIENT: $no_logon; N frames, N acknowledged" "$(echo "$said" | sort -u)"
     report "$name: processes left" none "$(left)"
 fi
 
@@ -399,9 +420,9 @@ if is_chosen "$name"; then
     print=$(sed -n 's/.*SHA-256 is //p' "$work/share.log")
     untrusted="127.0.0.1:$port has a certificate that isn't known, and isn't taken without --trust; its fingerprint is"
     report "$name: view" "1 view: $untrusted $print" "$ended"
-    until_true 50 grep -q gone "$work/share.log"
+    until_true 50 grep -q "didn't log on" "$work/share.log"
     end_share
-    report "$name: share" "$gone" "$said"
+    report "$name: share" "share: CLIENT: $no_logon; N frames, N acknowledged" "$said"
     report "$name: processes left" none "$(left)"
 fi
 
@@ -417,6 +438,159 @@ if is_chosen "$name"; then
     until_true 50 grep -q gone "$work/share.log"
     end_share
     report "$name: share" "$gone" "$said"
+    report "$name: processes left" none "$(left)"
+fi
+
+name="three clients at once"
+if is_chosen "$name"; then
+    begin_share
+    views=()
+    for at in 1 2 3; do
+        begin_view
+        views+=("$view")
+        until_true 100 is_drawing
+        mv "$work/recording" "$work/kept-$at"
+    done
+    move 30
+    sleep $((4 * ${PATIENCE:-1}))
+    shoot "$server" "$work/ours"
+    for at in 1 2 3; do
+        rm -f "$work/picture"
+        view=${views[at - 1]}
+        kill "$view"
+        end_view
+        mv "$work/kept-$at" "$work/recording"
+        report "$name: picture $at, and the recording's" same "$(recorded)"
+        report "$name: picture $at, and the display" same "$(compared "$work/picture" "$work/ours" $apart)"
+    done
+    until_true 50 test "$(grep -c gone "$work/share.log")" -eq 3
+    end_share
+    report "$name: share" "$gone"$'\n'"$gone"$'\n'"$gone" "$said"
+    report "$name: processes left" none "$(left)"
+fi
+
+# Of each kind of picture: by the ones that lose nothing the client's screen is the display, by the others what is drawn
+# of the bytes that were sent.
+for kind in raw residual bands plain progressive video; do
+    name="share to xfreerdp, as $kind"
+    if is_chosen "$name"; then
+        begin_share --kind "$kind" --record "$work/sent"
+        begin_xfreerdp
+        until_true 100 server_of
+        move 20
+        screens $apart 100 > /dev/null
+        # Behind the last improvement.
+        sleep $((3 * ${PATIENCE:-1}))
+        shoot "$client" "$work/theirs"
+        shoot "$server" "$work/ours"
+        end_xfreerdp
+        until_true 30 grep -q gone "$work/share.log"
+        end_share
+        report "$name: its end" "$gone" "$said"
+        "$work/gfxpipe" render --output < "$work/sent" > "$work/drawn"
+        rm -f "$work/sent"
+        case $kind in
+        progressive | video)
+            report "$name: its window, and what was sent" same "$(compared "$work/theirs" "$work/drawn" 1)" \
+                "beside the display $("$here/live/decibels.py" "$work/theirs" "$work/ours")"
+            ;;
+        *)
+            report "$name: its window, and what was sent" same "$(compared "$work/theirs" "$work/drawn" 0)"
+            report "$name: its window, and the display" same "$(compared "$work/theirs" "$work/ours" 0)"
+            ;;
+        esac
+        report "$name: processes left" none "$(left)"
+    fi
+done
+
+for protocol in nla tls; do
+    name="share to xfreerdp by $protocol"
+    if is_chosen "$name"; then
+        begin_share
+        begin_xfreerdp secret "/sec:$protocol"
+        until_true 100 server_of
+        report "$name: its window" same "$(screens $apart 200)"
+        end_xfreerdp
+        until_true 50 grep -q gone "$work/share.log"
+        end_share
+        report "$name: its end" "$gone" "$said"
+        begin_share
+        begin_xfreerdp wrong "/sec:$protocol"
+        wait $xfreerdp
+        end_share
+        case $protocol in
+        nla) refused="share: CLIENT: $no_logon; N frames, N acknowledged" ;;
+        tls) refused="share: CLIENT: the client has another user or password; N frames, N acknowledged" ;;
+        esac
+        report "$name: another password" "$refused" "$(echo "$said" | sort -u)"
+        report "$name: processes left" none "$(left)"
+    fi
+done
+
+# Forms without half-clear pixels come as they are.
+name="the form of the pointer"
+if is_chosen "$name"; then
+    begin_share
+    begin_view
+    until_true 100 is_drawing
+    DISPLAY=$client xdotool mousemove 20 20
+    # A gumby, a heart and a man.
+    for form in 56 62 88; do
+        DISPLAY=$server "$work/pointer" $form &
+        forming=$!
+        until_true 100 has_same_pointer
+        report "$name: $form" "$(pointer_of "$server")" "$(pointer_of "$client")" "$(pointer_of "$server")"
+        kill $forming
+        wait $forming 2> /dev/null
+    done
+    kill "$view"
+    end_view
+    end_share
+    report "$name: its end" "$closed" "$ended"
+    report "$name: processes left" none "$(left)"
+fi
+
+name="a display that changes its sides"
+if is_chosen "$name"; then
+    kept=$server
+    new_screen other 800x600
+    other=${pids[-1]}
+    server=:$(cat "$work/other")
+    DISPLAY=$server xwud -in "$work/photograph" -geometry +20+100 > /dev/null 2>&1 &
+    pids+=($!)
+    until_true 100 window_of photograph
+    DISPLAY=$server xrandr --newmode other 25 640 656 752 800 480 490 492 525
+    DISPLAY=$server xrandr --addmode screen other
+    begin_share
+    begin_view
+    until_true 100 is_drawing
+    sleep 1
+    for sides in 640x480 800x600; do
+        mode=$([ $sides = 640x480 ] && echo other || echo $sides)
+        DISPLAY=$server xrandr --output screen --mode "$mode"
+        until_true 100 has_sides $sides
+        report "$name: the window" $sides "$(sides_of)"
+    done
+    DISPLAY=$server xrandr --output screen --mode other
+    until_true 100 has_sides 640x480
+    sleep $((4 * ${PATIENCE:-1}))
+    shoot "$server" "$work/ours" 640 480
+    kill "$view"
+    end_view
+    report "$name: view" "$closed" "$ended" "$(frames_of "$work/view.log")"
+    report "$name: the last picture, and the recording's" same "$(recorded)"
+    report "$name: the last picture, and the display" same "$(compared "$work/picture" "$work/ours" $apart)"
+    begin_xfreerdp
+    until_true 100 server_of
+    sleep $((2 * ${PATIENCE:-1}))
+    DISPLAY=$server xrandr --output screen --mode 800x600
+    report "$name: xfreerdp's window" same "$(screens $apart 100)"
+    end_xfreerdp
+    until_true 50 grep -q gone "$work/share.log"
+    end_share
+    report "$name: share" "$gone"$'\n'"$gone" "$said"
+    server=$kept
+    kill "$other"
     report "$name: processes left" none "$(left)"
 fi
 
@@ -582,6 +756,59 @@ if is_chosen "$name"; then
     report "$name: processes left" none "$(left)"
 fi
 
+xfreerdp3=${XFREERDP3:-$(command -v xfreerdp3)}
+cases=("/gfx" "/gfx /cache:persist,persist-file:$work/kept" "/gfx:frame-ack:off" "/gfx:small-cache" "/gfx:thin-client"
+    "/gfx:RFX" "/gfx /sec:tls")
+for words in "${cases[@]}"; do
+    name="share to xfreerdp 3 with ${words//"$work/"/}"
+    if is_chosen "$name"; then
+        if [ -z "$xfreerdp3" ]; then
+            echo "left out $name: there is no xfreerdp3 (freerdp3-x11 of bookworm-backports), and XFREERDP3 names none"
+            continue
+        fi
+        keep_bitmaps > "$work/kept"
+        begin_share
+        # shellcheck disable=SC2086
+        begin_xfreerdp3 $words
+        until_true 100 server_of
+        move 20
+        report "$name: its window" same "$(screens $apart 100)"
+        end_xfreerdp
+        until_true 50 grep -q gone "$work/share.log"
+        counted=$(frames_of "$work/share.log")
+        end_share
+        report "$name: its end" "$gone" "$said" "$counted"
+        report "$name: processes left" none "$(left)"
+    fi
+done
+
+shadow3=${SHADOW3:-$(command -v freerdp-shadow-cli3)}
+for words in +gfx-progressive "-gfx-progressive -gfx-planar"; do
+    name="FreeRDP 3's shadow server to view with $words"
+    if is_chosen "$name"; then
+        if [ -z "$shadow3" ]; then
+            echo "left out $name: there is no freerdp-shadow-cli3 (freerdp3-shadow-x11), and SHADOW3 names none"
+            continue
+        fi
+        next_port
+        # shellcheck disable=SC2086
+        DISPLAY=$server LD_LIBRARY_PATH=${FREERDP3_LIBRARIES:-} "$shadow3" "/port:$port" /bind-address:127.0.0.1 -auth \
+            /sec:tls $words > "$work/shadow.log" 2>&1 &
+        shadow=$!
+        until_true 100 is_listening $port
+        begin_view
+        until_true 100 is_drawing
+        move 100
+        kill "$view"
+        end_view
+        report "$name: its end" "$closed" "$ended" "$(frames_of "$work/view.log")"
+        report "$name: the last picture, and the recording's" same "$(recorded)"
+        kill $shadow
+        wait $shadow 2> /dev/null
+        report "$name: processes left" none "$(left)"
+    fi
+done
+
 name="gnome-remote-desktop to view"
 if is_chosen "$name"; then
     lacks=
@@ -598,7 +825,7 @@ if is_chosen "$name"; then
         until_true 300 is_listening $port
         begin_view
         until_true 100 is_drawing
-        sleep 5
+        sleep 10
         kill "$view"
         end_view
         report "$name: its end" "$closed" "$ended" "$(frames_of "$work/view.log")"

@@ -8,18 +8,14 @@
 # It takes some seconds. There is a line for each difference, and at the end one with the counts; the exit number is
 # 1 where there was a difference.
 set -u
+# shellcheck source-path=SCRIPTDIR source=common.sh
+. "$(dirname "$0")/common.sh"
 if [ $# -ne 1 ]; then
-    sed -n '6s/^# *//p' "$0" >&2
-    exit 2
+    wrong_words
 fi
-if [ ! -f "$1" ] || [ ! -x "$1" ]; then
-    echo "there is no program $1; rt run leaves the built one as crates/gfxpipe_main/out/gfxpipe_main" >&2
-    exit 2
-fi
+need_programs "$1"
 program=$(realpath "$1")
 table=$(realpath "$(dirname "$0")")/refusals/table.txt
-work=$(mktemp -d)
-trap 'rm -rf "$work"' EXIT
 rows=0
 differences=0
 

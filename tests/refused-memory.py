@@ -3,13 +3,20 @@
 
     tests/refused-memory.py PROGRAM [EXAMPLE..]
 
-Each run has to end with the exit number 5, the line of want of memory and a front of the whole output, or, where what
-was refused was not needed, with the whole output. EXAMPLES are fill, white-tile, bands-twice and make-and-trial; all
-of them where none is named, of which the last takes some ten minutes. It needs a C compiler. There is a line for each
-run that ends otherwise, and one for each command with the counts; the exit number is then 1.
+PROGRAM is gfxpipe, crates/gfxpipe_main/out/gfxpipe_main where `rt run` has built it. Each run has to end with the exit
+number 5, the line of want of memory and a front of the whole output, or, where what was refused was not needed, with
+the whole output. EXAMPLES are fill, white-tile, bands-twice and make-and-trial; all of them where none is named, of
+which the last takes some ten minutes. It needs a C compiler. There is a line for each run that ends otherwise, and one
+for each command with the counts; the exit number is then 1, and 2 for wrong words.
 """
-import os, subprocess, sys, tempfile
+import argparse
+import os
+import shutil
+import subprocess
+import sys
+import tempfile
 
+EXAMPLES = ("fill", "white-tile", "bands-twice", "make-and-trial")
 HERE = os.path.dirname(os.path.realpath(__file__))
 WANTING = (5, b"memory: none left\n")
 
@@ -89,23 +96,34 @@ class Tried:
         return made and tried
 
 
+def words():
+    parser = argparse.ArgumentParser(prog="refused-memory.py", description=__doc__,
+                                     usage="tests/refused-memory.py PROGRAM [EXAMPLE..]",
+                                     formatter_class=argparse.RawDescriptionHelpFormatter)
+    parser.add_argument("program", metavar="PROGRAM", help="gfxpipe")
+    parser.add_argument("examples", metavar="EXAMPLE", nargs="*", default=EXAMPLES, help=", ".join(EXAMPLES))
+    given = parser.parse_args()
+    for name in given.examples:
+        if name not in EXAMPLES:
+            parser.error(f"there is no example {name}; there are {', '.join(EXAMPLES)}")
+    if not os.path.isfile(given.program) or not os.access(given.program, os.X_OK):
+        parser.error(f"there is no program {given.program}; rt run leaves the built ones as crates/NAME/out/NAME")
+    if not shutil.which("cc"):
+        parser.error("there is no C compiler cc: apt-get install gcc libc6-dev")
+    return given
+
+
 def main():
-    if len(sys.argv) < 2:
-        print(__doc__.splitlines()[2].strip(), file=sys.stderr)
-        return 2
-    if not os.path.isfile(sys.argv[1]) or not os.access(sys.argv[1], os.X_OK):
-        print(f"there is no program {sys.argv[1]}; rt run leaves the built one as "
-              "crates/gfxpipe_main/out/gfxpipe_main", file=sys.stderr)
-        return 2
+    given = words()
     with tempfile.TemporaryDirectory() as work:
-        tried = Tried(os.path.realpath(sys.argv[1]), work)
-        known = {
-            "fill": lambda name: tried.commands(name, fill_script()),
-            "white-tile": lambda name: tried.commands(name, WHITE),
-            "bands-twice": lambda name: tried.commands(name, BANDS),
-            "make-and-trial": tried.make_and_trial,
-        }
-        passed = [known[name](name) for name in sys.argv[2:] or known]
+        tried = Tried(os.path.realpath(given.program), work)
+        known = dict(zip(EXAMPLES, (
+            lambda name: tried.commands(name, fill_script()),
+            lambda name: tried.commands(name, WHITE),
+            lambda name: tried.commands(name, BANDS),
+            tried.make_and_trial,
+        )))
+        passed = [known[name](name) for name in given.examples]
         return 0 if all(passed) else 1
 
 

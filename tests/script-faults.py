@@ -3,13 +3,15 @@
 
     tests/script-faults.py PROGRAM REFERENCE [SEEDS]
 
-REFERENCE is a program of its own, with the same `encode`; it prints a script for `--random SEED WORDS`, and one with a
-fault for `--random-fault SEED WORDS`, where WORDS are the steps that may occur. For each seed, 1,000 where none are
-named, there is a script of either kind, and one in which chance has changed some signs of an example, which goes to
+PROGRAM is gfxpipe, crates/gfxpipe_main/out/gfxpipe_main where `rt run` has built it. REFERENCE is a program of its
+own, with the same `encode`, which isn't in this repository; it prints a script for `--random SEED WORDS`, and one with
+a fault for `--random-fault SEED WORDS`, where WORDS are the steps that may occur. For each seed, from 1 to SEEDS or to
+1,000, there is a script of either kind, and one in which chance has changed some signs of an example, which goes to
 PROGRAM alone. It takes a minute. There is a line for each difference, and at the end one with the counts; the exit
-number is 1 where there was a difference. It is no part of `rt ci`.
+number is 1 where there was a difference, and 2 for wrong words. It is no part of `rt ci`.
 """
 
+import argparse
 import collections
 import os
 import random
@@ -22,7 +24,7 @@ HERE = os.path.dirname(os.path.abspath(__file__))
 EXAMPLES = os.path.join(HERE, "..", "examples")
 sys.path.insert(0, os.path.join(HERE, "..", "tools"))
 
-from gfxtools import script
+from gfxtools import entry, script
 
 WORDS = ("surface delete reset map fill copy paint kinds=raw,residual,bands,palette,plain,progressive,auto,"
          "video improve difference glyph argb keep show forget clients thin turns nearest").split()
@@ -44,7 +46,7 @@ def said_by(program, text):
 
 def said_by_check(text):
     """The same by the first fault that is found here."""
-    _, faults, _, _ = script.check(text)
+    faults = script.check(text).faults
     if not faults:
         return ""
     return f"script: step {faults[0].step}: {faults[0].kind}" if faults[0].step else f"script: {faults[0].kind}"
@@ -66,17 +68,29 @@ def examples():
     return [text for text in texts if len(text) < 5000]
 
 
-def main(words):
-    if len(words) not in (2, 3):
-        sys.exit(__doc__)
-    program, reference = words[:2]
-    for place in (program, reference):
-        if not os.path.isfile(place) or not os.access(place, os.X_OK):
-            print(f"there is no program {place}; rt run leaves the built one as "
-                  "crates/gfxpipe_main/out/gfxpipe_main", file=sys.stderr)
-            return 2
+def program_of(place):
+    """The program that is named."""
+    if not os.path.isfile(place) or not os.access(place, os.X_OK):
+        raise argparse.ArgumentTypeError(f"there is no program {place}; rt run leaves the built ones as "
+                                         "crates/NAME/out/NAME")
+    return os.path.abspath(place)
+
+
+def words():
+    parser = entry.Words(prog="script-faults.py", description=__doc__,
+                         usage="tests/script-faults.py PROGRAM REFERENCE [SEEDS]")
+    parser.add_argument("program", metavar="PROGRAM", type=program_of, help="gfxpipe")
+    parser.add_argument("reference", metavar="REFERENCE", type=program_of, help="what its answers are compared with")
+    parser.add_argument("seeds", metavar="SEEDS", type=entry.number_of(1), nargs="?", default=1000,
+                        help="how many seeds there are, 1,000 if it isn't said")
+    return parser.parse_args()
+
+
+def main():
+    given = words()
+    program, reference = given.program, given.reference
     texts, counts, differences = examples(), collections.Counter(), 0
-    for seed in range(1, int((words[2:] or [1000])[0]) + 1):
+    for seed in range(1, given.seeds + 1):
         chance = random.Random(seed)
         cases = [(way, subprocess.run([reference, way, str(seed), *WORDS], capture_output=True).stdout, [reference])
                  for way in ("--random", "--random-fault")]
@@ -93,4 +107,4 @@ def main(words):
     return differences > 0
 
 
-sys.exit(main(sys.argv[1:]))
+sys.exit(main())

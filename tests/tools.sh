@@ -1,53 +1,30 @@
 #!/usr/bin/env bash
 # Runs the tools on the examples: their words, their ends, and what they say, beside what the program says. It takes
-# a minute or two, and needs python3 and xz; what stands on FreeRDP is left out where Debian's freerdp2-dev isn't
-# there.
+# two or three minutes, ten on a machine that has much else to do, and needs python3 and xz; what stands on FreeRDP is
+# left out where Debian's freerdp2-dev isn't there, and what live_client draws where it isn't named.
 #
-#     tests/tools.sh PROGRAM
+#     tests/tools.sh [--short] PROGRAM [LIVE_CLIENT]
 #
-# Each case is a line, `ok` or `FAILED`; the exit number is 1 where one failed. It is no part of `rt ci`, and takes
-# no server: tools/recorder/loopback tries `record` on a real session.
+# Each case is a line, `ok` or `FAILED`; the exit number is 1 where one failed. With --short there are the tests of
+# tests/unit and a case or two for each tool, which take some seconds; these are part of `.ci/run`. No server is asked:
+# tools/recorder/loopback tries `record` on a real session.
 set -u
-if [ $# -ne 1 ]; then
-    sed -n '6s/^# *//p' "$0" >&2
-    exit 2
+# shellcheck source-path=SCRIPTDIR source=common.sh
+. "$(dirname "$0")/common.sh"
+is_short=
+if [ "${1-}" = --short ]; then
+    is_short=yes
+    shift
 fi
-if [ ! -f "$1" ] || [ ! -x "$1" ]; then
-    echo "there is no program $1; rt run leaves the built one as crates/gfxpipe_main/out/gfxpipe_main" >&2
-    exit 2
+if [ $# -lt 1 ] || [ $# -gt 2 ]; then
+    wrong_words
 fi
+need_programs "$@"
 program=$(realpath "$1")
-export GFXPIPE=$program PYTHONDONTWRITEBYTECODE=1
+live_client=${2:+$(realpath "$2")}
+export GFXPIPE=$program LIVE_CLIENT=$live_client PYTHONDONTWRITEBYTECODE=1
 here=$(realpath "$(dirname "$0")")
 tools=$here/../tools examples=$here/../examples docs=$here/../docs
-work=$(mktemp -d)
-trap 'rm -rf "$work"' EXIT
-failures=0
-
-# The result of a case: its name, what is wanted and what came.
-report() {
-    if [ "$2" = "$3" ]; then
-        echo "ok      $1"
-    else
-        echo "FAILED  $1: wanted \"$2\", got \"$3\""
-        failures=$((failures + 1))
-    fi
-}
-
-# The exit number of the last run, and what it wrote on the standard error.
-ended() {
-    echo "$1 $(cat "$work/err")"
-}
-
-# The exit number of a run, and how many lines it wrote on the standard error.
-ended_lines() {
-    "$@" > "$work/out" 2> "$work/err"
-    echo "$? $(wc -l < "$work/err")"
-}
-
-same() {
-    cmp -s "$1" "$2" && echo same
-}
 
 # A PNG as a dump: the first line is the head that stands there, the rows are those of the picture.
 dump_of() {
@@ -140,16 +117,25 @@ print(os.waitstatus_to_exitcode(os.waitpid(child, 0)[1]), sum(byte < 7 or byte >
 PYTHON
 }
 
+# shellcheck source-path=SCRIPTDIR source=tools-short.sh
+. "$here/tools-short.sh"
+if [ -n "$is_short" ]; then
+    [ "$failures" -eq 0 ]
+    exit
+fi
+# shellcheck source-path=SCRIPTDIR source=tools-frames.sh
+. "$here/tools-frames.sh"
+
 xz -dc "$examples/gnome.bin.xz" > "$work/gnome.bin"
 { echo "step = ["; printf '{ do = "fill" },\n%.0s' $(seq 5000); echo "]"; } > "$work/faults.toml"
 
 # ---- Words, and ends
-for tool in check-script stream frames play picture compare record gfx load; do
+for tool in check-script stream kept frames play picture compare record gfx load; do
     report "$tool --help" "0 0" "$(ended_lines "$tools/$tool" --help)"
     report "$tool --help says its words" "usage: $tool" "$(head -n 1 "$work/out" | cut -d ' ' -f -2)"
     report "$tool, a wrong word" "2 1" "$(ended_lines "$tools/$tool" --nonsense)"
 done
-for tool in stream frames play compare record gfx load; do
+for tool in stream kept frames play compare record gfx load; do
     report "$tool, no words" "2 1" "$(ended_lines "$tools/$tool")"
 done
 report "loopback --help" "0 0" "$(ended_lines "$tools/recorder/loopback" --help)"
@@ -186,56 +172,6 @@ report "stream on a closed output" "1 stream: the standard output is closed" "$(
 report "stream on a closed input" "1 stream: the standard input is closed" "$(ended $?)"
 "$tools/stream" list < /dev/null > "$work/out" 2> "$work/err"
 report "stream on an empty input" "0 stream: the standard input: the recording is empty" "$(ended $?)"
-
-# ---- Tables
-python3 - "$tools" "$docs" > "$work/out" <<'PYTHON'
-import re, sys
-sys.path.insert(0, sys.argv[1])
-from gfxtools import judge, recording, refusals
-profile = open(sys.argv[2] + "/PROFILE.md").read()
-rows = re.findall(r"^\| (\d+) \| (\w+) \| (.*) \|$", profile[profile.index("## Refusals"):], re.M)
-if {int(number): (name, why) for number, name, why in rows} != refusals.NAMES:
-    print("refusals")
-scripts = open(sys.argv[2] + "/SCRIPTS.md").read()
-told = scripts[scripts.index("## What a fault is told as"):scripts.index("## The order of checks")]
-faults = [name for names in re.findall(r"^\| (\w+(?:, \w+)*) \|", told, re.M) for name in names.split(", ")]
-if set(faults) - {"Kind"} != set(refusals.SCRIPT_FAULTS):
-    print("faults of scripts")
-formats = open(sys.argv[2] + "/FORMATS.md").read()
-ids = re.findall(r"^\| 0x(\w\w) \| (\w+) \| RDPGFX", formats, re.M)
-if {int(number, 16): name for number, name in ids} != {n: name for n, (name, _) in recording.READERS.items()}:
-    print("messages")
-PYTHON
-report "the tables of refusals, faults and messages are those of docs/" "" "$(cat "$work/out")"
-python3 - "$here/.." > "$work/out" <<'PYTHON'
-import os, re, sys
-top = sys.argv[1]
-read = lambda *names: open(os.path.join(top, *names), encoding="utf-8").read()
-
-def anchors(text):
-    """Where a link into a page may lead: its headings, in small letters, words joined by dashes."""
-    text = re.sub(r"^```.*?^```", "", text, flags=re.M | re.S)
-    heads = re.findall(r"^#+ (.*)$", text, re.M)
-    heads = [re.sub(r"\[(.*?)\]\(.*?\)", r"\1", head) for head in heads]
-    return {re.sub(r"[^\w\- ]", "", head).lower().replace(" ", "-") for head in heads}
-
-pages = [name for name in os.listdir(top) if name.endswith(".md")]
-pages += [os.path.join(folder, name) for folder in ("docs", "tools", "examples")
-          for name in os.listdir(os.path.join(top, folder)) if name.endswith(".md")]
-for page in sorted(pages):
-    text = re.sub(r"^```.*?^```", "", read(page), flags=re.M | re.S)
-    for link in re.findall(r"\]\(([^)\s]+)\)", text):
-        name, _, anchor = link.partition("#")
-        place = os.path.normpath(os.path.join(top, os.path.dirname(page), name)) if name else os.path.join(top, page)
-        if "://" in link:
-            continue
-        if not os.path.exists(place) or anchor and anchor not in anchors(open(place, encoding="utf-8").read()):
-            print(f"{page}: {link}")
-version = read("VERSION").strip()
-if f"Version {version} (" not in read("README.md") or re.search(r"^## (?!Not numbered yet)(.*)$", read("CHANGELOG.md"), re.M)[1] != version:
-    print("the version")
-PYTHON
-report "the pages' links lead somewhere, and their versions are that of VERSION" "" "$(cat "$work/out")"
 
 # ---- stream
 for example in fill desktop output outside passes pictures text video; do
@@ -538,6 +474,10 @@ for words in "render $docs/gnome.png" "render $examples/fill.toml" "encode $exam
     report "gfx ${words//$here\/..\//}, what it looks like" "looks like" "$(grep -o "looks like" "$work/err")"
 done
 report "gfx, a number that is none" "2 1" "$(ended_lines "$tools/gfx" make 4294967296)"
+"$tools/gfx" render 2> "$work/err" <&-
+report "gfx on a closed input" "3 gfx: the standard input is closed" "$(ended $?)"
+"$program" render 2> "$work/err" <&-
+report "the program on a closed input" "3 input: read failed" "$(ended $?)"
 report "gfx on an empty input" "0 1" "$(ended_lines "$tools/gfx" render /dev/null)"
 cp "$examples/fill.bin" "$work/fill.bin"
 report "gfx into its own input" "2 1" "$(ended_lines "$tools/gfx" render "$work/fill.bin" "$work/fill.bin")"
@@ -654,11 +594,11 @@ chmod +x "$work/slow"
 for more in "old --end" "new --video"; do
     # shellcheck disable=SC2086
     report "frames ${more#* }, interrupted" "130 frames: interrupted" \
-        "$(interrupted "$kept" "$tools/frames" "$examples/passes.bin" "$kept/"$more --program "$work/slow")"
+        "$(interrupted "$kept" "$tools/frames" "$examples/passes.bin" "$kept/"$more --program "$work/slow" --runs)"
 done
 mkdir "$work/pictures"
 report "frames, interrupted" "130 frames: interrupted" \
-    "$(interrupted "$work/pictures" "$tools/frames" "$examples/passes.bin" "$work/pictures" --program "$work/slow")"
+    "$(interrupted "$work/pictures" "$tools/frames" "$examples/passes.bin" "$work/pictures" --program "$work/slow" --runs)"
 report "an interrupt leaves what was there" "$as_it_was " "$(untouched) $(ls -A "$work/pictures")"
 (ulimit -f 8 && trap '' XFSZ && exec "$tools/frames" "$examples/passes.bin" "$kept/old" --video) > "$work/out" 2> "$work/err"
 report "frames where no more can be written" "1 frames: $kept/old can't be written: File too large" "$(ended $?)"
@@ -746,5 +686,8 @@ else
     report "record where no more can be written keeps whole messages" "0" \
         "$("$tools/stream" stats "$work/full.bin" > /dev/null 2>&1; echo $?)"
 fi
+
+# shellcheck source=tests/tools-inputs.sh
+. "$here/tools-inputs.sh"
 
 [ "$failures" -eq 0 ]

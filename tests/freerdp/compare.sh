@@ -10,14 +10,12 @@
 # be 1 apart, since FreeRDP rounds otherwise. There is a line for each difference, and at the end some with
 # the counts; the exit number is 1 where there was a difference.
 set -u
+# shellcheck source-path=SCRIPTDIR source=../common.sh
+. "$(dirname "$0")/../common.sh"
 if [ $# -lt 1 ]; then
-    sed -n '4s/^# *//p' "$0" >&2
-    exit 2
+    wrong_words
 fi
-if [ ! -f "$1" ] || [ ! -x "$1" ]; then
-    echo "there is no program $1; rt run leaves the built one as crates/gfxpipe_main/out/gfxpipe_main" >&2
-    exit 2
-fi
+need_programs "$1"
 if ! pkg-config --exists freerdp2 winpr2 2> /dev/null; then
     echo "FreeRDP's library isn't there: apt-get install freerdp2-dev pkg-config gcc make" >&2
     exit 2
@@ -27,8 +25,6 @@ shift
 [ $# -gt 0 ] || set -- $(seq 300)
 cd "$(dirname "$0")" || exit 2
 make --silent || exit 2
-work=$(mktemp -d)
-trap 'rm -rf "$work"' EXIT
 streams=0
 differences=0
 

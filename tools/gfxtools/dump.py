@@ -4,6 +4,7 @@ import binascii
 import re
 import typing
 
+from . import kinds
 from .entry import Wrong
 
 # A line that begins a surface or the output. The digits of its rows follow, a row on a line.
@@ -12,43 +13,56 @@ HEAD = re.compile(rb"(?:surface (?P<id>\d+)|output) (?P<width>\d+)x(?P<height>\d
 # A pixel is printed as eight digits: blue, green, red, alpha.
 DIGITS = 8
 
+# The name of the output's picture; a surface's is its id as text.
+OUTPUT = "output"
 
 # A head has no more signs, and a side no more pixels: a PNG can't have more.
 MOST_HEAD = 80
 MOST_SIDE = 65535
 
 
-class Picture:
-    """A surface or the output: its name, its sides, its format, and its rows, each of which is read once. The dump's
-    name is for faults."""
+class Shape:
+    """What a picture is called and how large it is: its name, its sides in pixels, and its format, `xrgb` or `argb`,
+    or None of the output."""
 
-    def __init__(self, file, head, dump_name):
-        self.file, self.dump_name = file, dump_name
-        self.name = "output" if head["id"] is None else str(int(head["id"]))
-        self.width, self.height = int(head["width"]), int(head["height"])
-        self.format = head["format"].decode() if head["format"] else None
-        self.read = 0
-        if max(self.width, self.height) > MOST_SIDE:
-            raise self.fault(f"{self.title} has a side of more than {MOST_SIDE:,} pixels")
-
-    def fault(self, text):
-        return Wrong(f"{self.dump_name}: {text}")
+    def __init__(self, name: str, width: int, height: int, format: typing.Optional[str]) -> None:
+        self.name, self.width, self.height, self.format = name, width, height, format
 
     @property
-    def sides(self):
+    def sides(self) -> typing.Tuple[int, int]:
+        """Its width and its height."""
         return self.width, self.height
 
     @property
-    def has_alpha(self):
+    def has_alpha(self) -> bool:
+        """Whether its alpha says anything."""
         return self.format == "argb"
 
     @property
-    def title(self):
-        """The line that it begins with."""
-        name = self.name if self.name == "output" else f"surface {self.name}"
+    def title(self) -> str:
+        """The line that it begins with in a dump."""
+        name = self.name if self.name == OUTPUT else f"surface {self.name}"
         return f"{name} {self.width}x{self.height}" + (f" {self.format}" if self.format else "")
 
-    def lines(self):
+
+class Picture(Shape):
+    """A surface or the output in a dump: its shape, and its rows, each of which is read once. The dump's name is for
+    faults."""
+
+    def __init__(self, file: typing.BinaryIO, head: typing.Match[bytes], dump_name: str) -> None:
+        format = head["format"].decode() if head["format"] else None
+        name = OUTPUT if head["id"] is None else str(int(head["id"]))
+        super().__init__(name, int(head["width"]), int(head["height"]), format)
+        self.file, self.dump_name = file, dump_name
+        self.read = 0
+        if max(self.sides) > MOST_SIDE:
+            raise self.fault(f"{self.title} has a side of more than {MOST_SIDE:,} pixels")
+
+    def fault(self, text: str) -> Wrong:
+        """A fault of this dump."""
+        return Wrong(f"{self.dump_name}: {text}")
+
+    def lines(self) -> typing.Iterator[bytes]:
         """The next rows, as digits."""
         due = DIGITS * self.width
         while self.read < self.height:
@@ -61,7 +75,7 @@ class Picture:
             self.read += 1
             yield line
 
-    def rows(self):
+    def rows(self) -> typing.Iterator[bytes]:
         """The next rows, each as bytes of blue, green, red, alpha."""
         for line in self.lines():
             yield self.row_of(line)
@@ -74,7 +88,7 @@ class Picture:
             raise self.fault(f"{self.title}: a row has other signs than hexadecimal digits") from None
 
 
-def line_of(file, most):
+def line_of(file: typing.BinaryIO, most: int) -> typing.Optional[bytes]:
     """The next line without its newline, or None at the end. Of a longer line than most it is a front, which is
     longer than most, too."""
     line = file.readline(most + 2)
@@ -83,19 +97,23 @@ def line_of(file, most):
 
 def pictures(file: typing.BinaryIO, dump_name: str = "the dump") -> typing.Iterator[Picture]:
     """The pictures of a dump. Rows that nobody has read are passed over."""
+    is_first = True
     while (line := line_of(file, MOST_HEAD)) is not None:
         head = HEAD.match(line)
         if head is None:
-            raise Wrong(f"{dump_name}: no line of a dump: {line[:40].decode('ascii', 'replace')!r}")
+            like = kinds.otherwise(line, kinds.DUMP, kinds.TEXT) if is_first else ""
+            raise Wrong(f"{dump_name}: this is no dump of render; {like}" if like else
+                        f"{dump_name}: no line of a dump: {line[:40].decode('ascii', 'replace')!r}")
+        is_first = False
         picture = Picture(file, head, dump_name)
         yield picture
         for _ in picture.lines():
             pass
 
 
-def named(names):
+def named(names: typing.Iterable[str]) -> str:
     """Names of pictures, in words."""
-    return ", ".join(name if name == "output" else f"surface {name}" for name in names) or "nothing"
+    return ", ".join(name if name == OUTPUT else f"surface {name}" for name in names) or "nothing"
 
 
 def find(file: typing.BinaryIO, which: typing.Optional[str], dump_name: str = "the dump") -> Picture:

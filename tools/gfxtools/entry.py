@@ -11,6 +11,8 @@ import stat
 import sys
 import typing
 
+from . import version
+
 # The first bytes of an .xz file.
 XZ = b"\xfd7zXZ\0"
 
@@ -26,6 +28,10 @@ class Wrong(Exception):
     """Why a tool can't go on, in a line. The exit number is then 1."""
 
     number = 1
+
+
+class Unread(Wrong):
+    """Why an input can't be read."""
 
 
 class WrongWords(Wrong):
@@ -51,22 +57,25 @@ def check_signals() -> None:
 class Words(argparse.ArgumentParser):
     """Words behind a tool's name. What is wrong with them is one line, and the exit number 2."""
 
-    def __init__(self, **more):
+    def __init__(self, **more: typing.Any) -> None:
         more.setdefault("formatter_class", argparse.RawDescriptionHelpFormatter)
         super().__init__(allow_abbrev=False, **more)
+        self.add_argument("--version", action="version", version=f"{self.prog} of gfxpipe {version.NUMBER}",
+                          help="says the version, and ends")
 
-    def error(self, message):
+    def error(self, message: str) -> typing.NoReturn:
+        """Ends the tool with a line."""
         print(f"{self.prog}: {message} (--help has the words)", file=sys.stderr)
         sys.exit(2)
 
 
-def counted(count, word):
+def counted(count: int, word: str) -> str:
     """A count of something, in words."""
     return f"{count:,} {word}" if count == 1 else f"{count:,} {word}s"
 
 
-def number_of(least, most=None):
-    """Reads a whole number among the words."""
+def number_of(least: int, most: typing.Optional[int] = None) -> typing.Callable[[str], int]:
+    """What reads a whole number among the words, from the least to the most, or on without an end."""
     def read(word):
         if not word.isdecimal() or int(word) < least or most is not None and int(word) > most:
             raise argparse.ArgumentTypeError(f"{word!r} isn't a number " + (f"from {least} on" if most is None else
@@ -104,21 +113,23 @@ class Input:
         self.name = name
         self.file = self.guarded(unpacked, file)
 
-    def read(self, size=-1):
+    def read(self, size: int = -1) -> bytes:
+        """The next bytes, at most so many, or all; none at the end."""
         return self.guarded(self.file.read, size)
 
-    def readline(self, size=-1):
+    def readline(self, size: int = -1) -> bytes:
+        """The next line with its newline, or so many bytes of it; nothing at the end."""
         return self.guarded(self.file.readline, size)
 
     def guarded(self, call, given):
         try:
             return call(given)
         except IsADirectoryError:
-            raise Wrong(f"{self.name} is a folder") from None
+            raise Unread(f"{self.name} is a folder") from None
         except (lzma.LZMAError, EOFError):
             raise Wrong(f"{self.name} is no whole .xz file") from None
         except OSError as error:
-            raise Wrong(f"{self.name} can't be read: {error.strerror}") from None
+            raise Unread(f"{self.name} can't be read: {error.strerror}") from None
 
 
 # Device and number of each plain file that was opened to be read.
@@ -142,11 +153,11 @@ def name_of(name: typing.Optional[str]) -> str:
 
 
 @contextlib.contextmanager
-def reading(name):
+def reading(name: typing.Optional[str]) -> typing.Iterator[Input]:
     """The input of this name, or the standard input for `-` and None. An .xz file is read as it is."""
     if name in (None, "-"):
         if sys.stdin is None:
-            raise Wrong("the standard input is closed")
+            raise Unread("the standard input is closed")
         if sys.stdin.isatty():
             print("reading the standard input, which is a terminal", file=sys.stderr)
         file = sys.stdin.buffer
@@ -176,12 +187,12 @@ def whole_of(name: typing.Optional[str], most: int) -> bytes:
         return all_of(file, name_of(name), most)
 
 
-def as_file(data):
+def as_file(data: bytes) -> typing.BinaryIO:
     """Bytes, to be read as a file."""
     return io.BytesIO(data)
 
 
-def output():
+def output() -> typing.BinaryIO:
     """The standard output, for bytes."""
     if sys.stdout is None:
         raise Wrong("the standard output is closed")
@@ -199,15 +210,16 @@ def binary_output() -> typing.BinaryIO:
 class Progress:
     """A line on the standard error that says how far long work is, where that is a terminal."""
 
-    def __init__(self, most):
+    def __init__(self, most: int) -> None:
         self.most, self.shown = most, sys.stderr is not None and sys.stderr.isatty()
 
-    def at(self, count):
+    def at(self, count: int) -> None:
+        """So much of it is done."""
         if self.shown:
             print(f"\r{count} of {self.most}", end="\n" if count == self.most else "", file=sys.stderr, flush=True)
 
 
-def is_unread():
+def is_unread() -> bool:
     """Whether the standard output is a pipe that nobody reads any more."""
     poll = select.poll()
     poll.register(sys.stdout.fileno(), 0)
@@ -233,7 +245,23 @@ def heed_signals():
             signal.signal(number, end_by_signal)
 
 
-def run(name, main):
+# What ends a tool with a line.
+FAULTS = (Wrong, OSError, MemoryError, KeyboardInterrupt, Signalled)
+
+
+def fault_of(error: BaseException) -> typing.Tuple[str, int]:
+    """What is said of an error that ends a tool, and the exit number."""
+    if isinstance(error, Wrong):
+        return str(error), error.number
+    if isinstance(error, OSError):
+        return f"{error.filename or 'a read or a write failed'}: {error.strerror}", 1
+    if isinstance(error, MemoryError):
+        return "no memory is left", 1
+    number = error.args[0] if isinstance(error, Signalled) else signal.SIGINT
+    return "interrupted" if number == signal.SIGINT else "ended by a signal", SIGNALLED + number
+
+
+def run(name: str, main: typing.Callable[[], int]) -> typing.NoReturn:
     """Runs a tool to its end; `main` answers the exit number. An output that nobody reads on is no error."""
     try:
         heed_signals()
@@ -248,17 +276,8 @@ def run(name, main):
     except BrokenPipeError:
         forget_output()
         sys.exit(0)
-    except Wrong as wrong:
-        fault, number = str(wrong), wrong.number
-    except OSError as error:
-        fault, number = f"{error.filename or 'a read or a write failed'}: {error.strerror}", 1
-    except MemoryError:
-        fault, number = "no memory is left", 1
-    except KeyboardInterrupt:
-        fault, number = "interrupted", SIGNALLED + signal.SIGINT
-    except Signalled as signalled:
-        number = SIGNALLED + signalled.args[0]
-        fault = "interrupted" if signalled.args[0] == signal.SIGINT else "ended by a signal"
+    except FAULTS as error:
+        fault, number = fault_of(error)
     # A second interrupt changes nothing.
     signal.signal(signal.SIGINT, signal.SIG_IGN)
     # What was said before stands before it.

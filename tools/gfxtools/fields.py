@@ -2,13 +2,14 @@
 (Range)."""
 
 import difflib
+import typing
 
-from . import toml
+from . import limits, toml
+from .limits import MOST_OUTPUT_SIDE, MOST_SIDE
 from .toml import named, quoted
 
 # The numbers of docs/PROFILE.md.
 MOST_NUMBER = 65535
-MOST_SIDE, MOST_OUTPUT_SIDE = 8192, 32766
 MOST_RECTS = 1024
 MOST_KEY = 2**63 - 1
 MOST_GLYPH = 3999
@@ -19,7 +20,7 @@ PIXEL = 4  # bytes
 
 BANDS = ("HL1", "LH1", "HH1", "HL2", "LH2", "HH2", "HL3", "LH3", "HH3", "LL3")
 COMPONENTS = ("y", "cb", "cr")
-VERSIONS = ("8", "8.1", "10")  # ascending
+VERSIONS = tuple(limits.VERSIONS)  # ascending
 FORMATS = ("xrgb", "argb")
 CLEAR_KINDS = ("residual", "bands", "palette", "plain")
 KINDS = ("raw", *CLEAR_KINDS, "progressive", "auto", "video")
@@ -29,7 +30,7 @@ HEXADECIMAL = "0123456789abcdefABCDEF"
 # ---- Words
 
 
-def described(value):
+def described(value: typing.Any) -> str:
     """A value that isn't what is due."""
     if isinstance(value, bool):
         return "true" if value else "false"
@@ -47,17 +48,18 @@ def close(word, words):
     return next(iter(difflib.get_close_matches(word[:100].lower(), words, 1)), None)
 
 
-def meant(word, words):
+def meant(word: str, words: typing.Sequence[str]) -> str:
     """A question after the word that is like this one, if there is one."""
     like = close(word, words)
     return f"; did you mean {quoted(like)}?" if like else ""
 
 
-def choice(words):
+def choice(words: typing.Sequence[str]) -> str:
+    """Words of which one is to be chosen."""
     return ", ".join(words[:-1]) + " or " + words[-1] if len(words) > 1 else words[0]
 
 
-def counted(values):
+def counted(values: typing.Sequence[typing.Union[str, int]]) -> str:
     """Names or numbers, of which the first eight are told."""
     told = [str(value) for value in values[:8]]
     rest = [f"{len(values) - 8} more"] if len(values) > 8 else [told.pop()]
@@ -226,7 +228,9 @@ LEVEL = tuple(Numbers(key, BANDS, 0, MOST_LEFT_OUT) for key in COMPONENTS)
 SIDES = (Whole("width", 1, MOST_NUMBER), Whole("height", 1, MOST_NUMBER))
 # Further keys of a picture, by its pattern.
 PATTERNS = {"solid": (Text("colour"),), "ramp": (), "noise": (Whole("seed", 0, MOST_NUMBER),), "text": (),
-            "desktop": (), "hex": (Text("pixels"),)}
+            "desktop": (), "hex": (Text("pixels"),), "png": (Text("file"),)}
+# Those of a PNG needn't be said. The tools write such a picture out; the program has no such pattern.
+PNG_SIDES = tuple(Whole(key, 1, MOST_NUMBER, True) for key in ("width", "height"))
 STEPS = {
     "surface": (ID, Whole("width", 1, MOST_SIDE), Whole("height", 1, MOST_SIDE), Word("format", FORMATS, True)),
     "delete": (ID,),
@@ -255,7 +259,8 @@ class Wrong(Exception):
         self.kind, self.found = kind, found
 
 
-def only(kind, at, why):
+def only(kind: str, at: typing.Optional[int], why: str) -> Wrong:
+    """One fault alone: its kind, its place, or None for that of the table, and why it is one."""
     return Wrong(kind, [(at, why)])
 
 
@@ -285,25 +290,28 @@ def key_faults(table, fields, word=None):
             yield table.at, f"the key {field.key} is missing, {field.due}"
 
 
-def check_keys(table, fields, word=None):
+def check_keys(table: toml.Table, fields: typing.Sequence[Field], word: typing.Optional[str] = None) -> None:
+    """Refuses keys that aren't known or are missing, and values of other types. `word` is as in `key_faults`."""
     if found := list(key_faults(table, fields, word)):
         raise Wrong("Key", found)
 
 
-def check_ranges(table, fields):
+def check_ranges(table: toml.Table, fields: typing.Sequence[Field]) -> None:
+    """Refuses values that are out of their ranges; their types have to be those of the fields."""
     found = [(table.places[field.key] if at is None else at, why)
              for field in fields if field.key in table for at, why in field.ranges(table[field.key])]
     if found:
         raise Wrong("Range", found)
 
 
-def as_table(value, what):
+def as_table(value: typing.Any, what: str) -> toml.Table:
+    """A value, which has to be a table; `what` is its name in a fault."""
     if not isinstance(value, dict):
         raise only("Key", None, f"{what} is a table, and here stands {described(value)}")
     return value
 
 
-def worded(table, word, words):
+def worded(table: toml.Table, word: str, words: typing.Dict[str, typing.Any]) -> typing.Any:
     """The fields that a word of a table asks for."""
     if word not in table:
         raise only("Key", table.at, f"the key {word} is missing, {choice([quoted(one) for one in words])}")
@@ -316,8 +324,8 @@ def worded(table, word, words):
     return words[value]
 
 
-def check_digits(table, key, count):
-    """A text has two hexadecimal digits for each of so many bytes."""
+def check_digits(table: toml.Table, key: str, count: int) -> None:
+    """Refuses a text that hasn't two hexadecimal digits for each of so many bytes."""
     digits = table[key]
     wrong = next((number for number, sign in enumerate(digits, 1) if sign not in HEXADECIMAL), None)
     if wrong:

@@ -1,28 +1,18 @@
 """What each step of a script needs of the steps before it (docs/SCRIPTS.md)."""
 
 import collections
+import typing
 
-from . import entry
+from . import entry, limits
 from .fields import CLEAR_KINDS, PIXEL, STEPS, Wrong, choice, counted, meant, only
-from .toml import quoted
+from .limits import CELL_SIDE, LARGE, MOST_CELLS, MOST_SURFACES, SMALL, cells, lies_in
+from .toml import Table, quoted
 
-# The numbers of docs/PROFILE.md.
-MOST_SURFACES, MOST_CELLS, CELL_SIDE = 1024, 16384, 64
+# The most pixels of a glyph ([MS-RDPEGFX] 2.2.4.1).
 MOST_GLYPH_AREA = 1024
-LARGE, SMALL = (25600, 104857600), (4096, 16777216)  # slots, and bytes of all bitmaps
 
 # The sides of the pictures by name, and the names of those with a fault, None for one whose name isn't known.
 Gallery = collections.namedtuple("Gallery", "sides doubtful")
-
-
-def cells(width, height):
-    """How many cells a surface of these sides has, a part cell counted whole."""
-    return -(-width // CELL_SIDE) * -(-height // CELL_SIDE)
-
-
-def lies_in(sides, rect):
-    left, top, right, bottom = rect
-    return left <= right <= sides[0] and top <= bottom <= sides[1]
 
 
 def moved(sides, place):
@@ -52,16 +42,26 @@ class Stock:
     """The bitmaps that are kept: the sides and the bytes of each by its key, the least recently used first; and why
     others are held no more."""
 
-    def __init__(self, is_small):
+    def __init__(self, is_small: bool) -> None:
         self.is_small = is_small
         self.slots, self.most = SMALL if is_small else LARGE
         self.held, self.gone, self.bytes = collections.OrderedDict(), {}, 0
+        self.not_imported = None
 
-    def drop(self, key, why):
+    def start(self, chosen):
+        """Begins with bitmaps that are imported (docs/IMPORT.md)."""
+        for one in chosen.bitmaps:
+            self.held[one.key] = one.sides, PIXEL * one.width * one.height
+            self.bytes += self.held[one.key][1]
+        self.not_imported = chosen.ended
+
+    def drop(self, key: int, why: str) -> None:
+        """Lets go of a bitmap; `why` is for later faults."""
         self.bytes -= self.held.pop(key)[1]
         self.gone[key] = why
 
-    def keep(self, key, sides, step):
+    def keep(self, key: int, sides: limits.Sides, step: int) -> None:
+        """Keeps a bitmap of these sides; the step of this number does it, for later faults."""
         size = PIXEL * sides[0] * sides[1]
         if size > self.most:
             small = ", as the client has a small cache" if self.is_small else ""
@@ -74,10 +74,11 @@ class Stock:
         self.held[key] = sides, size
         self.bytes += size
 
-    def find(self, key):
+    def find(self, key: int) -> limits.Sides:
         """The sides of the bitmap under a key."""
         if key not in self.held:
             why = f"its bitmap {self.gone[key]}" if key in self.gone else "no step before this one keeps one"
+            why += f"; {self.not_imported}" if self.not_imported and key not in self.gone else ""
             raise only("KeyAbsent", None, f"no bitmap is held under key {key}: {why}")
         return self.held[key][0]
 
@@ -91,7 +92,7 @@ class Held:
         self.surfaces, self.made, self.deleted, self.cells = {}, {}, {}, 0
         self.doubtful = {("picture", name) for name in gallery.doubtful}
 
-    def doubt(self, table):
+    def doubt(self, table: typing.Any) -> None:
         """What a step with a fault would have changed, or all of its kind where it can't be told what."""
         is_table = isinstance(table, dict)
         word = table.get("do") if is_table and type(table.get("do")) is str else None
@@ -116,12 +117,12 @@ class Held:
         ids = [step[key] for key in ("id", "from", "to") if key in step and step["do"] != "surface"]
         return any(id not in self.surfaces and self.is_doubtful("surface", id) for id in ids)
 
-    def after(self, step, number):
+    def after(self, step: Table, number: int) -> None:
         """Makes this what is held after a step, of this number, or says what is wrong with it."""
         if not self.hangs(step):
             getattr(self, f"do_{step['do']}")(step, number)
 
-    def surface(self, id):
+    def surface(self, id: int) -> limits.Sides:
         """The sides of a surface."""
         if id in self.surfaces:
             return self.surfaces[id]

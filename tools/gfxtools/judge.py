@@ -3,29 +3,16 @@
 What only the decoding of pixels finds isn't seen here: the refusals 24 to 49 and 53, but for the structure of
 progressive blocks."""
 
-from .recording import FORMATS
+import typing
 
-MOST_SIDE = 8192
-MOST_SURFACES = 1024
-MOST_CELLS = 16384
-CELL_SIDE = 64
-MOST_OUTPUT_SIDE = 32766
-MOST_SLOTS, MOST_SMALL_SLOTS = 25600, 4096
-MOST_BYTES, MOST_SMALL_BYTES = 104857600, 16777216
+from . import limits
+from .limits import MOST_CELLS, MOST_OUTPUT_SIDE, MOST_SIDE, MOST_SURFACES, cells, lies_in
+from .recording import FORMATS, Message
+
 # The flags that choose the small limits: THINCLIENT and SMALL_CACHE.
 BINDS_SMALL = 0x01 | 0x02
-VERSIONS_TAKEN = (0x00080004, 0x00080105, 0x000A0002)
 # The codecs that are taken in WireToSurface1 and WireToSurface2.
 CODECS_1, CODECS_2 = (0x0, 0x3, 0x8), (0x9,)
-
-
-def cells(width, height):
-    return -(-width // CELL_SIDE) * -(-height // CELL_SIDE)
-
-
-def lies_on(sides, rectangle):
-    left, top, right, bottom = rectangle
-    return left <= right <= sides[0] and top <= bottom <= sides[1]
 
 
 def fits(sides, width, height, points):
@@ -33,20 +20,21 @@ def fits(sides, width, height, points):
 
 
 class Judge:
-    """What accepted messages leave, as far as later ones are judged by it."""
+    """What accepted messages leave, as far as later ones are judged by it. `output` are the output's sides, zeros
+    before the first ResetGraphics, and `mapped` the surfaces that stand on it."""
 
-    def __init__(self):
-        self.surfaces = {}  # id: width, height
-        self.formats = {}  # id: format
+    def __init__(self) -> None:
+        self.surfaces: typing.Dict[int, limits.Sides] = {}  # by id
+        self.formats: typing.Dict[int, int] = {}  # by id
         self.cells = 0
-        self.slots = {}  # slot: width, height
+        self.slots: typing.Dict[int, limits.Sides] = {}
         self.bytes = 0
         self.output = (0, 0)
-        self.mapped = set()
-        self.small = False
+        self.mapped: typing.Set[int] = set()
+        self.room = limits.LARGE
         self.frame = None
 
-    def refusal(self, message):
+    def refusal(self, message: Message) -> typing.Optional[str]:
         """The refusal of a message, or None; what an accepted one does is done."""
         if message.refusal:
             return message.refusal
@@ -94,14 +82,14 @@ class Judge:
         if absent := self.absent(says["surface"]):
             return absent
         sides = self.surfaces[says["surface"]]
-        if not all(lies_on(sides, rectangle) for rectangle in says["rectangles"]):
+        if not all(lies_in(sides, rectangle) for rectangle in says["rectangles"]):
             return "RectOutside"
 
     def judge_SurfaceToSurface(self, says):
         if absent := self.absent(says["source"], says["surface"]):
             return absent
         left, top, right, bottom = says["rectangle"]
-        if not lies_on(self.surfaces[says["source"]], says["rectangle"]):
+        if not lies_in(self.surfaces[says["source"]], says["rectangle"]):
             return "RectOutside"
         if not fits(self.surfaces[says["surface"]], right - left, bottom - top, says["points"]):
             return "RectOutside"
@@ -114,7 +102,7 @@ class Judge:
         if says["format"] not in FORMATS:
             return "PixelFormat"
         left, top, right, bottom = says["rectangle"]
-        if not lies_on(self.surfaces[says["surface"]], says["rectangle"]):
+        if not lies_in(self.surfaces[says["surface"]], says["rectangle"]):
             return "RectOutside"
         if says["codec"] == 0 and len(says["data"]) != 4 * (right - left) * (bottom - top):
             return "PayloadLength"
@@ -142,19 +130,19 @@ class Judge:
     def judge_SurfaceToCache(self, says):
         if absent := self.absent(says["surface"]):
             return absent
-        if not 1 <= says["slot"] <= (MOST_SMALL_SLOTS if self.small else MOST_SLOTS):
+        if not 1 <= says["slot"] <= self.room.slots:
             return "SlotRange"
         left, top, right, bottom = says["rectangle"]
-        if not lies_on(self.surfaces[says["surface"]], says["rectangle"]):
+        if not lies_in(self.surfaces[says["surface"]], says["rectangle"]):
             return "RectOutside"
         after = self.bytes - self.bytes_in(says["slot"]) + 4 * (right - left) * (bottom - top)
-        if after > (MOST_SMALL_BYTES if self.small else MOST_BYTES):
+        if after > self.room.bytes:
             return "CacheBudget"
         self.slots[says["slot"]] = right - left, bottom - top
         self.bytes = after
 
     def judge_CacheToSurface(self, says):
-        if not 1 <= says["slot"] <= MOST_SLOTS:
+        if not 1 <= says["slot"] <= limits.LARGE.slots:
             return "SlotRange"
         if says["slot"] not in self.slots:
             return "SlotEmpty"
@@ -164,21 +152,21 @@ class Judge:
             return "RectOutside"
 
     def judge_EvictCacheEntry(self, says):
-        if not 1 <= says["slot"] <= MOST_SLOTS:
+        if not 1 <= says["slot"] <= limits.LARGE.slots:
             return "SlotRange"
         self.bytes -= self.bytes_in(says["slot"])
         self.slots.pop(says["slot"], None)
 
     def judge_CapsConfirm(self, says):
-        if says["version"] not in VERSIONS_TAKEN or says["flags"] is None:
+        if says["version"] not in limits.VERSIONS.values() or says["flags"] is None:
             return "CapsVersion"
-        self.small = bool(says["flags"] & BINDS_SMALL)
+        self.room = limits.SMALL if says["flags"] & BINDS_SMALL else limits.LARGE
 
     def judge_DeleteEncodingContext(self, says):
         return self.absent(says["surface"])
 
 
-def judged(messages):
+def judged(messages: typing.Iterable[Message]) -> typing.Iterator[typing.Tuple[Message, Judge]]:
     """The messages, each with its refusal, and with what the accepted ones have left after it."""
     judge = Judge()
     for message in messages:

@@ -133,10 +133,12 @@ def settings(window: int = 2, entropy: str = "rlgr1", differences: bool = False,
 
 
 def rects_of(rects: typing.Iterable[Rect]) -> bytes:
+    """Rectangles as they stand in a body: left, top, right, bottom."""
     return b"".join(struct.pack("<4H", *rect) for rect in rects)
 
 
 def points_of(points: typing.Iterable[Point]) -> bytes:
+    """Points as they stand in a body: x, y."""
     return b"".join(struct.pack("<2H", *point) for point in points)
 
 
@@ -186,6 +188,11 @@ class Program:
         _, line = self.process.communicate()
         return self.process.returncode, line.decode("utf-8", "replace").strip()
 
+    def stop(self) -> None:
+        """Ends the program at once, whatever it does."""
+        self.process.kill()
+        self.process.communicate()
+
     # Records.
 
     def ask(self, kind: str, *parts: bytes) -> typing.Tuple[str, bytes]:
@@ -202,6 +209,7 @@ class Program:
         return chr(answer), self.read(length)
 
     def read(self, count: int) -> bytes:
+        """So many bytes of the program's output; where it ends before, that is Ended."""
         data = self.process.stdout.read(count)
         if len(data) < count:
             raise Ended(*self.ended())
@@ -260,18 +268,23 @@ class LiveServer(Program):
         """How many of the steps that were pushed weren't sent yet."""
         return struct.unpack("<I", self.must("B", "B"))[0]
 
-    # What the screen shows.
+    # What the screen shows: a push each, as the step of that name in a script (docs/SCRIPTS.md). It counts once
+    # `frame` has ended its frame.
 
     def surface(self, id: int, width: int, height: int, format: str = "xrgb") -> None:
+        """Makes a surface of these sides in pixels, whose format is `xrgb` or `argb`."""
         self.must("O", "s", struct.pack("<3HB", id, width, height, FORMATS[format]))
 
     def delete(self, id: int) -> None:
+        """Deletes a surface."""
         self.must("O", "d", struct.pack("<H", id))
 
     def reset(self, width: int, height: int) -> None:
+        """Gives the output these sides in pixels."""
         self.must("O", "r", struct.pack("<2I", width, height))
 
     def map(self, id: int, x: int, y: int) -> None:
+        """Shows a surface on the output, its left top at this place."""
         self.must("O", "m", struct.pack("<H2I", id, x, y))
 
     def fill(self, id: int, colour: bytes, rects: typing.Iterable[Rect]) -> None:
@@ -279,15 +292,19 @@ class LiveServer(Program):
         self.must("O", "f", struct.pack("<H", id), colour, rects_of(rects))
 
     def copy(self, source: int, to: int, rect: Rect, points: typing.Iterable[Point]) -> None:
+        """Copies a rectangle of a surface to points of a surface."""
         self.must("O", "c", struct.pack("<6H", source, to, *rect), points_of(points))
 
     def keep(self, id: int, key: int, rect: Rect) -> None:
+        """Keeps a rectangle of a surface as the bitmap under a key."""
         self.must("O", "k", struct.pack("<HQ4H", id, key, *rect))
 
     def show(self, key: int, to: int, points: typing.Iterable[Point]) -> None:
+        """Puts the bitmap under a key at points of a surface."""
         self.must("O", "w", struct.pack("<QH", key, to), points_of(points))
 
     def forget(self, key: int) -> None:
+        """Lets go of the bitmap under a key."""
         self.must("O", "g", struct.pack("<Q", key))
 
     def paint(self, id: int, x: int, y: int, width: int, height: int, pixels: Pixels, kind: str = "auto",
@@ -296,6 +313,7 @@ class LiveServer(Program):
         self.must("O", "p", paint_front(id, x, y, width, height, kind, glyph), pixels)
 
     def improve(self, id: int) -> None:
+        """Improves by a level what a surface shows of pictures in passes."""
         self.must("O", "i", struct.pack("<H", id))
 
     def frame(self) -> None:

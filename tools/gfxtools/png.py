@@ -11,12 +11,12 @@ MOST_SIDE = 65535
 LEAST_CHUNK = 1 << 16  # bytes, but for the last
 
 
-def chunk(name, data):
+def chunk(name: bytes, data: bytes) -> bytes:
     """A chunk of a PNG: its length, its name, its data, a checksum of both."""
     return struct.pack(">I", len(data)) + name + data + struct.pack(">I", zlib.crc32(name + data))
 
 
-def scanline(pixels, has_alpha, scale):
+def scanline(pixels: bytes, has_alpha: bool, scale: int) -> bytes:
     """A row of a PNG: no filter, then red, green, blue and perhaps alpha of each pixel."""
     size = 4 if has_alpha else 3
     row = bytearray(1 + size * scale * (len(pixels) // 4))
@@ -33,7 +33,8 @@ class Chunks:
     def __init__(self, file):
         self.file, self.held, self.size = file, [], 0
 
-    def add(self, packed, least=LEAST_CHUNK):
+    def add(self, packed: bytes, least: int = LEAST_CHUNK) -> None:
+        """Takes what the compressor gave. A chunk is written once there are so many bytes."""
         self.held.append(packed)
         self.size += len(packed)
         if self.size >= least:
@@ -61,11 +62,11 @@ def write(file: typing.Any, title: str, sides: typing.Tuple[int, int], rows: typ
     file.write(chunk(b"IEND", b""))
 
 
-def write_picture(file: typing.Any, picture: dump.Picture, scale: int = 1, level: int = 9) -> None:
-    """Writes a PNG of a picture of a dump."""
+def write_picture(file: typing.Any, picture: dump.Shape, scale: int = 1, level: int = 9) -> None:
+    """Writes a PNG of a picture that has rows."""
     write(file, picture.title, picture.sides, picture.rows(), picture.has_alpha, scale, level)
 
 
-def scale_of(word):
+def scale_of(word: str) -> int:
     """The number behind --scale."""
     return entry.number_of(1, MOST_SCALE)(word)

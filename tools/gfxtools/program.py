@@ -7,7 +7,7 @@ import tempfile
 import threading
 import typing
 
-from . import entry, limits
+from . import entry, limits, script_text
 from .entry import Wrong
 
 ROOT = os.path.dirname(os.path.dirname(os.path.dirname(os.path.abspath(__file__))))
@@ -18,9 +18,10 @@ HELP = "the program; without it that of GFXPIPE, or the one that is built in thi
 # The lines on the standard error where an input is refused (docs/RUNNING.md).
 MESSAGE = re.compile(r"message (\d+): (\d+) (\w+)\Z")
 SCRIPT = re.compile(r"script: (?:step (\d+): )?(\w+)\Z")
+KEPT = re.compile(r"kept: (\d+) (\w+)\Z")
 
 
-def place_of(named):
+def place_of(named: typing.Optional[str]) -> str:
     """The program's file: the one that is named, else that of GFXPIPE, else the one that is built here."""
     named = named or os.environ.get("GFXPIPE")
     place = named or BUILT
@@ -36,7 +37,7 @@ class Running:
     """A run of the program, whose output is read as a file while it comes. An exit number other than 0 is a fault,
     which is told at the output's end."""
 
-    def __init__(self, place, words, pieces, name):
+    def __init__(self, place: str, words: typing.List[str], pieces: typing.Iterable, name: str) -> None:
         self.words, self.name, self.said = words, name, tempfile.TemporaryFile()
         try:
             self.process = subprocess.Popen([place, *words], stdin=subprocess.PIPE, stdout=subprocess.PIPE,
@@ -54,10 +55,12 @@ class Running:
         except OSError:
             pass
 
-    def read(self, size):
+    def read(self, size: int) -> bytes:
+        """The next bytes of the output, so many where there are; none at its end."""
         return self.process.stdout.read(size) or self.at_end()
 
-    def readline(self, size):
+    def readline(self, size: int) -> bytes:
+        """The next line of the output with its newline, or so many bytes of it; nothing at its end."""
         return self.process.stdout.readline(size) or self.at_end()
 
     def at_end(self):
@@ -82,7 +85,9 @@ class Running:
 
 
 class Program:
-    def __init__(self, named=None):
+    """The program, as `place_of` finds it."""
+
+    def __init__(self, named: typing.Optional[str] = None) -> None:
         self.place = place_of(named)
 
     def start(self, words: typing.List[str], pieces: typing.Iterable, name: str) -> Running:
@@ -90,8 +95,8 @@ class Program:
         return Running(self.place, words, pieces, name)
 
     def encoded(self, script: bytes, name: str) -> bytes:
-        """The recording of a script."""
-        running = self.start(["encode"], [script], name)
+        """The recording of a script, whose PNGs are written out first; the name is its file's."""
+        running = self.start(["encode"], [script_text.with_pictures(script, name)], name)
         try:
             return entry.all_of(running, f"{name}: the recording of this script", limits.MOST_STREAM)
         finally:

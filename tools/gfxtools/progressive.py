@@ -18,12 +18,12 @@ class Fault(Exception):
 
 
 class Blocks:
-    """What the blocks of a message hold: tiles by kind, their cells, and the rectangle around its regions'
-    rectangles. Where they are refused, `refusal` says so."""
+    """What the blocks of a message hold: how many tiles there are of each kind, the kind and the cell of each, and the
+    rectangle around its regions' rectangles. Where they are refused, `refusal` says so."""
 
     def __init__(self):
         self.tiles = {"simple": 0, "first": 0, "difference": 0, "upgrade": 0}
-        self.cells = []
+        self.placed = []
         self.levels = 0
         self.rectangle = None
         self.refusal = None
@@ -39,7 +39,7 @@ class Blocks:
         difference = kind != UPGRADE and head[5] & 1
         name = "upgrade" if kind == UPGRADE else "difference" if difference else "simple" if kind == SIMPLE else "first"
         self.tiles[name] += 1
-        self.cells.append(head[3:5])
+        self.placed.append((name, head[3:5]))
 
 
 def block_at(data, at):
@@ -84,7 +84,7 @@ def read_region(body, found):
     read_tiles(body[tables:], tiles, found)
 
 
-def read(data):
+def read(data: bytes) -> Blocks:
     """What the blocks of a message hold, up to the first that is refused."""
     found, at = Blocks(), 0
     try:

@@ -1,6 +1,8 @@
 """Recordings: channel messages, their payloads, and the server's messages in them (docs/FORMATS.md)."""
 
+import functools
 import struct
+import typing
 
 from . import progressive
 
@@ -49,7 +51,7 @@ class Channel:
     """A channel message: where its length stands, its bytes, and of its payload the pieces of content, each with
     the place in the recording at which it begins."""
 
-    def __init__(self, offset, data):
+    def __init__(self, offset: int, data: bytes) -> None:
         self.offset, self.data = offset, data
         self.pieces = []
         self.refusal = None
@@ -59,15 +61,15 @@ class Channel:
             self.refusal = refused.refusal
 
     @property
-    def end(self):
+    def end(self) -> int:
         """Where the next channel message stands."""
         return self.offset + 4 + len(self.data)
 
-    @property
+    @functools.cached_property
     def payload(self):
         return self.pieces[0][1] if len(self.pieces) == 1 else b"".join(content for _, content in self.pieces)
 
-    def place(self, at):
+    def place(self, at: int) -> int:
         """Where a byte of the payload stands in the recording."""
         for begin, content in self.pieces:
             if at < len(content):
@@ -112,12 +114,12 @@ def blocks(data, begin):
         raise Refused("SegmentSize")
 
 
-def is_length(front):
+def is_length(front: bytes) -> bool:
     """Whether four bytes are the length of a channel message."""
     return len(front) == 4 and 1 <= struct.unpack("<I", front)[0] <= MOST_MESSAGE
 
 
-def channels(file):
+def channels(file: typing.BinaryIO) -> typing.Iterator[Channel]:
     """The channel messages of a recording. Where it breaks off there is a last refusal, with where that is."""
     offset = 0
     while front := file.read(4):
@@ -133,40 +135,15 @@ def channels(file):
         offset += 4 + length
 
 
-# What the first bytes of something else look like.
-FRONTS = (
-    (b"\x89PNG", "a PNG"), (b"\xd4\xc3\xb2\xa1", "a capture of the network (pcap)"),
-    (b"\x4d\x3c\xb2\xa1", "a capture of the network (pcap)"), (b"\n\r\r\n", "a capture of the network (pcapng)"),
-    (b"\xfd7zX", "an .xz file"), (b"\x1f\x8b", "a .gz file"), (b"PK\3\4", "a .zip file"),
-    (b"surf", "a dump of render"), (b"outp", "a dump of render"),
-    (b"\xe0\x04", "channel messages without their lengths"), (b"\xe0\x24", "channel messages without their lengths"),
-)
-
-
-TEXT = "a text, as a script is"
-
-
-def likeness(front):
-    """What a file may be whose first four bytes are no length of a channel message, or nothing."""
-    for begin, name in FRONTS:
-        if front.startswith(begin):
-            return name
-    return TEXT if front and front[0] < 127 and all(byte in b"\t\n\r" or byte >= 32 for byte in front) else ""
-
-
-def looks_otherwise(data):
-    """What bytes that should be a script are by their front, if that is something else, or nothing."""
-    like = "a recording" if is_length(data[:4]) else likeness(data[:4])
-    return "" if like == TEXT else like
-
-
 def is_script(data):
     """Whether bytes are a script and no recording. The fourth sign of a text is above that of all lengths of channel
     messages, so no recording begins as a text does."""
-    return len(data) >= 4 and data[3] >= 9 and likeness(data[:4]) == TEXT
+    front = data[:4]
+    return len(front) == 4 and front[3] >= 9 and front[0] < 127 and all(byte in b"\t\n\r" or byte >= 32
+                                                                        for byte in front)
 
 
-def wrap(payload):
+def wrap(payload: bytes) -> bytes:
     """A channel message of this payload, behind its length."""
     if len(payload) <= MOST_BLOCK:
         data = struct.pack("<BB", SINGLE, RDP8) + payload
@@ -190,7 +167,8 @@ class Message:
         self.offset = channel.place(at) if channel.pieces else channel.offset
         self.number = self.frame = None
 
-    def get(self, key):
+    def get(self, key: str) -> typing.Any:
+        """What the body says of this name, or None."""
         return self.says.get(key)
 
 
@@ -374,7 +352,7 @@ def messages_of(channel):
         at += size
 
 
-def messages(channels):
+def messages(channels: typing.Iterable[Channel]) -> typing.Iterator[Message]:
     """All messages of channel messages, numbered from 1, each with the frame that is open."""
     number, frame = 0, None
     for channel in channels:

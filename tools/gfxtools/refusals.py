@@ -75,6 +75,9 @@ PAGES = (
     (60, "docs/PROFILE.md, \"Refusals\""),
 )
 
+# Refusals of which docs/TROUBLESHOOTING.md has a heading.
+TROUBLES = ("SegmentSize", "BulkCompressed", "PduUnknown", "CodecRefused", "CapsVersion")
+
 SCRIPT_FAULTS = {
     "Toml": "the text isn't UTF-8, or no TOML",
     "Key": "a key or a word is unknown or missing, or has a value of another type",
@@ -92,14 +95,18 @@ SCRIPT_FAULTS = {
 }
 
 
-def told(name):
+def told(name: str) -> str:
     """A refusal as the program tells it: its number and name."""
     return f"{NUMBERS[name]} {name}"
 
 
-def why(name):
+def why(name: str) -> str:
+    """Why a refusal comes, in words."""
     return NAMES[NUMBERS[name]][1]
 
 
 def page(name):
+    """Which page, and which part of it, explains a refusal."""
+    if name in TROUBLES:
+        return f"docs/TROUBLESHOOTING.md, \"{name}\""
     return next(page for last, page in PAGES if NUMBERS[name] <= last)

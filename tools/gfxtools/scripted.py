@@ -5,8 +5,8 @@ import functools
 import typing
 
 from . import live, toml
+from .limits import VERSIONS
 
-VERSIONS = {"8": 0x00080004, "8.1": 0x00080105, "10": 0x000A0002}
 SMALL, THIN, AVC_DISABLED = 2, 1, 0x20
 USUAL_BASE, USUAL_LEFT_OUT = [6] * 10, [4] * 10
 OPAQUE = b"\xff"

@@ -4,6 +4,7 @@ the program takes; Python's own reader knows TOML 1.0 alone, and no places."""
 import json
 import math
 import re
+import typing
 
 MOST_DEEP = 80  # arrays and inline tables in one another, and parts of a key
 MOST_WHOLE = 2**63
@@ -58,11 +59,12 @@ class Table(dict):
 
     __slots__ = ("at", "places", "made")
 
-    def __init__(self, at, made):
+    def __init__(self, at: int, made: int) -> None:
         super().__init__()
         self.at, self.made, self.places = at, made, {}
 
-    def put(self, key, at, value):
+    def put(self, key: str, at: int, value: typing.Any) -> None:
+        """Sets the value under a key that stands at this place."""
         self[key] = value
         self.places[key] = at
 
@@ -83,12 +85,12 @@ def front(text):
     return text if len(text) <= 40 else text[:40] + ".."
 
 
-def quoted(text):
+def quoted(text: str) -> str:
     """A text in quotes, on one line."""
     return json.dumps(front(text), ensure_ascii=False)
 
 
-def named(key):
+def named(key: str) -> str:
     """A key as it would be written."""
     return front(key) if BARE.fullmatch(key) else quoted(key)
 
@@ -393,7 +395,7 @@ def header_at(text, at):
     return parts, brackets == 2, behind + brackets
 
 
-def read(text):
+def read(text: str) -> Table:
     """The table that a text is. A mark of the order of bytes may stand in front."""
     at = 1 if text.startswith("\ufeff") else 0
     root = Table(at, HEADER)
@@ -412,6 +414,6 @@ def read(text):
     return root
 
 
-def place_of(text, at):
+def place_of(text: str, at: int) -> typing.Tuple[int, int]:
     """The line and the column of a sign, from 1."""
     return text.count("\n", 0, at) + 1, at - (text.rfind("\n", 0, at) + 1) + 1

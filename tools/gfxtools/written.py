@@ -24,12 +24,15 @@ class File:
         self.is_kept = True
 
     def write(self, data: bytes) -> None:
+        """Writes all of these bytes."""
         self.guarded(self.file.write, data)
 
     def flush(self) -> None:
+        """Hands what was written to the system."""
         self.guarded(self.file.flush)
 
     def fileno(self) -> int:
+        """The number of the open file."""
         return self.file.fileno()
 
     def drop(self) -> None:

@@ -10,6 +10,8 @@
 #define _GNU_SOURCE
 #include "session.h"
 
+#include <errno.h>
+#include <fcntl.h>
 #include <signal.h>
 #include <stdint.h>
 #include <stdio.h>
@@ -24,6 +26,7 @@
 #include <freerdp/error.h>
 #include <freerdp/freerdp.h>
 #include <freerdp/peer.h>
+#include <winpr/string.h>
 #include <winpr/synch.h>
 #include <winpr/wtsapi.h>
 
@@ -39,11 +42,22 @@ enum {
     MOST_TURNS = 8,          /* behind a frame */
     BETWEEN_FRAMES = 25,     /* milliseconds, at least */
     BEFORE_IMPROVING = 200,  /* of rest */
+    BETWEEN_POINTERS = 100,  /* looks at the pointer's form */
     BEFORE_GRAPHICS = 20000  /* till the first message of the client over the channel */
 };
 
 /* The surface, and what its pictures are told as. */
-enum { SURFACE = 1, XRGB = 0x20, ANY_KIND = 0, NO_GLYPH = 0xFFFF };
+enum { SURFACE = 1, XRGB = 0x20, NO_GLYPH = 0xFFFF };
+
+/* The kinds of pictures by which every pixel comes as it is. */
+enum { FIRST_EXACT = 1, LAST_EXACT = 5 };
+
+/* The protocol with NLA ([MS-RDPBCGR] 2.2.1.2.1). */
+enum { HYBRID = 2 };
+
+/* The most sides of a pointer's form, for clients that take large ones and for others, and the place where a client
+ * keeps it. */
+enum { MOST_LARGE = 96, MOST_SMALL = 32, POINTER_PLACE = 0, POINTER_BITS = 32 };
 
 typedef struct {
     const Share *share;
@@ -53,14 +67,17 @@ typedef struct {
     int signals; /* a file that has those by which share ends its sessions */
     SharedScreen *screen;
     Program server;
+    bool has_proved;           /* user and password, by NLA */
     bool is_known, is_refused; /* by its credentials */
     bool is_fed;               /* live_server has its server's end */
     bool is_rough;             /* something may show better by an `I` */
     bool has_ended;            /* and a line has said why */
-    uint64_t begun, last_frame, last_change;
+    uint64_t begun, last_frame, last_change, last_pointer;
     uint32_t frames, acknowledged;
     uint8_t *message; /* of the client, behind its length */
     size_t room;
+    int record; /* or -1 */
+    bool is_recorded; /* as long as it can be */
 } Session;
 
 typedef struct {
@@ -107,14 +124,33 @@ static bool is_same(const char *wanted, const char *given)
     return differences == 0;
 }
 
-/* With TLS the credentials come in the client's information, behind the call of Logon: so they are looked at here,
- * before anything of the display is sent. */
+/* With NLA the client has proved that it has the password before this is called, and has handed it over. Both are
+ * looked at again here, so that nothing hangs on the library's judgement alone. */
+static BOOL on_logon(freerdp_peer *peer, SEC_WINNT_AUTH_IDENTITY *identity, BOOL has_proved)
+{
+    Session *session = session_of(peer->context);
+    char *user = NULL, *password = NULL;
+    if (!has_proved)
+        return TRUE;
+    if (identity->User)
+        ConvertFromUnicode(CP_UTF8, 0, identity->User, (int)identity->UserLength, &user, 0, NULL, NULL);
+    if (identity->Password)
+        ConvertFromUnicode(CP_UTF8, 0, identity->Password, (int)identity->PasswordLength, &password, 0, NULL, NULL);
+    bool is_user = is_same(session->share->user, user);
+    session->has_proved = is_same(session->share->password, password) && is_user;
+    free(user);
+    free(password);
+    return session->has_proved;
+}
+
+/* With TLS alone the credentials come in the client's information, behind the call of Logon: so they are looked at
+ * here, before anything of the display is sent. */
 static BOOL on_connected(freerdp_peer *peer)
 {
     Session *session = session_of(peer->context);
     bool is_user = is_same(session->share->user, peer->settings->Username);
     bool has_password = is_same(session->share->password, peer->settings->Password);
-    session->is_known = is_user && has_password;
+    session->is_known = session->has_proved || (is_user && has_password);
     session->is_refused = !session->is_known;
     if (session->is_refused) {
         sleep(1); /* So that not many can be tried. */
@@ -190,7 +226,8 @@ static bool set_words(const Session *session, rdpSettings *settings)
     settings->CertificateContent = strdup(session->share->certificate.certificate);
     settings->RdpSecurity = FALSE;
     settings->TlsSecurity = TRUE;
-    settings->NlaSecurity = FALSE;
+    settings->NlaSecurity = session->share->users != NULL;
+    settings->NtlmSamFile = session->share->users ? strdup(session->share->users) : NULL;
     settings->ColorDepth = 32;
     settings->SupportGraphicsPipeline = TRUE;
     settings->RefreshRect = TRUE;
@@ -212,6 +249,7 @@ static bool open_peer(Session *session, int connection)
     ((Context *)peer->context)->session = session;
     session->manager = WTSOpenServerA((LPSTR)peer->context);
     peer->Capabilities = on_capabilities;
+    peer->Logon = on_logon;
     peer->PostConnect = on_connected;
     peer->Activate = on_activated;
     peer->input->SynchronizeEvent = on_synchronize;
@@ -251,6 +289,42 @@ static void stop_server(Session *session)
     program_end(&session->server);
 }
 
+static bool write_all(int file, const uint8_t *bytes, size_t size)
+{
+    while (size) {
+        ssize_t done = write(file, bytes, size);
+        if (done < 0 && errno == EINTR)
+            continue;
+        if (done <= 0)
+            return false;
+        bytes += done;
+        size -= (size_t)done;
+    }
+    return true;
+}
+
+/* A message behind its length is one of a recording as it stands; that which takes none of a client's kept bitmaps
+ * belongs in none. The file is made with the first of them, so that who
+ * only looks whether somebody listens leaves none. Where it can't be written, the session goes on. */
+static void record(Session *session, const uint8_t *bytes, size_t size)
+{
+    static const uint8_t takes_none[] = {12, 0, 0, 0, 0xE0, 4, 0x11, 0, 0, 0, 10, 0, 0, 0, 0, 0};
+    if (!session->is_recorded || (size == sizeof takes_none && memcmp(bytes, takes_none, size) == 0))
+        return;
+    if (session->record < 0)
+        session->record = open(session->share->record, O_WRONLY | O_CREAT | O_EXCL | O_CLOEXEC, 0600);
+    off_t before = session->record < 0 ? 0 : lseek(session->record, 0, SEEK_CUR);
+    if (session->record >= 0 && write_all(session->record, bytes, size))
+        return;
+    if (session->record < 0 && errno == EEXIST)
+        say("%s is there already, and isn't written over: nothing is recorded", session->share->record);
+    else
+        say("%s: %s: nothing more is recorded", session->share->record, strerror(errno));
+    if (session->record >= 0 && (before < 0 || ftruncate(session->record, before) < 0))
+        say("%s ends within a message", session->share->record);
+    session->is_recorded = false;
+}
+
 /* Each of the channel messages that stand here behind their lengths is sent as one. */
 static void send_messages(Session *session, uint8_t *bytes, size_t size)
 {
@@ -261,6 +335,7 @@ static void send_messages(Session *session, uint8_t *bytes, size_t size)
             end(session, "live_server's messages are cut");
             return;
         }
+        record(session, bytes, 4 + (size_t)length);
         if (!WTSVirtualChannelWrite(session->channel, (PCHAR)bytes + 4, length, &written)) {
             end(session, "the client takes no graphics any more");
             return;
@@ -315,7 +390,8 @@ static void turn(Session *session)
     }
 }
 
-static void begin_output(Session *session)
+/* Says the sides of the output, and that a surface is all of it. */
+static void push_output(Session *session)
 {
     uint32_t width = screen_width(session->screen), height = screen_height(session->screen);
     uint8_t body[16], *at = put_number(body, width, 4);
@@ -331,8 +407,28 @@ static void begin_output(Session *session)
     put_number(at, 0, 4);
     push(session, 'm', body, 10);
     screen_forget(session->screen);
+}
+
+static void begin_output(Session *session)
+{
+    push_output(session);
     session->is_fed = !session->has_ended;
     alarm(0); /* Up to here a client that says nothing had its time. */
+}
+
+/* Where the display has got other sides, the old surface goes, and the output begins anew. */
+static void follow_sides(Session *session)
+{
+    uint8_t body[2];
+    if (session->has_ended || !screen_has_resized(session->screen))
+        return;
+    if (!screen_resize(session->screen))
+        session->has_ended = true; /* A line has said why. */
+    else if (session->is_fed) {
+        put_number(body, SURFACE, 2);
+        push(session, 'd', body, sizeof body);
+        push_output(session);
+    }
 }
 
 static void push_piece(Session *session, const Piece *piece)
@@ -342,7 +438,7 @@ static void push_piece(Session *session, const Piece *piece)
     at = put_number(at, piece->y, 2);
     at = put_number(at, piece->width, 2);
     at = put_number(at, piece->height, 2);
-    at = put_number(at, ANY_KIND, 1);
+    at = put_number(at, session->share->kind, 1);
     put_number(at, NO_GLYPH, 2);
     must(session, 'O', 'p', (const Part[]){{front, sizeof front}, {piece->pixels, piece->size}}, 2);
 }
@@ -355,11 +451,27 @@ static void send_frame(Session *session)
     session->last_frame = now();
 }
 
+static void push_move(Session *session, const Move *move)
+{
+    const uint16_t numbers[] = {SURFACE,     SURFACE,      move->left, move->top,
+                                move->right, move->bottom, move->to_x, move->to_y};
+    uint8_t body[16], *at = body;
+    for (size_t i = 0; i < sizeof numbers / sizeof *numbers; i++)
+        at = put_number(at, numbers[i], 2);
+    push(session, 'c', body, sizeof body);
+}
+
+/* What windows have shown is copied to where they are now, and what differs then is sent. */
 static void push_changes(Session *session)
 {
+    Move move;
     Piece piece;
     bool has_pushed = false;
     screen_grab(session->screen);
+    while (!session->has_ended && screen_take_move(session->screen, &move)) {
+        push_move(session, &move);
+        has_pushed = true;
+    }
     while (!session->has_ended && screen_take(session->screen, &piece)) {
         push_piece(session, &piece);
         has_pushed = true;
@@ -480,13 +592,65 @@ static void hear_channels(Session *session)
         hear_client(session);
 }
 
+/* ---- The pointer */
+
+/* Each row of bits of a pointer's mask has whole pairs of bytes. */
+static size_t mask_row(size_t width)
+{
+    return (width + 15) / 16 * 2;
+}
+
+/* The rows go from the bottom. The mask says which pixels nothing shows of ([MS-RDPBCGR] 2.2.9.1.1.4.4). */
+static void put_form(const PointerForm *form, uint8_t *colours, uint8_t *mask)
+{
+    size_t row = (size_t)form->width * 4;
+    for (size_t y = 0; y < form->height; y++) {
+        const uint8_t *from = form->pixels + (form->height - 1 - y) * row;
+        memcpy(colours + y * row, from, row);
+        for (size_t x = 0; x < form->width; x++)
+            if (from[4 * x + 3] == 0)
+                mask[y * mask_row(form->width) + x / 8] |= (uint8_t)(0x80 >> x % 8);
+    }
+}
+
+/* The client shows it from now on, at the place that the person there has it. */
+static void send_pointer(Session *session)
+{
+    static uint8_t colours[MOST_LARGE * MOST_LARGE * 4], mask[MOST_LARGE * MOST_LARGE / 8];
+    freerdp_peer *peer = session->peer;
+    PointerForm form;
+    if (session->has_ended || !session->is_known || !peer->activated || peer->settings->PointerCacheSize == 0 ||
+        now() < session->last_pointer + BETWEEN_POINTERS)
+        return;
+    session->last_pointer = now();
+    uint16_t most = peer->settings->LargePointerFlag ? MOST_LARGE : MOST_SMALL;
+    if (!screen_take_pointer(session->screen, most, &form))
+        return;
+    if (!form.pixels) {
+        POINTER_SYSTEM_UPDATE usual = {SYSPTR_DEFAULT};
+        peer->update->pointer->PointerSystem(peer->context, &usual);
+        return;
+    }
+    memset(mask, 0, sizeof mask);
+    put_form(&form, colours, mask);
+    POINTER_NEW_UPDATE update = {
+        .xorBpp = POINTER_BITS,
+        .colorPtrAttr = {.cacheIndex = POINTER_PLACE, .xPos = form.x, .yPos = form.y, .width = form.width,
+                         .height = form.height, .xorMaskData = colours, .andMaskData = mask,
+                         .lengthXorMask = (UINT32)form.width * form.height * 4,
+                         .lengthAndMask = (UINT32)mask_row(form.width) * form.height}};
+    peer->update->pointer->PointerNew(peer->context, &update);
+}
+
 /* ---- The loop */
 
 /* Milliseconds until there is something to do of which no handle tells. */
-static DWORD longest_wait(const Session *session, bool wants_frame)
+static DWORD longest_wait(Session *session, bool wants_frame)
 {
-    uint64_t at = now(), due = at + 1000;
-    if (session->is_fed && wants_frame)
+    uint64_t at = now(), due = at + BETWEEN_POINTERS;
+    if (screen_has_events(session->screen))
+        due = at;
+    else if (session->is_fed && wants_frame)
         due = session->last_frame + BETWEEN_FRAMES;
     else if (session->is_fed && session->is_rough)
         due = session->last_change + BEFORE_IMPROVING;
@@ -515,8 +679,19 @@ static void hear_connection(Session *session)
         hear_channels(session);
     else if (session->is_refused)
         end(session, "the client has another user or password");
-    else
+    else if (session->peer->settings->SelectedProtocol == HYBRID && !session->has_proved) {
+        sleep(1);
+        end(session, "the client didn't log on: it has another user or password, or doesn't take the certificate");
+    } else
         end(session, "the client has gone");
+}
+
+/* What went in passes and was copied, or painted over in part, is as rough as it was, and nothing improves it any more:
+ * so it is sent again where the display has rested. */
+static bool has_rough_parts(Session *session)
+{
+    bool is_exact = session->share->kind >= FIRST_EXACT && session->share->kind <= LAST_EXACT;
+    return !is_exact && screen_renew(session->screen);
 }
 
 /* Where a frame may go: what has changed, or, where nothing has for a while, what may show better. Answers whether
@@ -524,6 +699,8 @@ static void hear_connection(Session *session)
 static bool make_frame(Session *session)
 {
     bool has_changed = screen_has_changed(session->screen);
+    follow_sides(session);
+    send_pointer(session);
     uint64_t at = now();
     if (!session->is_fed || session->has_ended)
         return false;
@@ -533,7 +710,7 @@ static bool make_frame(Session *session)
         return has_changed;
     if (ask(session, '?', NULL, 0) != 'Y')
         return false;
-    if (has_changed)
+    if (has_changed || has_rough_parts(session))
         push_changes(session);
     else
         push_improvement(session);
@@ -605,12 +782,14 @@ static void close_session(Session *session)
         freerdp_peer_free(session->peer);
     }
     screen_close(session->screen);
+    if (session->record >= 0)
+        close(session->record);
     free(session->message);
 }
 
 int session_run(const Share *share, int connection, const char *client)
 {
-    Session session = {.share = share, .begun = now()};
+    Session session = {.share = share, .begun = now(), .record = -1, .is_recorded = share->record};
     say_as("share: %s", client);
     bool is_open = open_session(&session, connection);
     if (is_open)

@@ -10,6 +10,9 @@
 typedef struct {
     const char *display, *user, *password;
     const char *server, *sandbox; /* live_server, and what is laid over it */
+    const char *users;            /* the file by which NLA knows the user and the password, or NULL without NLA */
+    const char *record;           /* the file for what is sent, or NULL */
+    uint8_t kind;                 /* of the pictures, as a `p` has it */
     Certificate certificate;
 } Share;
 

@@ -13,6 +13,7 @@
 #include <stdio.h>
 #include <stdlib.h>
 #include <string.h>
+#include <sys/mman.h>
 #include <sys/prctl.h>
 #include <sys/socket.h>
 #include <sys/wait.h>
@@ -20,6 +21,8 @@
 #include <unistd.h>
 
 #include <freerdp/channels/channels.h>
+#include <winpr/ntlm.h>
+#include <winpr/ssl.h>
 #include <winpr/wlog.h>
 #include <winpr/wtsapi.h>
 
@@ -28,7 +31,7 @@
 #include "screen.h"
 #include "session.h"
 
-enum { DEFAULT_PORT = 3389, MOST_CLIENTS = 16, WAITING = 8 };
+enum { DEFAULT_PORT = 3389, MOST_CLIENTS = 16, WAITING = 8, MOST_PASSWORD = 255 };
 
 /* Seconds: till the first graphics of a client, till one is lost that takes nothing any more, and till one is killed
  * where share ends. */
@@ -36,16 +39,18 @@ enum { BEFORE_CLIENT = 30, BEFORE_LOST = 30, BEFORE_KILLED = 4 };
 
 static const char usage[] =
     "share --display NAME --user NAME [--password WORD] [--listen ADDRESS] [--port N]\n"
-    "      [--certificate FILE --key FILE] [--server PATH]\n"
+    "      [--certificate FILE --key FILE] [--kind KIND] [--record FILE] [--server PATH]\n"
     "\n"
     "Shares the X display of that name with clients of Remote Desktop, at port 3389 of 127.0.0.1 unless other words\n"
     "say so. Without --password the password is what SHARE_PASSWORD says. Without --certificate one is made. The\n"
     "server's end is live_server at PATH, crates/live_server/out/live_server of this repository where none is named.\n"
-    "It goes on until it is interrupted. README.md of tools/live says more.\n";
+    "Pictures go as raw, residual, bands, plain, progressive or video where KIND is one of these, else as what costs\n"
+    "least. --record writes what each client is sent as a recording. It goes on until it is interrupted. README.md of\n"
+    "tools/live says more.\n";
 
 typedef struct {
     Share share;
-    const char *address, *certificate, *key;
+    const char *address, *certificate, *key, *record;
     long port;
 } Words;
 
@@ -53,6 +58,7 @@ typedef struct {
 typedef struct {
     pid_t pids[MOST_CLIENTS];
     int count;
+    unsigned began; /* so many in all */
 } Clients;
 
 static volatile sig_atomic_t has_to_end;
@@ -88,6 +94,16 @@ static const char *take_password(char *given)
     return taken;
 }
 
+static uint8_t read_kind(const char *given)
+{
+    static const struct { const char *name; uint8_t kind; } kinds[] = {
+        {"raw", 1}, {"residual", 2}, {"bands", 3}, {"plain", 5}, {"progressive", 6}, {"video", 7}};
+    for (size_t i = 0; i < sizeof kinds / sizeof *kinds; i++)
+        if (strcmp(given, kinds[i].name) == 0)
+            return kinds[i].kind;
+    be_wrong("--kind is raw, residual, bands, plain, progressive or video");
+}
+
 static void read_words(Words *words, int count, char **given)
 {
     static const struct option options[] = {
@@ -95,6 +111,7 @@ static void read_words(Words *words, int count, char **given)
         {"password", required_argument, NULL, 'p'}, {"listen", required_argument, NULL, 'l'},
         {"port", required_argument, NULL, 'P'}, {"certificate", required_argument, NULL, 'c'},
         {"key", required_argument, NULL, 'k'}, {"server", required_argument, NULL, 's'},
+        {"kind", required_argument, NULL, 'K'}, {"record", required_argument, NULL, 'r'},
         {"help", no_argument, NULL, 'h'}, {NULL, 0, NULL, 0}};
     opterr = 0;
     for (int option; (option = getopt_long(count, given, "", options, NULL)) >= 0;)
@@ -106,6 +123,8 @@ static void read_words(Words *words, int count, char **given)
         case 'c': words->certificate = optarg; break;
         case 'k': words->key = optarg; break;
         case 's': words->share.server = optarg; break;
+        case 'K': words->share.kind = read_kind(optarg); break;
+        case 'r': words->record = optarg; break;
         case 'P': words->port = read_number(optarg, 1, 65535, "--port is 1 to 65535"); break;
         case 'h':
             fputs(usage, stdout);
@@ -120,6 +139,31 @@ static void read_words(Words *words, int count, char **given)
         be_wrong("the password is missing: --password, or SHARE_PASSWORD in the environment");
     if (!words->certificate != !words->key)
         be_wrong("--certificate and --key go together");
+}
+
+/* ---- NLA */
+
+/* The user and the hash of the password, as a line of the file by which the library's server knows who may log on. It
+ * stands in memory. Where there is no such line, NLA is left out. */
+static const char *make_users(const Share *share)
+{
+    static char name[40];
+    char password[MOST_PASSWORD + 1];
+    BYTE hash[16];
+    size_t size = strlen(share->password);
+    if (strpbrk(share->user, ":\r\n") || size > MOST_PASSWORD || size == 0)
+        return NULL;
+    winpr_InitializeSSL(WINPR_SSL_INIT_DEFAULT); /* The hash is of a kind that OpenSSL else leaves out. */
+    int file = memfd_create("users", MFD_CLOEXEC);
+    strcpy(password, share->password);
+    if (file < 0 || !NTOWFv1A(password, (UINT32)size, hash))
+        return NULL;
+    dprintf(file, "%s:::", share->user);
+    for (size_t i = 0; i < sizeof hash; i++)
+        dprintf(file, "%02x", hash[i]);
+    dprintf(file, ":::\n");
+    snprintf(name, sizeof name, "/proc/self/fd/%d", file);
+    return name;
 }
 
 /* ---- Listening */
@@ -166,18 +210,22 @@ static void watch(int connection)
     setsockopt(connection, IPPROTO_TCP, TCP_USER_TIMEOUT, &milliseconds, sizeof milliseconds);
 }
 
-/* In the process of a client: it ends with share, and where the client doesn't come to graphics, by the alarm. */
-static _Noreturn void be_session(const Words *words, int connection, const char *name, pid_t parent)
+/* In the process of a client, by its number: it ends with share, and where the client doesn't come to graphics, by the
+ * alarm. */
+static _Noreturn void be_session(Words *words, int connection, const char *name, unsigned number, pid_t parent)
 {
+    char record[4096];
     signal(SIGCHLD, SIG_DFL);
     alarm(BEFORE_CLIENT);
     watch(connection);
     prctl(PR_SET_PDEATHSIG, SIGTERM);
     if (getppid() != parent)
         _exit(1);
-    int number = session_run(&words->share, connection, name);
+    snprintf(record, sizeof record, number > 1 ? "%s.%u" : "%s", words->record ? words->record : "", number);
+    words->share.record = words->record ? record : NULL;
+    int ended = session_run(&words->share, connection, name);
     fflush(NULL);
-    _exit(number);
+    _exit(ended);
 }
 
 static void forget(Clients *clients, pid_t pid)
@@ -198,7 +246,7 @@ static void hear_ends(Clients *clients)
             say("the process %d of a client was ended by signal %d", (int)pid, WTERMSIG(status));
 }
 
-static void begin_client(const Words *words, Clients *clients, int listener, int connection,
+static void begin_client(Words *words, Clients *clients, int listener, int connection,
                          const struct sockaddr_storage *from)
 {
     char name[80];
@@ -207,15 +255,16 @@ static void begin_client(const Words *words, Clients *clients, int listener, int
     pid_t pid = fork();
     if (pid == 0) {
         close(listener);
-        be_session(words, connection, name, parent);
+        be_session(words, connection, name, clients->began + 1, parent);
     }
+    clients->began += pid > 0;
     if (pid > 0)
         clients->pids[clients->count++] = pid;
     else
         say("%s can't be served: %s", name, strerror(errno));
 }
 
-static void accept_client(const Words *words, Clients *clients, int listener)
+static void accept_client(Words *words, Clients *clients, int listener)
 {
     struct sockaddr_storage from;
     socklen_t size = sizeof from;
@@ -230,7 +279,7 @@ static void accept_client(const Words *words, Clients *clients, int listener)
 }
 
 /* Signals come only while it waits for clients, so that none is missed before. */
-static void serve_clients(const Words *words, Clients *clients, int listener)
+static void serve_clients(Words *words, Clients *clients, int listener)
 {
     struct pollfd here = {.fd = listener, .events = POLLIN};
     sigset_t none;
@@ -305,6 +354,7 @@ int main(int count, char **given)
     bool is_ready = words.certificate
                         ? certificate_read(&words.share.certificate, words.certificate, words.key)
                         : certificate_make(&words.share.certificate);
+    words.share.users = make_users(&words.share);
     hear_signals();
     if (!getenv("WLOG_LEVEL"))
         WLog_SetLogLevel(WLog_GetRoot(), WLOG_OFF);

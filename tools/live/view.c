@@ -12,6 +12,7 @@
 #include <stdio.h>
 #include <stdlib.h>
 #include <string.h>
+#include <termios.h>
 #include <time.h>
 #include <unistd.h>
 
@@ -24,6 +25,7 @@
 #include <winpr/wlog.h>
 
 #include "channel.h"
+#include "pointer.h"
 #include "program.h"
 #include "say.h"
 #include "window.h"
@@ -35,20 +37,25 @@ enum {
     BETWEEN_PICTURES = 40,  /* milliseconds, where messages keep coming */
     LONGEST_WAIT = 100,
     BEFORE_GRAPHICS = 20000, /* till the first frame */
-    BEFORE_OPENING = 5000    /* of a channel that was closed */
+    BEFORE_OPENING = 5000,   /* of a channel that was closed */
+    MOST_LINE = 512          /* bytes that somebody types */
 };
 
 /* The exit numbers. */
 enum { CLOSED = 0, FAILED = 1, WRONG_WORDS = 2, SERVER_GONE = 3, CLIENT_GONE = 4 };
+
+/* The protocol with NLA ([MS-RDPBCGR] 2.2.1.2.1). */
+enum { HYBRID = 2 };
 
 static const char usage[] =
     "view HOST[:PORT] [--user NAME] [--password WORD] [--trust] [--size WIDTHxHEIGHT]\n"
     "     [--record FILE] [--picture FILE] [--client PATH]\n"
     "\n"
     "Shows a session of Remote Desktop in a window, drawn by live_client at PATH, which is that of crates/live_client\n"
-    "of this repository where none is named. Without --password the password is what VIEW_PASSWORD says. --trust\n"
-    "takes any certificate; otherwise one that isn't known is asked about. --record writes what the server sends as a\n"
-    "recording, and --picture the last picture, as `render --output` does. README.md of tools/live says more.\n";
+    "of this repository where none is named. Without --password the password is what VIEW_PASSWORD says, or what is\n"
+    "typed on the terminal; NAME may have a domain, as DOMAIN\\NAME. --trust takes any certificate; otherwise one\n"
+    "that isn't known is asked about. --record writes what the server sends as a recording, and --picture the last\n"
+    "picture, as `render --output` does. README.md of tools/live says more.\n";
 
 typedef struct {
     uint16_t sides[4]; /* left, top, right, bottom */
@@ -69,7 +76,7 @@ typedef struct {
     int record; /* or -1 */
     uint32_t openings;        /* of the channel */
     bool is_open, is_written; /* the channel; something that isn't drawn yet */
-    bool is_untrusted;        /* the server's certificate, which was told */
+    bool is_told;             /* why there is no connection */
     Rect rects[MOST_RECTS];
     uint32_t first, count; /* of the rectangles that are to be drawn */
     uint64_t begun, closed, last_picture;
@@ -452,20 +459,14 @@ PASS_OVER(on_bitmap, BITMAP_UPDATE)
 PASS_OVER(on_palette, PALETTE_UPDATE)
 PASS_OVER(on_surface_bits, SURFACE_BITS_COMMAND)
 PASS_OVER(on_surface_marker, SURFACE_FRAME_MARKER)
-PASS_OVER(on_pointer_position, POINTER_POSITION_UPDATE)
-PASS_OVER(on_pointer_system, POINTER_SYSTEM_UPDATE)
-PASS_OVER(on_pointer_color, POINTER_COLOR_UPDATE)
-PASS_OVER(on_pointer_new, POINTER_NEW_UPDATE)
-PASS_OVER(on_pointer_cached, POINTER_CACHED_UPDATE)
-PASS_OVER(on_pointer_large, POINTER_LARGE_UPDATE)
 
 static BOOL on_connecting(freerdp *connection)
 {
     return freerdp_client_load_addins(connection->context->channels, connection->settings);
 }
 
-/* Pictures come over the graphics channel alone, and the pointer is the window's own; but the library ends the
- * connection at the first update that nobody takes. */
+/* Pictures come over the graphics channel alone; but the library ends the connection at the first update that nobody
+ * takes. */
 static BOOL on_connected(freerdp *connection)
 {
     rdpUpdate *update = connection->update;
@@ -476,12 +477,7 @@ static BOOL on_connected(freerdp *connection)
     update->Palette = on_palette;
     update->SurfaceBits = on_surface_bits;
     update->SurfaceFrameMarker = on_surface_marker;
-    update->pointer->PointerPosition = on_pointer_position;
-    update->pointer->PointerSystem = on_pointer_system;
-    update->pointer->PointerColor = on_pointer_color;
-    update->pointer->PointerNew = on_pointer_new;
-    update->pointer->PointerCached = on_pointer_cached;
-    update->pointer->PointerLarge = on_pointer_large;
+    pointer_take_over(update->pointer, view_of(connection)->picture);
     return freerdp_keyboard_init(connection->settings->KeyboardLayout) || TRUE;
 }
 
@@ -498,7 +494,7 @@ static DWORD ask_trust(freerdp *connection, const char *host, UINT16 port, const
             *answer = 0;
     }
     bool is_trusted = *answer == 'y' || *answer == 'Y';
-    view_of(connection)->is_untrusted = !is_trusted;
+    view_of(connection)->is_told = !is_trusted;
     return is_trusted ? 2 : 0;
 }
 
@@ -519,14 +515,67 @@ static DWORD on_changed_certificate(freerdp *connection, const char *host, UINT1
     return ask_trust(connection, host, port, "isn't the one that it had", fingerprint);
 }
 
+/* Asks for a line on the terminal; one that is secret isn't shown. Answers a text of its own, or NULL. */
+static char *ask_line(const char *what, bool is_secret)
+{
+    struct termios usual, silent;
+    char line[MOST_LINE];
+    is_secret = is_secret && tcgetattr(STDIN_FILENO, &usual) == 0;
+    fprintf(stderr, "view: %s: ", what);
+    if (is_secret) {
+        silent = usual;
+        silent.c_lflag &= ~(tcflag_t)ECHO;
+        tcsetattr(STDIN_FILENO, TCSAFLUSH, &silent);
+    }
+    bool is_read = fgets(line, sizeof line, stdin);
+    if (is_secret) {
+        tcsetattr(STDIN_FILENO, TCSAFLUSH, &usual);
+        fputc('\n', stderr);
+    }
+    line[is_read ? strcspn(line, "\n") : 0] = 0;
+    char *text = is_read ? strdup(line) : NULL;
+    explicit_bzero(line, sizeof line);
+    return text;
+}
+
+/* The library asks so where NLA wants a user and a password, and one of them wasn't said. */
+static BOOL on_credentials(freerdp *connection, char **user, char **password, char **domain)
+{
+    (void)domain;
+    if (!isatty(STDIN_FILENO)) {
+        say("the server wants a user and a password: --user, and --password or VIEW_PASSWORD in the environment");
+        view_of(connection)->is_told = true;
+        return FALSE;
+    }
+    if (!*user || !**user) {
+        free(*user);
+        *user = ask_line("user", false);
+    }
+    if (!*password || !**password) {
+        free(*password);
+        *password = ask_line("password", true);
+    }
+    return *user && *password;
+}
+
 /* ---- The connection */
+
+/* A user may have a domain, as DOMAIN\NAME or NAME@DOMAIN. */
+static bool set_user(const char *user, rdpSettings *settings)
+{
+    if (!user)
+        return true;
+    return freerdp_parse_username(user, &settings->Username, &settings->Domain) && settings->Username;
+}
 
 static bool set_words(const Words *words, rdpSettings *settings)
 {
     settings->ServerHostname = strdup(words->host);
     settings->ServerPort = (UINT32)words->port;
-    settings->Username = strdup(words->user ? words->user : "");
-    settings->Password = strdup(words->password ? words->password : "");
+    if (words->password)
+        settings->Password = strdup(words->password);
+    else if (words->user && isatty(STDIN_FILENO))
+        settings->Password = ask_line("password", true);
     settings->DesktopWidth = (UINT32)words->width;
     settings->DesktopHeight = (UINT32)words->height;
     settings->IgnoreCertificate = words->trusts;
@@ -541,7 +590,19 @@ static bool set_words(const Words *words, rdpSettings *settings)
     settings->SupportMultitransport = FALSE;
     settings->AutoReconnectionEnabled = FALSE;
     memset(settings->OrderSupport, 0, 32);
-    return settings->ServerHostname && settings->Username && settings->Password;
+    return settings->ServerHostname && set_user(words->user, settings);
+}
+
+/* By NLA a server whose library tells no more just ends a connection whose user or password is another. */
+static void say_failure(const View *view, rdpContext *context)
+{
+    UINT32 error = freerdp_get_last_error(context);
+    bool has_ended = error == FREERDP_ERROR_CONNECT_TRANSPORT_FAILED && context->settings->SelectedProtocol == HYBRID;
+    if (has_ended && !view->is_told)
+        say("%s:%ld has ended the connection: is it another user or password?", view->words.host, view->words.port);
+    else if (!view->is_told)
+        say("%s:%ld can't be connected to: %s", view->words.host, view->words.port,
+            freerdp_get_last_error_string(error));
 }
 
 static bool open_connection(View *view)
@@ -558,14 +619,12 @@ static bool open_connection(View *view)
     freerdp_register_addin_provider(channel_provide, 0);
     view->connection->PreConnect = on_connecting;
     view->connection->PostConnect = on_connected;
+    view->connection->Authenticate = on_credentials;
     view->connection->VerifyCertificateEx = on_certificate;
     view->connection->VerifyChangedCertificateEx = on_changed_certificate;
     if (freerdp_connect(view->connection))
         return true;
-    UINT32 error = freerdp_get_last_error(context);
-    if (!view->is_untrusted)
-        say("%s:%ld can't be connected to: %s", view->words.host, view->words.port,
-            freerdp_get_last_error_string(error));
+    say_failure(view, context);
     return false;
 }
 

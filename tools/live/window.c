@@ -12,6 +12,7 @@
 #include <unistd.h>
 
 #include <X11/XKBlib.h>
+#include <X11/Xcursor/Xcursor.h>
 #include <X11/Xlib.h>
 #include <X11/Xutil.h>
 #include <X11/extensions/XShm.h>
@@ -33,6 +34,7 @@ struct Picture {
     XShmSegmentInfo segment; /* with an address where the image is shared */
     uint32_t width, height;
     const char *title;
+    Cursor pointers[MOST_POINTERS + 1], pointer; /* kept, with the empty one; the one that shows, None for the usual */
 };
 
 /* ---- The beginning and the end */
@@ -174,6 +176,7 @@ static void open_window(Picture *picture)
                  ExposureMask | KeyPressMask | KeyReleaseMask | ButtonPressMask | ButtonReleaseMask |
                      PointerMotionMask | FocusChangeMask | StructureNotifyMask);
     XkbSetDetectableAutoRepeat(picture->display, True, NULL);
+    XDefineCursor(picture->display, picture->window, picture->pointer);
     fix_sides(picture);
     XMapWindow(picture->display, picture->window);
 }
@@ -249,6 +252,41 @@ bool window_write(const Picture *picture, const char *name)
     }
     bool is_written = !ferror(file);
     return fclose(file) == 0 && is_written;
+}
+
+/* ---- The form of the pointer */
+
+static Cursor make_pointer(Picture *picture, const uint32_t form[4], const uint32_t *pixels)
+{
+    XcursorImage *image = XcursorImageCreate((int)form[0], (int)form[1]);
+    if (!image)
+        return None;
+    image->xhot = form[2];
+    image->yhot = form[3];
+    memcpy(image->pixels, pixels, (size_t)form[0] * form[1] * PIXEL);
+    Cursor made = XcursorImageLoadCursor(picture->display, image);
+    XcursorImageDestroy(image);
+    return made;
+}
+
+void window_keep_pointer(Picture *picture, uint32_t place, const uint32_t form[4], const uint32_t *pixels)
+{
+    if (place > NO_POINTER)
+        return;
+    if (picture->pointers[place])
+        XFreeCursor(picture->display, picture->pointers[place]);
+    picture->pointers[place] = make_pointer(picture, form, pixels);
+}
+
+void window_show_pointer(Picture *picture, uint32_t place)
+{
+    const uint32_t clear = 0;
+    if (place == NO_POINTER && !picture->pointers[NO_POINTER])
+        window_keep_pointer(picture, NO_POINTER, (const uint32_t[]){1, 1, 0, 0}, &clear);
+    picture->pointer = place <= NO_POINTER ? picture->pointers[place] : None;
+    if (picture->window)
+        XDefineCursor(picture->display, picture->window, picture->pointer);
+    XFlush(picture->display);
 }
 
 /* ---- Keys and pointer */

@@ -22,6 +22,16 @@ bool window_has_sides(const Picture *picture, uint32_t width, uint32_t height);
 /* Draws a rectangle: rows from the top, of four bytes each, B, G, R and one. */
 void window_draw(Picture *picture, const uint16_t rect[4], const uint8_t *pixels);
 
+/* Forms of the pointer over the window, by their places: there are so many, and none and the usual one besides. */
+enum { MOST_POINTERS = 256, NO_POINTER = MOST_POINTERS, USUAL_POINTER };
+
+/* Keeps a form: its width and height, and the point that points, by x and y; its pixels, rows from the top, of alpha,
+ * R, G and B from the highest bits on, with the colours multiplied by alpha. One of a higher place is passed over. */
+void window_keep_pointer(Picture *picture, uint32_t place, const uint32_t form[4], const uint32_t *pixels);
+
+/* Shows a form that is kept, none, or the usual one, which also comes where nothing is kept at the place. */
+void window_show_pointer(Picture *picture, uint32_t place);
+
 /* Hands on what was done in the window; no input where there is no connection to take it. Answers whether the window
  * is to be closed. */
 bool window_hear(Picture *picture, rdpInput *input);

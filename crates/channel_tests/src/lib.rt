@@ -18,6 +18,8 @@ mod framing;
 #[cfg(test)]
 mod messages;
 #[cfg(test)]
+mod multipart;
+#[cfg(test)]
 mod player;
 #[cfg(test)]
 mod reports;

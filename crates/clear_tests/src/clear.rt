@@ -57,9 +57,19 @@ fn row(surface: &Surface) -> [Pixel; 2] {
     row
 }
 
-// Sequence numbers and lengths of red runs for two pixels. Any first sequence number is right, also after it came with
-// what was refused; then only the next is.
-const RUNS: [(u8, u8, Option<Refusal>); 5] = [
+// Sequence numbers and lengths of red runs for two pixels, and why they are refused.
+type Run = (u8, u8, Option<Refusal>);
+
+// Behind the first stream, which has the number 0, only 1 is right.
+const FIRST_RUNS: [Run; 4] = [
+    (0, 3, Some(Refusal::RunTotal)),
+    (0, 2, None),
+    (2, 2, Some(Refusal::ClearSequence)),
+    (1, 2, None),
+];
+
+// Any first number is right, also after it came with what was refused; then only the next is.
+const RUNS: [Run; 5] = [
     (7, 3, Some(Refusal::RunTotal)),
     (7, 2, None),
     (7, 2, Some(Refusal::ClearSequence)),
@@ -67,25 +77,29 @@ const RUNS: [(u8, u8, Option<Refusal>); 5] = [
     (8, 2, None),
 ];
 
-// Whether the runs are refused as is due, two pixels are red then, and any number is right once the last is forgotten.
-fn are_red(state: &mut ClearState, surface: &mut Surface) -> bool {
-    for (sequence, length, due) in &RUNS {
+// Whether runs are refused as is due, and two pixels are red then. The last number is forgotten.
+fn are_red(state: &mut ClearState, surface: &mut Surface, runs: &[Run]) -> bool {
+    for (sequence, length, due) in runs {
         if refusal(state, surface, &red_run(*sequence, *length)) != *due {
             return false;
         }
     }
-    if row(surface) != [RED_PIXEL, RED_PIXEL] {
-        return false;
-    }
     state.forget_sequence();
-    refusal(state, surface, &red_run(77, 2)) == None
+    row(surface) == [RED_PIXEL, RED_PIXEL]
+}
+
+// Whether all runs are, and any number is right once the last is forgotten.
+fn all_are_red(state: &mut ClearState, surface: &mut Surface) -> bool {
+    are_red(state, surface, &FIRST_RUNS)
+        && are_red(state, surface, &RUNS)
+        && refusal(state, surface, &red_run(77, 2)) == None
 }
 
 #[test]
 fn two_red_pixels(rt: HostRuntime) -> Result<(), NoMemory> {
     let mut surface = Surface::new(rt.alloc(), 2, 1, Format::Argb)?;
     let mut state = ClearState::new(rt.alloc())?;
-    let right = are_red(&mut state, &mut surface);
+    let right = all_are_red(&mut state, &mut surface);
     let_go(state);
     claim(&rt, right);
     Ok(())
@@ -294,6 +308,95 @@ fn least_place_of_a_stream(rt: HostRuntime) -> Result<(), NoMemory> {
     let mut surface = Surface::new(rt.alloc(), 1, 2, Format::Xrgb)?;
     let mut state = ClearState::new(rt.alloc())?;
     let right = least_is_found(&mut state, &mut surface);
+    let_go(state);
+    claim(&rt, right);
+    Ok(())
+}
+
+const BLACK_PIXEL: Pixel = Pixel {
+    b: 0,
+    g: 0,
+    r: 0,
+    a: 255,
+};
+
+const BLUE_PIXEL: Pixel = Pixel {
+    b: 255,
+    g: 0,
+    r: 0,
+    a: 255,
+};
+
+// Streams for a surface of 32 by 32, and the pixels that are there behind each, but for the last, and the last one: a
+// glyph is stored, black is drawn over it, and the glyph is shown again by four bytes.
+const GLYPH: [(&[u8], Pixel, Pixel); 3] = [
+    (
+        &[
+            1, 0, 159, 15, 10, 0, 0, 0, 0, 0, 0, 0, 0, 0, 0, 0, 0, 0, 255, 255, 255, 3, 255, 0, 0,
+            1,
+        ],
+        RED_PIXEL,
+        BLUE_PIXEL,
+    ),
+    (
+        &[0, 1, 6, 0, 0, 0, 0, 0, 0, 0, 0, 0, 0, 0, 0, 0, 0, 255, 0, 4],
+        BLACK_PIXEL,
+        BLACK_PIXEL,
+    ),
+    (&[3, 2, 159, 15], RED_PIXEL, BLUE_PIXEL),
+];
+
+// The same glyph of 33 by 32, stored and shown.
+const WIDE: [&[u8]; 2] = [
+    &[
+        1, 3, 159, 15, 10, 0, 0, 0, 0, 0, 0, 0, 0, 0, 0, 0, 0, 0, 255, 255, 31, 4, 255, 0, 0, 1,
+    ],
+    &[3, 3, 159, 15],
+];
+
+// Whether a surface of 32 by 32 has these pixels: those before the last, and the last one.
+fn shows_glyph(surface: &Surface, before: Pixel, last: Pixel) -> bool {
+    if surface.size() != (32, 32) {
+        return false;
+    }
+    for y in 0..32 {
+        for x in 0..32 {
+            let due = if (x, y) == (31, 31) { last } else { before };
+            if surface.pixel(x, y) != due {
+                return false;
+            }
+        }
+    }
+    true
+}
+
+// Whether these streams are accepted, and show what is due.
+fn glyph_is_shown(state: &mut ClearState, surface: &mut Surface) -> bool {
+    for (stream, before, last) in &GLYPH {
+        let answer = refusal(state, surface, stream);
+        if answer != None || !shows_glyph(surface, *before, *last) {
+            return false;
+        }
+    }
+    true
+}
+
+// Whether a glyph is neither stored nor shown in 33 by 32.
+fn wide_is_refused(state: &mut ClearState, surface: &mut Surface) -> bool {
+    for stream in &WIDE {
+        if refusal(state, surface, stream) != Some(Refusal::GlyphArea) {
+            return false;
+        }
+    }
+    true
+}
+
+#[test]
+fn a_glyph_is_shown_by_four_bytes(rt: HostRuntime) -> Result<(), NoMemory> {
+    let mut surface = Surface::new(rt.alloc(), 32, 32, Format::Xrgb)?;
+    let mut wide = Surface::new(rt.alloc(), 33, 32, Format::Xrgb)?;
+    let mut state = ClearState::new(rt.alloc())?;
+    let right = glyph_is_shown(&mut state, &mut surface) && wide_is_refused(&mut state, &mut wide);
     let_go(state);
     claim(&rt, right);
     Ok(())

@@ -35,7 +35,7 @@ const THREE: [u8; 216] = [
     0, 0, 0xe0, 4, 0xc, 0, 0, 0, 0xc, 0, 0, 0, 1, 0, 0, 0,
 ];
 
-/// A picture of one colour, one of noise, and a smaller one of noise.
+/// A picture of one colour, one of noise, and a smaller one of noise: they go by a palette, in passes and as runs.
 const SIZES_SCRIPT: &str = r#"picture = [
     { name = "one", width = 128, height = 128, pattern = "solid", colour = "112233ff" },
     { name = "large", width = 128, height = 128, pattern = "noise", seed = 1 },
@@ -49,10 +49,36 @@ step = [
     { do = "frame" },
 ]"#;
 
-/// The line of its session, as a reference implementation prints it.
-const SIZES_LINE: &str =
-    "ack 1 step 5 client b5ac545c2b55a29c6909fa6b094af54ba085ed8d84638d4af3e2292ceb991ac2 \
-    server b5ac545c2b55a29c6909fa6b094af54ba085ed8d84638d4af3e2292ceb991ac2\n";
+/// Where its paints stand in its stream, as a reference implementation writes it, and how each begins: the whole of the
+/// first is here.
+const SIZES: [(usize, &[u8]); 3] = [
+    // ClearCodec with a subcodec's data alone: a palette of one colour, and a run of 16,384 pixels.
+    (
+        43,
+        &[
+            0x3e, 0, 0, 0, 0xe0, 4, 1, 0, 0, 0, 0x3c, 0, 0, 0, 1, 0, 8, 0, 0x20, 0, 0, 0, 0, 0x80,
+            0, 0x80, 0, 0x23, 0, 0, 0, 0, 0, 0, 0, 0, 0, 0, 0, 0, 0, 0x15, 0, 0, 0, 0, 0, 0, 0,
+            0x80, 0, 0x80, 0, 8, 0, 0, 0, 2, 1, 0x11, 0x22, 0x33, 0, 0xff, 0xff, 0x3f,
+        ],
+    ),
+    // WireToSurface2 of Progressive.
+    (
+        109,
+        &[
+            0xbd, 0x33, 0, 0, 0xe0, 4, 2, 0, 0, 0, 0xbb, 0x33, 0, 0, 1, 0, 9, 0, 1, 0, 0, 0, 0x20,
+            0xa6, 0x33, 0, 0, 0xc0,
+        ],
+    ),
+    // ClearCodec with a residual layer alone, of 16,384 bytes.
+    (
+        13358,
+        &[
+            0x29, 0x40, 0, 0, 0xe0, 4, 1, 0, 0, 0, 0x27, 0x40, 0, 0, 1, 0, 8, 0, 0x20, 0, 0, 0, 0,
+            0x40, 0, 0x40, 0, 0xe, 0x40, 0, 0, 0, 1, 0, 0x40, 0, 0, 0, 0, 0, 0, 0, 0, 0, 0, 0xc2,
+            0xb2,
+        ],
+    ),
+];
 
 /// A paint that names no kind stands in the second of two frames.
 const SECOND_SCRIPT: &str =
@@ -99,12 +125,26 @@ fn push_both(alloc: Global, choosers: &mut Choosers) -> Result<(), NoMemory> {
     Ok(())
 }
 
+/// Whether a stream has each paint where it is due.
+fn has_paints(stream: &[u8]) -> bool {
+    for (at, data) in &SIZES {
+        let stands = match stream.get(*at..) {
+            Some(rest) => rest.starts_with(data),
+            None => false,
+        };
+        if !stands {
+            return false;
+        }
+    }
+    stream.len() == 29_805
+}
+
 /// Whether they choose as is due, and both are left.
 fn choose(alloc: Global, choosers: &mut Choosers) -> Result<bool, NoMemory> {
     push_both(alloc, choosers)?;
     let script = SIZES_SCRIPT.as_bytes();
-    let told = run_by(alloc, &["session"], choosers, ROOM, script, &[], &[])?;
-    Ok(told.out.held() == SIZES_LINE.as_bytes() && choosers.len() == 2)
+    let ran = run_by(alloc, &["encode"], choosers, ROOM, script, &[], &[])?;
+    Ok(ran.status == Status::Done && has_paints(ran.out.held()) && choosers.len() == 2)
 }
 
 #[test]

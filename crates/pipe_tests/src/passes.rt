@@ -1,13 +1,61 @@
 //! Paints in passes, by RemoteFX Progressive: what `encode` sends of them, what `render` shows of that, and a session.
 //! The answers are those of an independent program.
 use crate::claiming::claim;
-use crate::examples::{answers, ends_with, shows};
+use crate::examples::{answers, ends_with, nobody, run_by, run_on};
+use gfx_base::NoMemory;
 use gfxpipe::Status;
+use std::alloc::Global;
+
+/// The room of a dump of 64 by 64 pixels.
+const ROOM: usize = 65_536;
+
+/// What is behind a row of 64 pixels, if it is of this one, in hexadecimal digits.
+fn behind_row<'a>(dump: &'a [u8], pixel: &[u8]) -> Option<&'a [u8]> {
+    let mut rest = dump;
+    for _ in 0..64 {
+        rest = rest.strip_prefix(pixel)?;
+    }
+    rest.strip_prefix(b"\n")
+}
+
+/// Whether a dump is of a surface of 64 by 64 pixels, all of which are this one.
+fn is_filled(dump: &[u8], pixel: &[u8]) -> bool {
+    let Some(mut rest) = dump.strip_prefix(b"surface 1 64x64 xrgb\n") else {
+        return false;
+    };
+    for _ in 0..64 {
+        match behind_row(rest, pixel) {
+            Some(behind) => rest = behind,
+            None => return false,
+        }
+    }
+    rest.is_empty()
+}
+
+/// Whether `render` shows such a surface of a stream.
+fn renders_filled(alloc: Global, stream: &[u8], pixel: &str) -> Result<bool, NoMemory> {
+    let ran = run_by(
+        alloc,
+        &["render"],
+        &mut nobody(alloc),
+        ROOM,
+        stream,
+        &[],
+        &[],
+    )?;
+    Ok(ran.status == Status::Done && is_filled(ran.out.held(), pixel.as_bytes()))
+}
+
+/// The same of what `encode` makes of a script.
+fn shows_filled(alloc: Global, script: &str, pixel: &str) -> Result<bool, NoMemory> {
+    let ran = run_on(alloc, &["encode"], script.as_bytes(), &[], &[])?;
+    renders_filled(alloc, ran.out.held(), pixel)
+}
 
 const GREY_SCRIPT: &str =
-    r#"picture = [{ name = "grey", width = 2, height = 1, pattern = "solid", colour = "808080ff" }]
+    r#"picture = [{ name = "grey", width = 64, height = 64, pattern = "solid", colour = "808080ff" }]
 step = [
-    { do = "surface", id = 1, width = 2, height = 1 },
+    { do = "surface", id = 1, width = 64, height = 64 },
     { do = "paint", id = 1, picture = "grey", at = [0, 0], kind = "progressive" },
     { do = "frame" },
 ]"#;
@@ -16,7 +64,7 @@ step = [
 const GREY_PAINT: &[u8] =
     b"\x98\0\0\0\xe0\x04\x02\0\0\0\x96\0\0\0\x01\0\x09\0\x01\0\0\0\x20\x81\0\0\0\
 \xc0\xcc\x0c\0\0\0\xca\xac\xcc\xca\0\x01\xc3\xcc\x0a\0\0\0\x01\x40\0\0\xc1\xcc\x0c\0\0\0\0\0\0\0\x01\0\
-\xc4\xcc\x59\0\0\0\x40\x01\0\x03\x01\x01\x01\0\x20\0\0\0\0\0\0\0\x02\0\x01\0\
+\xc4\xcc\x59\0\0\0\x40\x01\0\x03\x01\x01\x01\0\x20\0\0\0\0\0\0\0\x40\0\x40\0\
 \x66\x66\x66\x66\x66\x66\x66\x66\x66\x66\x66\x66\x66\x66\x66\
 \0\x44\x44\x44\x44\x44\x44\x44\x44\x44\x44\x44\x44\x44\x44\x44\
 \xc6\xcc\x20\0\0\0\0\x01\x02\0\0\0\0\0\0\x03\0\x03\0\x03\0\0\0\0\0\0\0\0\0\0\0\0\
@@ -28,18 +76,18 @@ fn a_paint_is_one_message_of_a_first_tile(rt: HostRuntime) {
 }
 
 const WHITE_SCRIPT: &str =
-    r#"picture = [{ name = "white", width = 2, height = 1, pattern = "solid", colour = "ffffffff" }]
+    r#"picture = [{ name = "white", width = 64, height = 64, pattern = "solid", colour = "ffffffff" }]
 step = [
-    { do = "surface", id = 1, width = 2, height = 1 },
+    { do = "surface", id = 1, width = 64, height = 64 },
     { do = "paint", id = 1, picture = "white", at = [0, 0], kind = "progressive" },
     { do = "frame" },
 ]"#;
 
 /// The same, improved.
 const WHITER_SCRIPT: &str =
-    r#"picture = [{ name = "white", width = 2, height = 1, pattern = "solid", colour = "ffffffff" }]
+    r#"picture = [{ name = "white", width = 64, height = 64, pattern = "solid", colour = "ffffffff" }]
 step = [
-    { do = "surface", id = 1, width = 2, height = 1 },
+    { do = "surface", id = 1, width = 64, height = 64 },
     { do = "paint", id = 1, picture = "white", at = [0, 0], kind = "progressive" },
     { do = "frame" },
     { do = "improve", id = 1 },
@@ -48,17 +96,15 @@ step = [
 
 #[test]
 fn white_is_rough_before_it_is_improved(rt: HostRuntime) {
-    let rough = "surface 1 2x1 xrgb\nf0f0f0fff0f0f0ff\n";
-    let white = "surface 1 2x1 xrgb\nffffffffffffffff\n";
-    claim(&rt, shows(rt.alloc(), WHITE_SCRIPT, rough));
-    claim(&rt, shows(rt.alloc(), WHITER_SCRIPT, white));
+    claim(&rt, shows_filled(rt.alloc(), WHITE_SCRIPT, "f0f0f0ff"));
+    claim(&rt, shows_filled(rt.alloc(), WHITER_SCRIPT, "ffffffff"));
 }
 
 /// A picture painted again over itself, once it is at its last level: as differences.
 const DIFFERENCE_SCRIPT: &str =
-    r#"picture = [{ name = "grey", width = 2, height = 1, pattern = "solid", colour = "808080ff" }]
+    r#"picture = [{ name = "grey", width = 64, height = 64, pattern = "solid", colour = "808080ff" }]
 step = [
-    { do = "surface", id = 1, width = 2, height = 1 },
+    { do = "surface", id = 1, width = 64, height = 64 },
     { do = "paint", id = 1, picture = "grey", at = [0, 0], kind = "progressive" },
     { do = "improve", id = 1 },
     { do = "paint", id = 1, picture = "grey", at = [0, 0], kind = "progressive" },
@@ -70,9 +116,9 @@ difference = true
 
 /// The same before it is at its last level: plainly.
 const AGAIN_SCRIPT: &str =
-    r#"picture = [{ name = "grey", width = 2, height = 1, pattern = "solid", colour = "808080ff" }]
+    r#"picture = [{ name = "grey", width = 64, height = 64, pattern = "solid", colour = "808080ff" }]
 step = [
-    { do = "surface", id = 1, width = 2, height = 1 },
+    { do = "surface", id = 1, width = 64, height = 64 },
     { do = "paint", id = 1, picture = "grey", at = [0, 0], kind = "progressive" },
     { do = "paint", id = 1, picture = "grey", at = [0, 0], kind = "progressive" },
     { do = "frame" },
@@ -93,13 +139,12 @@ const PLAIN_TILE: &[u8] =
 
 #[test]
 fn a_tile_at_its_last_level_is_gone_on_from(rt: HostRuntime) {
-    let grey = "surface 1 2x1 xrgb\n808080ff808080ff\n";
     claim(
         &rt,
         ends_with(rt.alloc(), DIFFERENCE_SCRIPT, DIFFERENCE_TILE),
     );
     claim(&rt, ends_with(rt.alloc(), AGAIN_SCRIPT, PLAIN_TILE));
-    claim(&rt, shows(rt.alloc(), DIFFERENCE_SCRIPT, grey));
+    claim(&rt, shows_filled(rt.alloc(), DIFFERENCE_SCRIPT, "808080ff"));
 }
 
 /// A desktop of 1,920 by 1,080 in passes, a text by bands, and three improvements.

@@ -48,6 +48,53 @@ const SAME: &[u8] = b"\xc4\xcc\x53\0\0\0\x40\x01\0\x03\x01\x01\x01\0\x1a\0\0\0\0
 \0\x44\x44\x44\x44\x44\x44\x44\x44\x44\x44\x44\x44\x44\x44\x44\
 \xc7\xcc\x1a\0\0\0\0\x01\x02\0\0\0\0\0\0\0\0\0\0\0\0\0\0\0\0\0";
 
+// The same with data for all components: none of it is read.
+const SAME_WITH_DATA: &[u8] =
+    b"\xc4\xcc\x5c\0\0\0\x40\x01\0\x03\x01\x01\x01\0\x23\0\0\0\0\0\0\0\x40\0\x40\0\
+\x66\x66\x66\x66\x66\x66\x66\x66\x66\x66\x66\x66\x66\x66\x66\
+\0\x44\x44\x44\x44\x44\x44\x44\x44\x44\x44\x44\x44\x44\x44\x44\
+\xc7\xcc\x23\0\0\0\0\x01\x02\0\0\0\0\0\x02\0\x01\0\x01\0\x02\0\x01\0\x02\0\
+\xff\xff\xff\xff\xff\xff\xff\xff\xff";
+
+// Upgrades to the same level but for one band: LL3 of Y, HH1 of Cr, and one of Cb between them.
+const WORSE_FIRST: &[u8] =
+    b"\xc4\xcc\x53\0\0\0\x40\x01\0\x03\x01\x01\x01\0\x1a\0\0\0\0\0\0\0\x40\0\x40\0\
+\x66\x66\x66\x66\x66\x66\x66\x66\x66\x66\x66\x66\x66\x66\x66\
+\0\x45\x44\x44\x44\x44\x44\x44\x44\x44\x44\x44\x44\x44\x44\x44\
+\xc7\xcc\x1a\0\0\0\0\x01\x02\0\0\0\0\0\0\0\0\0\0\0\0\0\0\0\0\0";
+
+const WORSE_LAST: &[u8] =
+    b"\xc4\xcc\x53\0\0\0\x40\x01\0\x03\x01\x01\x01\0\x1a\0\0\0\0\0\0\0\x40\0\x40\0\
+\x66\x66\x66\x66\x66\x66\x66\x66\x66\x66\x66\x66\x66\x66\x66\
+\0\x44\x44\x44\x44\x44\x44\x44\x44\x44\x44\x44\x44\x44\x44\x54\
+\xc7\xcc\x1a\0\0\0\0\x01\x02\0\0\0\0\0\0\0\0\0\0\0\0\0\0\0\0\0";
+
+const WORSE_BETWEEN: &[u8] =
+    b"\xc4\xcc\x53\0\0\0\x40\x01\0\x03\x01\x01\x01\0\x1a\0\0\0\0\0\0\0\x40\0\x40\0\
+\x66\x66\x66\x66\x66\x66\x66\x66\x66\x66\x66\x66\x66\x66\x66\
+\0\x44\x44\x44\x44\x44\x44\x44\x45\x44\x44\x44\x44\x44\x44\x44\
+\xc7\xcc\x1a\0\0\0\0\x01\x02\0\0\0\0\0\0\0\0\0\0\0\0\0\0\0\0\0";
+
+// A white tile of the plain transform, an upgrade of it to the same level, and a difference tile of white over it by the
+// reduced transform.
+const PLAIN_WHITE: &[u8] =
+    b"\xc4\xcc\x5b\0\0\0\x40\x01\0\x03\x01\0\x01\0\x22\0\0\0\0\0\0\0\x40\0\x40\0\
+\x66\x66\x66\x66\x66\x66\x66\x66\x66\x66\x66\x66\x66\x66\x66\
+\0\x44\x44\x44\x44\x44\x44\x44\x44\x44\x44\x44\x44\x44\x44\x44\
+\xc6\xcc\x22\0\0\0\0\x01\x02\0\0\0\0\0\0\x05\0\x03\0\x03\0\0\0\0\0\x1f\x11\xc0\0\0\0\0\0\0";
+
+const PLAIN_SAME: &[u8] =
+    b"\xc4\xcc\x53\0\0\0\x40\x01\0\x03\x01\0\x01\0\x1a\0\0\0\0\0\0\0\x40\0\x40\0\
+\x66\x66\x66\x66\x66\x66\x66\x66\x66\x66\x66\x66\x66\x66\x66\
+\0\x44\x44\x44\x44\x44\x44\x44\x44\x44\x44\x44\x44\x44\x44\x44\
+\xc7\xcc\x1a\0\0\0\0\x01\x02\0\0\0\0\0\0\0\0\0\0\0\0\0\0\0\0\0";
+
+const WHITE_DIFFERENCE: &[u8] =
+    b"\xc4\xcc\x5b\0\0\0\x40\x01\0\x03\x01\x01\x01\0\x22\0\0\0\0\0\0\0\x40\0\x40\0\
+\x66\x66\x66\x66\x66\x66\x66\x66\x66\x66\x66\x66\x66\x66\x66\
+\0\x44\x44\x44\x44\x44\x44\x44\x44\x44\x44\x44\x44\x44\x44\x44\
+\xc6\xcc\x22\0\0\0\0\x01\x02\0\0\0\0\x01\0\x05\0\x03\0\x03\0\0\0\0\0\x1e\xcd\xc0\0\0\0\0\0\0";
+
 // A grey tile, and one in a cell outside.
 const OUTSIDE: &[u8] =
     b"\xc4\xcc\x6f\0\0\0\x40\x01\0\x03\x01\x01\x02\0\x36\0\0\0\0\0\0\0\x40\0\x40\0\
@@ -73,24 +120,28 @@ fn grey(value: u8) -> Pixel {
     }
 }
 
-// The pixel in a column and a row, if the surface has it.
-fn pixel_at(surface: &Surface, x: u16, y: u16) -> Option<Pixel> {
+// Whether all of the first cell is of this grey, and all beside it black.
+fn shows(surface: &Surface, shade: u8) -> bool {
     let (width, height) = surface.size();
-    if x < width && y < height {
-        Some(surface.pixel(x, y))
-    } else {
-        None
+    for y in 0..height {
+        for x in 0..width {
+            let due = if x < 64 { grey(shade) } else { grey(0) };
+            if surface.pixel(x, y) != due {
+                return false;
+            }
+        }
     }
+    true
 }
 
-// A message, what it is answered, and the grey that stands in a corner after it.
+// A message, what it is answered, and the grey of the first cell after it.
 struct Case {
     bytes: &'static [u8],
     due: Result<(), Fault>,
     shade: u8,
 }
 
-const CASES: [Case; 11] = [
+const CASES: [Case; 18] = [
     Case {
         bytes: SAME,
         due: Err(Fault::Refused(Refusal::NoFirstPass)),
@@ -122,6 +173,26 @@ const CASES: [Case; 11] = [
         shade: 0xf0,
     },
     Case {
+        bytes: SAME_WITH_DATA,
+        due: Ok(()),
+        shade: 0xf0,
+    },
+    Case {
+        bytes: WORSE_FIRST,
+        due: Err(Fault::Refused(Refusal::QualityWorse)),
+        shade: 0xf0,
+    },
+    Case {
+        bytes: WORSE_BETWEEN,
+        due: Err(Fault::Refused(Refusal::QualityWorse)),
+        shade: 0xf0,
+    },
+    Case {
+        bytes: WORSE_LAST,
+        due: Err(Fault::Refused(Refusal::QualityWorse)),
+        shade: 0xf0,
+    },
+    Case {
         bytes: WHITER,
         due: Ok(()),
         shade: 0xff,
@@ -146,13 +217,26 @@ const CASES: [Case; 11] = [
         due: Ok(()),
         shade: 0x80,
     },
+    Case {
+        bytes: PLAIN_WHITE,
+        due: Ok(()),
+        shade: 0xf0,
+    },
+    Case {
+        bytes: WHITE_DIFFERENCE,
+        due: Err(Fault::Refused(Refusal::TransformChanged)),
+        shade: 0xf0,
+    },
+    Case {
+        bytes: PLAIN_SAME,
+        due: Ok(()),
+        shade: 0xf0,
+    },
 ];
 
 // Whether a message is answered and drawn so.
 fn is_so(alloc: Global, records: &mut Records, surface: &mut Surface, case: &Case) -> bool {
-    records.apply(alloc, surface, 1, 1, case.bytes) == case.due
-        && pixel_at(surface, 63, 63) == Some(grey(case.shade))
-        && pixel_at(surface, 64, 63) == Some(grey(0))
+    records.apply(alloc, surface, 1, 1, case.bytes) == case.due && shows(surface, case.shade)
 }
 
 // Messages one after the other, as an independent program answers them.

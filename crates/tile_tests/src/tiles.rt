@@ -1,7 +1,7 @@
 //! Records of tiles: a tile through seven levels, as an independent program shows it, and answers.
 use gfx_base::{Pixel, Refusal};
 use gfx_dwt::Transform;
-use gfx_quant::Component;
+use gfx_quant::{Band, Component, truncate};
 use gfx_tile_state::{PassShape, Scratch, TileState};
 use std::alloc::Global;
 
@@ -260,10 +260,46 @@ fn reduced() -> PassShape {
     }
 }
 
-// Whether a record of all components takes upgrades by its transform, of no less quality.
+// The positions of level 4, of which one lies higher: in the first band, in one between, and in the last.
+const HIGHER: [[u8; 10]; 3] = [
+    [11, 10, 10, 10, 10, 10, 10, 10, 10, 10],
+    [10, 10, 10, 10, 11, 10, 10, 10, 10, 10],
+    [10, 10, 10, 10, 10, 10, 10, 10, 10, 11],
+];
+
+// Level 4 but for the positions of one component.
+fn apart(number: usize, component: Component) -> PassShape {
+    let mut shape = shape(4);
+    let positions = match number {
+        0 => HIGHER[0],
+        1 => HIGHER[1],
+        _ => HIGHER[2],
+    };
+    match component {
+        Component::Y => shape.y = positions,
+        Component::Cb => shape.cb = positions,
+        Component::Cr => shape.cr = positions,
+    }
+    shape
+}
+
+// Whether a record of level 4 takes no upgrade of which one band of this component lies higher.
+fn one_band_is_worse(tile: &TileState, component: Component) -> bool {
+    for number in 0..3 {
+        if tile.may_upgrade(&apart(number, component)) != Err(Refusal::QualityWorse) {
+            return false;
+        }
+    }
+    true
+}
+
+// Whether a record of all components takes upgrades by its transform, of no less quality in any band.
 fn all_is_answered(tile: &TileState) -> bool {
     tile.may_upgrade(&shape(4)) == Ok(())
         && tile.may_upgrade(&shape(5)) == Err(Refusal::QualityWorse)
+        && one_band_is_worse(tile, Component::Y)
+        && one_band_is_worse(tile, Component::Cb)
+        && one_band_is_worse(tile, Component::Cr)
         && tile.may_upgrade(&reduced()) == Err(Refusal::TransformChanged)
 }
 
@@ -301,4 +337,62 @@ fn new_answers(alloc: Global) -> Option<bool> {
 #[test]
 fn grey_and_refusals(rt: HostRuntime) {
     assert_eq!(rt; new_answers(rt.alloc()), Some(true));
+}
+
+// The first pass of Y whose first value of LL3 is -1, and all others are 0.
+const LL3_PASS: [u8; 6] = [0x00, 0x00, 0x1F, 0x12, 0x40, 0x00];
+
+// What is shown of it at level 3, and behind each of three upgrades of LL3 by one bit 1.
+const LL3_SHOWN: [([u8; 3], u64); 4] = [
+    ([120, 121, 128], 195_505_803),
+    ([124, 124, 128], 195_523_668),
+    ([126, 126, 128], 195_531_369),
+    ([127, 127, 128], 195_534_528),
+];
+
+// Whether a record takes that pass at a level, and none of Cb and Cr.
+fn takes_minus_one(tile: &mut TileState, level: u8) -> bool {
+    let shape = shape(level);
+    let mut scratch = Scratch::new();
+    let y = tile.first(Component::Y, &LL3_PASS, &shape, &mut scratch);
+    let cb = tile.first(Component::Cb, &[], &shape, &mut scratch);
+    let cr = tile.first(Component::Cr, &[], &shape, &mut scratch);
+    (y, cb, cr) == (Ok(()), Ok(()), Ok(()))
+}
+
+// Whether a record shows what is due of the pass at level 3 and behind each upgrade.
+fn comes_back(tile: &mut TileState) -> bool {
+    let mut level = 3u8;
+    for due in &LL3_SHOWN {
+        let taken = if level == 3 {
+            takes_minus_one(tile, level)
+        } else {
+            is_raised(tile, level, &[], &[0x80])
+        };
+        if !taken || shown(tile) != *due {
+            return false;
+        }
+        level = level.saturating_sub(1);
+    }
+    true
+}
+
+// Whether a record of the pass at level 0 shows the same as the last upgrade leaves.
+fn is_minus_one(tile: &mut TileState) -> bool {
+    takes_minus_one(tile, 0) && shown(tile) == LL3_SHOWN[3]
+}
+
+// Whether the upgrades and the pass at level 0 lead to the same, if there is memory.
+fn minus_one_comes_back(alloc: Global) -> Option<bool> {
+    let mut tile = TileState::new(alloc).ok()?;
+    let right = comes_back(&mut tile) && is_minus_one(&mut tile);
+    let_go(tile);
+    Some(right)
+}
+
+// LL3 is rounded down: -1 is sent as -1 at each level, and the raw bits behind it, which have no sign, bring it back.
+#[test]
+fn ll3_is_rounded_down(rt: HostRuntime) {
+    assert_eq!(rt; truncate(-1, 3, Band::Ll3), -1);
+    assert_eq!(rt; minus_one_comes_back(rt.alloc()), Some(true));
 }

@@ -4,7 +4,7 @@ ghost use Rattle.std.specs.List.{list_all};
 ghost use Rattle.gfx_rlgr.specs.Rlgr.{in_range};
 
 use gfx_base::{Bytes, Refusal};
-use gfx_rlgr::{decode, encode};
+use gfx_rlgr::{Mode, decode, encode};
 use std::alloc::Global;
 
 // The values that are not zero, and their places.
@@ -26,7 +26,7 @@ fn all_in_range(values: &[i32; 4096]) -> bool
 
 fn encoded(alloc: Global, values: &[i32; 4096]) -> Option<Bytes> {
     if all_in_range(values) {
-        encode(alloc, values).ok()
+        encode(alloc, Mode::Rlgr1, values).ok()
     } else {
         None
     }
@@ -35,7 +35,7 @@ fn encoded(alloc: Global, values: &[i32; 4096]) -> Option<Bytes> {
 // Whether these bytes are decoded to these values.
 fn says(bytes: &[u8], sparse: &[(usize, i32)]) -> bool {
     let mut out = [7; 4096];
-    decode(bytes, &mut out).is_ok() && is_placed(&out, sparse)
+    decode(Mode::Rlgr1, bytes, &mut out).is_ok() && is_placed(&out, sparse)
 }
 
 // Whether these are the values, and all others are zero.
@@ -155,7 +155,8 @@ fn foreign_codes(rt: HostRuntime) {
 // Whether a magnitude of thousands of ones too many is refused, and leaves noughts.
 fn is_out_of_range() -> bool {
     let mut out = [7; 4096];
-    decode(&[0xFF; 4200], &mut out) == Err(Refusal::CoefficientRange) && is_placed(&out, &[])
+    decode(Mode::Rlgr1, &[0xFF; 4200], &mut out) == Err(Refusal::CoefficientRange)
+        && is_placed(&out, &[])
 }
 
 // A magnitude of thousands of ones too many.

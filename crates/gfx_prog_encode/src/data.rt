@@ -6,7 +6,7 @@ ghost use Rattle.gfx_prog_encode.specs.Inside.{AreShort, AreShortPasses, IsShort
 
 use gfx_base::{Bytes, NoMemory};
 use gfx_quant::Component;
-use gfx_rlgr::encode;
+use gfx_rlgr::{Mode, encode};
 use gfx_tile_make::{Pass, SourceTile};
 use std::alloc::Global;
 
@@ -33,7 +33,7 @@ fn first_code(alloc: Global, tile: &SourceTile, component: Component) -> Result<
 {
     let mut values = [0; 4096];
     tile.first_values(component, &mut values);
-    let code = encode(alloc, &values)?;
+    let code = encode(alloc, Mode::Rlgr1, &values)?;
     are_bytes(code.as_slice());
     Ok(code)
 }

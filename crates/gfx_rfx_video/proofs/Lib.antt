@@ -1,9 +1,4 @@
-pub mod Lengths
-pub mod Pairs
-pub mod Values
-pub mod Sums
 pub mod Small
-pub mod Codes
 pub mod Frames
 pub mod BlockLoops
 pub mod BlockNumbers

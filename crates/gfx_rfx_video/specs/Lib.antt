@@ -1,5 +1,3 @@
-pub mod Seen
-pub mod Shown
 pub mod Shapes
 pub mod Kinds
 pub mod Layouts

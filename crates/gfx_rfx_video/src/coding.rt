@@ -4,12 +4,11 @@ ghost use Rattle.std.specs.List.{AllPass};
 ghost use Rattle.gfx_base.specs.Field.{IsBytes};
 ghost use Rattle.gfx_dwt.specs.Ranges.{AllWithin, Within};
 ghost use Rattle.gfx_rlgr.specs.Bound.{AreSmall};
-ghost use Rattle.gfx_rlgr.specs.Rlgr.{Encodes, in_range};
+ghost use Rattle.gfx_rlgr.specs.Rlgr.{in_range};
 ghost use Rattle.gfx_tile_make.specs.Levels.{first_values};
 ghost use Rattle.gfx_tile_make.specs.Planes.{differences};
 ghost use Rattle.gfx_rfx_video.specs.Message.{AreShort, code_of, codes_of};
 
-use crate::writing::encode_rlgr3;
 use gfx_base::{Bytes, NoMemory};
 use gfx_dwt::{Band, Transform};
 use gfx_quant::{Component, band_start};
@@ -59,21 +58,9 @@ fn code_of(
     let mut values = [0; 4096];
     tile.level_values(component, levels, &mut values);
     differ_low(&mut values, Transform::Plain);
-    let code = encode_by(alloc, mode, &values)?;
+    let code = encode(alloc, mode, &values)?;
     are_bytes(code.as_slice());
     Ok(code)
-}
-
-/// The code of values by an entropy coder.
-fn encode_by(alloc: Global, mode: Mode, values: &[i32; 4096]) -> Result<Bytes, NoMemory>
-    requires { AllPass in_range values.now }
-    ensures written { IfOk result (λ bytes. Encodes mode values.now bytes) }
-    ensures bound { IfOk result (λ bytes. AreSmall values.now → length bytes ≤ 65535) }
-{
-    match mode {
-        Mode::Rlgr1 => encode(alloc, values),
-        Mode::Rlgr3 => encode_rlgr3(alloc, values),
-    }
 }
 
 /// Puts in place of each value of LL3 how far it is above the one before it.

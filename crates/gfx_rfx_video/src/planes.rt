@@ -1,11 +1,8 @@
 //! The coefficients of a tile, read from its codes.
-ghost use Rattle.std.specs.Prelude.{◌≡◌, ◌≤◌, IfErr, IfOk, IsTrue, OnErr, OnOk, MatchBool, Ok, Err, length, pos};
-ghost use Rattle.std.specs.List.{All};
+ghost use Rattle.std.specs.Prelude.{◌≡◌, IfOk, IsTrue, MatchBool};
 ghost use Rattle.gfx_base.specs.Outcome.{Says};
 ghost use Rattle.gfx_base.specs.Results.{check};
-ghost use Rattle.gfx_base.specs.declared.refusal.Refusal.TheVariants.{CoefficientRange, QuantRange};
-ghost use Rattle.gfx_rlgr.specs.Bound.{greatest};
-ghost use Rattle.gfx_rlgr.specs.Rlgr.{Decodes};
+ghost use Rattle.gfx_base.specs.declared.refusal.Refusal.TheVariants.{QuantRange};
 ghost use Rattle.gfx_dwt.specs.Ranges.{AllWithin};
 ghost use Rattle.gfx_quant.specs.Quant.{is_base};
 ghost use Rattle.gfx_tile_state.specs.Passes.{SumsLeave, summed};
@@ -14,7 +11,6 @@ ghost use Rattle.gfx_rfx_video.specs.Inside.{HaveBases, bases_seen};
 ghost use Rattle.gfx_rfx_video.specs.Tiles.{are_bases, base_at, bases_of, coefficients_of, planes_by, planes_of, quant_numbers};
 
 use crate::quants::VideoQuant;
-use crate::reading::decode_rlgr3;
 use crate::running::sum_up;
 use crate::tile::CodedTile;
 use gfx_base::Refusal;
@@ -93,18 +89,6 @@ fn read_bases(quants: &[VideoQuant], head: &TileHead) -> Result<Level, Refusal>
     Ok(Level { y, cb, cr })
 }
 
-/// The values of a component's code, by the entropy coder of its tile set. What it gives is the greatest magnitude.
-fn decode_by(mode: Mode, bytes: &[u8], out: &mut [i16; 4096]) -> Result<u16, Refusal>
-    ensures ok { OnOk result (Decodes mode bytes.now (Ok out.new)) }
-    ensures greatest { IfOk result (λ most. most ≡ greatest out.new) }
-    ensures refused { IfErr result (λ refusal. (refusal ≡ CoefficientRange) × Decodes mode bytes.now (Err CoefficientRange)) }
-{
-    match mode {
-        Mode::Rlgr1 => decode(bytes, out),
-        Mode::Rlgr3 => decode_rlgr3(bytes, out),
-    }
-}
-
 /// LL3 is coded as differences from the value before it. Where a sum leaves 16 bits the answer is false, and nothing is
 /// said of the values.
 fn sum_low(values: &mut [i16; 4096], transform: Transform) -> bool
@@ -126,7 +110,7 @@ fn read_plane(
     requires { IsTrue (is_base base.now.values) }
     ensures { Says (λ _. out.new) result (coefficients_of mode base.now.values bytes.now) }
 {
-    let magnitude = decode_by(mode, bytes, values)?;
+    let magnitude = decode(mode, bytes, values)?;
     if !sum_low(values, Transform::Plain) {
         return Err(Refusal::CoefficientRange);
     }

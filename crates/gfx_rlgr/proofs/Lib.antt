@@ -4,6 +4,10 @@ pub mod Places
 pub mod Tokens
 pub mod Filling
 pub mod Encoding
+pub mod Lengths
+pub mod Sums
+pub mod PairSteps
+pub mod Codes
 pub mod Unique
 pub mod RoundTrip
 pub mod Bound

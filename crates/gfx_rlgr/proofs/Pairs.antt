@@ -13,7 +13,7 @@ modes-differ mode one three = let e : Rlgr1 ≡ Rlgr3 = sym one ∙ three in cc
 
 -- ---- how many binary digits a number has
 
-below-length : (most n : ℕ) → n ≤ most → n < 2 ^ bit_length_within most n
+pub below-length : (most n : ℕ) → n ≤ most → n < 2 ^ bit_length_within most n
 unfolding bit_length_within
 below-length zero n h = omega arith
 below-length (suc most) zero h = omega arith

@@ -1,11 +1,11 @@
 -- What one step of the decoder has read, and where the values stand meanwhile.
-use Rattle.std.specs.Prelude.{ℕ, ◌<◌, ◌≤◌, ◌≡◌, length, min, ℤ, pos, negsuc, Bool, true, List, ◌++◌, map, take, replicate, if◌then◌else◌}
-use Rattle.std.specs.Option.{option_to_list}
+use Rattle.std.specs.Prelude.{ℕ, ◌<◌, ◌≤◌, ◌≡◌, length, min, ℤ, pos, negsuc, Bool, true, List, [], ◌∷◌, ◌++◌, map, take, replicate, if◌then◌else◌}
 use Rattle.gfx_bits.specs.Bits.{Spelled}
 use Rattle.gfx_rlgr.specs.declared.mode.Mode.{Mode}
 use Rattle.gfx_rlgr.specs.declared.params.Params.{Params}
 use Rattle.gfx_rlgr.specs.declared.params.TheConstants.{PARAMETER_MAX}
-use Rattle.gfx_rlgr.specs.declared.decoder.Terms.{Terms}
+use Rattle.gfx_rlgr.specs.declared.placing.Terms.{Terms}
+use Rattle.gfx_rlgr.specs.declared.placing.Terms.TheVariants.{Zeros, ValueBehind, TwoValues}
 use Rattle.gfx_rlgr.specs.Code.{Token, kr, number_code, after_number, code, after, IsToken, adds_up, terms_of}
 use Rattle.gfx_rlgr.specs.Rlgr.{in_range}
 
@@ -33,9 +33,11 @@ pub record ReadsToken (mode : Mode) (old new : List Bool) (before behind : Param
   pub params : behind ≡ after before token
   pub shows : shown ≡ map kept (terms_of before token)
 
--- the terms of a token that was read
+-- the terms of a token that was read: its zeros, its zeros and the value behind them, or its two values
 abbrev pub shown : Terms → List ℤ
-shown terms = replicate terms.zeros (pos 0) ++ option_to_list terms.value
+shown (Zeros zeros) = replicate zeros (pos 0) ++ []
+shown (ValueBehind zeros value) = replicate zeros (pos 0) ++ value ∷ []
+shown (TwoValues one other) = one ∷ (other ∷ [])
 
 -- the first n of these values, and zeros behind them if they are fewer
 unfoldable pub filled : ℕ → List ℤ → List ℤ

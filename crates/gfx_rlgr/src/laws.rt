@@ -43,9 +43,12 @@ pub fn what_is_written()
     ensures only { (mode : Mode) (values : List ℤ) (bytes : List ℕ) → length values ≡ TERMS → IsBytes bytes → Encodes mode values bytes → bytes ≡ encoded mode values }
 {}
 
-/// The bytes that a server writes for values in range say these values.
+/// The bytes that a server writes for values in range say these values and nothing else, so that
+/// `decode` gives back what `encode` wrote.
 pub fn written_is_read()
-    ensures { (mode : Mode) (values : List ℤ) (bytes : List ℕ) → length values ≡ TERMS → AllPass in_range values → Encodes mode values bytes → Decodes mode bytes (Ok values) }
+    ensures says { (mode : Mode) (values : List ℤ) (bytes : List ℕ) → length values ≡ TERMS → AllPass in_range values → Encodes mode values bytes → Decodes mode bytes (Ok values) }
+    ensures only { (mode : Mode) (values : List ℤ) (bytes : List ℕ) (due : Result (List ℤ) Refusal) → length values ≡ TERMS → AllPass in_range values
+        → Encodes mode values bytes → Decodes mode bytes due → due ≡ Ok values }
 {}
 
 /// Values as small as those of a level of a tile have codes that fit a tile's 16-bit lengths.

@@ -1,5 +1,5 @@
 ghost use Rattle.std.specs.Prelude.{◌≡◌, ◌+◌, ◌-◌, ◌*◌, ◌/◌, ◌^◌, ◌<◌, ◌≤◌, min};
-ghost use Rattle.gfx_rlgr.specs.Code.{start, k, kr, krp_after, kp_after};
+ghost use Rattle.gfx_rlgr.specs.Code.{start, k, kr, krp_after, kp_after, kp_after_pair};
 
 /// How many values a component of a tile has.
 pub const TERMS: usize = 4096;
@@ -27,6 +27,12 @@ pub const VALUE_UP: u32 = 3;
 
 /// What another value on its own takes from kp (DQ_GR).
 pub const VALUE_DOWN: u32 = 3;
+
+/// What two zeros add to kp (2 * UQ_GR).
+pub const PAIR_UP: u32 = 6;
+
+/// What two values that aren't 0 take from kp (2 * DQ_GR).
+pub const PAIR_DOWN: u32 = 6;
 
 /// What a number without ones takes from krp.
 pub const CODE_DOWN: u32 = 2;
@@ -94,6 +100,18 @@ impl Params {
         let up = (self.kp + VALUE_UP).min(PARAMETER_MAX);
         let down = self.kp.saturating_sub(VALUE_DOWN);
         self.kp = if number == 0 { up } else { down };
+    }
+
+    /// After two values, by whether their numbers, this one and the other, are 0.
+    #[inline(always)]
+    pub fn after_pair(&mut self, one: u32, other: u32)
+        requires { self.old.kp ≤ 80 }
+        ensures { self.new ≡ record self.old { kp = kp_after_pair one other self.old.kp } }
+    {
+        // Without a branch, since zeros among the values are hard to foresee.
+        let up = PAIR_UP * u32::from(one == 0) * u32::from(other == 0);
+        let down = PAIR_DOWN * u32::from(one != 0) * u32::from(other != 0);
+        self.kp = (self.kp + up).min(PARAMETER_MAX).saturating_sub(down);
     }
 
     /// After a number's code with this many ones.

@@ -7,7 +7,7 @@ use crate::planes::sum_up;
 use gfx_base::Refusal;
 use gfx_dwt::Transform;
 use gfx_quant::{Band, band_start, dequantise_plane};
-use gfx_rlgr::decode;
+use gfx_rlgr::{Mode, decode};
 
 /// Reads the sums of a first pass by way of a plane, on which nothing depends. An `Err` leaves those that were there.
 pub(crate) fn read_sums(
@@ -24,7 +24,7 @@ pub(crate) fn read_sums(
     ensures coefficients { OnOk result (AllCoefficients sums.new) }
     ensures err { OnErr result (sums.new ≡ sums.old) }
 {
-    let magnitude = decode(bytes, plane)?;
+    let magnitude = decode(Mode::Rlgr1, bytes, plane)?;
     if !sum_low(plane, transform) {
         return Err(Refusal::CoefficientRange);
     }

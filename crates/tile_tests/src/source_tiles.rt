@@ -5,7 +5,7 @@ ghost use Rattle.gfx_tile_state.specs.Shape.{are_positions};
 use gfx_base::{Bytes, Pixel, Refusal};
 use gfx_dwt::Transform;
 use gfx_quant::{Component, Level, Levels, Quant, Rounding, Setting};
-use gfx_rlgr::encode;
+use gfx_rlgr::{Mode, encode};
 use gfx_tile_make::{Pass, SourceTile};
 use gfx_tile_state::{PassShape, Scratch, TileState};
 use std::alloc::Global;
@@ -182,7 +182,7 @@ const NO_SUM: Sum = Sum { count: 0, total: 0 };
 fn first_code(alloc: Global, source: &SourceTile, component: Component) -> Option<Bytes> {
     let mut values = [0; 4096];
     source.first_values(component, &mut values);
-    encode(alloc, &values).ok()
+    encode(alloc, Mode::Rlgr1, &values).ok()
 }
 
 // Sends a component's first pass to a record, puts it to a sum, and answers whether it is taken.

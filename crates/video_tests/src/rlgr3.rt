@@ -4,7 +4,7 @@ ghost use Rattle.std.specs.List.{list_all};
 ghost use Rattle.gfx_rlgr.specs.Rlgr.{in_range};
 
 use gfx_base::{Bytes, Refusal};
-use gfx_rfx_video::{decode_rlgr3, encode_rlgr3};
+use gfx_rlgr::{Mode, decode, encode};
 use std::alloc::Global;
 use std::process::Abort;
 use std::test::Fail;
@@ -28,7 +28,7 @@ fn all_in_range(values: &[i32; 4096]) -> bool
 
 fn encoded(alloc: Global, values: &[i32; 4096]) -> Option<Bytes> {
     if all_in_range(values) {
-        encode_rlgr3(alloc, values).ok()
+        encode(alloc, Mode::Rlgr3, values).ok()
     } else {
         None
     }
@@ -37,7 +37,7 @@ fn encoded(alloc: Global, values: &[i32; 4096]) -> Option<Bytes> {
 // These bytes are decoded to these values.
 fn says(rt: &impl Abort, bytes: &[u8], sparse: &[(usize, i32)]) {
     let mut out = [7; 4096];
-    assert!(rt; decode_rlgr3(bytes, &mut out).is_ok());
+    assert!(rt; decode(Mode::Rlgr3, bytes, &mut out).is_ok());
     let due = placed(sparse);
     for (place, value) in out.iter().enumerate() {
         assert_eq!(rt; i32::from(*value), due[place], "at {place}");
@@ -114,7 +114,7 @@ fn foreign_codes(rt: HostRuntime) {
 fn is_refused(rt: &impl Abort, bytes: &[u8]) {
     let mut out = [7; 4096];
     assert_eq!(rt;
-        decode_rlgr3(bytes, &mut out),
+        decode(Mode::Rlgr3, bytes, &mut out),
         Err(Refusal::CoefficientRange)
     );
     for value in out {

@@ -9,7 +9,7 @@ use Rattle.gfx_rlgr.proofs.encoder.write_value.Goals as goal
 pub returns : goal.returns
 returns c =
     let plain : to_z w32 (of_z w32 c.args.value) ≡ c.args.value = to_z-of_z w32 c.args.value c.ranges.value in
-    let number : c.folded_number-number.result ≡ folded c.args.value = c.folded_number-number.ensures ∙ ap folded plain in
+    let number : c.folded_number-number.result ≡ folded c.args.value = c.folded_number-number.ensures.value ∙ ap folded plain in
     value-written c.args.bits.now c.write_number.new.bits c.args.params.now c.write_number.new.params c.after_value.new.self c.args.value c.requires.single
     (c.in_ok-write_number.ensures.0 ∙ ap (λ n. c.args.bits.now ++ number_code (kr c.args.params.now) n) number)
     (c.in_ok-write_number.ensures.1 ∙ ap (after_number c.args.params.now) number)

@@ -1,6 +1,6 @@
 -- What is put back, where only one key's record and cell are other than before.
 use Rattle.std.proofs.Common.{◌≡◌, ◌∙◌, ap, sym, refl, subst, Bool, true, false, ◌||◌, List, [], ◌∷◌, ◌++◌, Option, Some, None, is_some, cond, T}
-use Rattle.std.specs.Prelude.{IsSome}
+use Rattle.std.specs.Prelude.{IsSome, IsTrue}
 use Rattle.std.specs.FinMap.{get, insert}
 use Rattle.std.specs.Ordering.{eq_by_cmp}
 use Rattle.gfx_base.specs.Cells.{cell}
@@ -113,9 +113,9 @@ keeps_pushed key saved now log more pushed is later o before u =
     place (Some tile) found = subst (λ k. IsSome (get later k)) (sym is.key_is) (o.keeps (ap is_some (sym found)))
 
 -- or before, as a look for it has found
-pub keeps_found : (key : Key) (now : Records) (log saved : List SavedTile) (found : Bool) → saved ≡ log → found ≡ is_saved key saved → found ≡ true → KeepsRecord key now log log
+pub keeps_found : (key : Key) (now : Records) (log saved : List SavedTile) (found : Bool) → saved ≡ log → (IsTrue found → is_saved key saved ≡ true) → IsTrue found → KeepsRecord key now log log
 keeps_found key now log saved found same says there later o before u =
-    let hit : is_saved key log ≡ true = ap (is_saved key) (sym same) ∙ sym says ∙ there in
+    let hit : is_saved key log ≡ true = ap (is_saved key) (sym same) ∙ says there in
     record { back = sym (undone_saved log key now later o hit) ∙ u.back; can = can_only log key now later o u.can }
 
 -- ---- a record and a cell that are kept

@@ -1,7 +1,10 @@
 //! Records as they stood before a message, kept and put back.
-ghost use Rattle.std.specs.Prelude.{◌≡◌, [], IfOk, OnErr, OnOk};
+ghost use Rattle.std.specs.Prelude.{◌≡◌, ◌<◌, ◌^◌, [], IfOk, IsTrue, OnErr, OnOk, true};
+ghost use Rattle.std.specs.Vec.{vec_len};
 ghost use Rattle.std.specs.FinMap as finmap;
-ghost use Rattle.gfx_prog_decode.specs.Undo.{CanBack, IsSavedOf, KeepsRecord, is_saved, is_saved_of, records_undone};
+ghost use Rattle.std.specs.Ordering.{eq_by_cmp};
+ghost use Rattle.gfx_prog_decode.specs.Records.{key_cmp};
+ghost use Rattle.gfx_prog_decode.specs.Undo.{CanBack, IsSavedOf, KeepsRecord, is_saved, records_undone};
 
 use crate::key::Key;
 use crate::records::Records;
@@ -11,10 +14,15 @@ use gfx_base::NoMemory;
 use gfx_tile_state::TileState;
 use std::alloc::Global;
 
+/// How many cells a surface has at most. Each of them has a place of its own.
+const PLACES: usize = 16_384;
+
 /// The records that a message touched, each as it was before, and memory for more of them.
 #[derive(Drop)]
 pub(crate) struct TileLog {
     pub(crate) tiles: Vec<SavedTile>,
+    /// Where among the records that of a cell may stand, if it is kept. Anything may stand here.
+    places: Vec<usize>,
     spare: Spare,
 }
 
@@ -25,6 +33,7 @@ impl TileLog {
     {
         TileLog {
             tiles: Vec::new(alloc),
+            places: Vec::new(alloc),
             spare: Spare::new(alloc),
         }
     }
@@ -46,8 +55,11 @@ impl TileLog {
         ensures ok { OnOk result (KeepsRecord key records.now self.old.tiles.items self.new.tiles.items) }
         ensures err { OnErr result (self.new.tiles.items ≡ self.old.tiles.items) }
     {
-        if !is_kept(&self.tiles, key) {
+        let number = number_of(key);
+        make_place(&mut self.places, number)?;
+        if !is_kept(&self.tiles, self.places[number], key) {
             let saved = save(alloc, &mut self.spare, records, key)?;
+            self.places[number] = self.tiles.len();
             self.tiles.push(saved)?;
         }
         Ok(())
@@ -65,11 +77,14 @@ impl TileLog {
         ensures same { OnErr result (records.new ≡ records.old) }
         ensures log { OnErr result (self.new.tiles.items ≡ self.old.tiles.items) }
     {
-        if is_kept(&self.tiles, key) {
+        let number = number_of(key);
+        make_place(&mut self.places, number)?;
+        if is_kept(&self.tiles, self.places[number], key) {
             let old = records.exchange(key, tile)?;
             self.spare.take(old);
             return Ok(());
         }
+        self.places[number] = self.tiles.len();
         self.exchange_first(records, key, tile)
     }
 
@@ -111,18 +126,36 @@ impl TileLog {
     }
 }
 
-/// Whether a key's record is kept already.
-fn is_kept(log: &[SavedTile], key: Key) -> bool
-    ensures { result ≡ is_saved key log.now }
+/// The number of a key's cell, row by row.
+fn number_of(key: Key) -> usize
+    ensures { result < 2 ^ 32 }
 {
-    log.iter().any(|saved| is_of(saved, key))
+    (usize::from(key.y) * 128 + usize::from(key.x)) % PLACES
 }
 
-/// Whether what is saved is a key's record.
-fn is_of(saved: &SavedTile, key: Key) -> bool
-    ensures { result ≡ is_saved_of key saved.now }
+/// Makes a place for this number.
+fn make_place(places: &mut Vec<usize>, number: usize) -> Result<(), NoMemory>
+    requires { number < 2 ^ 32 }
+    ensures { OnOk result (number < vec_len places.new) }
 {
-    saved.key == key
+    if number >= places.len() {
+        places.resize(number + 1, 0)?;
+    }
+    Ok(())
+}
+
+/// Whether a key's record is the one that is kept at this place.
+fn is_kept(log: &[SavedTile], place: usize, key: Key) -> bool
+    ensures { IsTrue result → is_saved key log.now ≡ true }
+{
+    place < log.len() && is_same(log[place].key, key)
+}
+
+/// Whether two keys are one.
+fn is_same(first: Key, second: Key) -> bool
+    ensures { result ≡ eq_by_cmp key_cmp first second }
+{
+    first == second
 }
 
 /// A key's record as it is.

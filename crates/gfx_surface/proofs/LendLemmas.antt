@@ -121,6 +121,8 @@ pair_returned width height start other format first second old seen new kept was
   shows_other = cell_given width height other format second old seen _ was same shows begins' full on' refl;
   left = lent.left;
   left_other = lent.left_other;
+  long = lent.long;
+  long_other = lent.long_other;
   lent = lent.lent;
   leaves =
       ap (of_cells width height format) keeps
@@ -166,6 +168,8 @@ split_returned width height start size middle rest row column format old seen ne
   shows_other = strip_given width height middle rest row column (cells_along was.width) format old seen _ was same shows begins' (sized' ∙ wide) full on (omega arith) on' refl;
   left = lent.left;
   left_other = lent.left_other;
+  long = lent.long ∙ sized;
+  long_other = lent.long_other ∙ sized' ∙ wide;
   lent = lent.lent;
   leaves =
       ap (of_cells width height format) keeps

@@ -8,4 +8,5 @@ pub mod Runs
 pub mod ViewLemmas
 pub mod LendLemmas
 pub mod KeptLemmas
+pub mod FoundLemmas
 pub mod Numbers

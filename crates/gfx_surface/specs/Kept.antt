@@ -1,9 +1,10 @@
 -- Cells of a surface as they stood before they were drawn on, and what is put back of them (this project's own rule).
-use Rattle.std.specs.Prelude.{◌≡◌, ℕ, ◌<◌, ◌/◌, ◌&&◌, nat_eq, nat_lt, false, Bool, List, [], ◌∷◌, map}
-use Rattle.std.specs.List.{Contains}
+use Rattle.std.specs.Prelude.{◌≡◌, ℕ, ◌<◌, ◌+◌, ◌*◌, ◌/◌, ◌&&◌, nat_eq, nat_lt, false, Bool, List, [], ◌∷◌, length, map}
+use Rattle.std.specs.List.{Contains, slice_index_or}
 use Rattle.gfx_base.specs.declared.geometry.Cell.{Cell}
 use Rattle.gfx_base.specs.declared.pixel.Pixel.{Pixel}
-use Rattle.gfx_base.specs.Cells.{cells_along}
+use Rattle.gfx_base.specs.Cells.{cell, cells_along}
+use Rattle.gfx_surface.specs.declared.TheConstants.{MOST_SIDE}
 use Rattle.gfx_surface.specs.declared.kept_cell.KeptCell.{KeptCell}
 use Rattle.gfx_surface.specs.Picture.{Picture, pixel_at, redrawn}
 use Rattle.gfx_surface.specs.Views.{IsCellOf, with_cell}
@@ -17,9 +18,27 @@ pub record IsKeptOf (cell : Cell) (picture : Picture) (kept : KeptCell) : Type 0
   pub cell_is : kept.cell ≡ cell
   pub pixels_are : IsCellOf picture cell kept.pixels.items
 
+-- the kept cells, in their order
+abbrev pub cells_of : List KeptCell → List Cell
+cells_of log = map (λ kept. kept.cell) log
+
 -- the cell is one of those kept
 abbrev pub IsKept : Cell → List KeptCell → Type 0
-IsKept cell log = Contains (map (λ kept. kept.cell) log) cell
+IsKept cell log = Contains (cells_of log) cell
+
+-- the number of a cell, row by row on a surface of the longest sides
+abbrev pub number_of : Cell → ℕ
+number_of cell = cell.y * cells_along MOST_SIDE + cell.x
+
+-- the cell at this place of a list
+abbrev pub cell_at : List Cell → ℕ → Cell
+cell_at cells i = slice_index_or cells i (cell 0 0)
+
+-- each of these cells may lie on a surface, and the place of its number says where it stands among them
+pub record AreFound (cells : List Cell) (places : List ℕ) : Type 0 where
+  pub narrow : (i : ℕ) → i < length cells → (cell_at cells i).x < cells_along MOST_SIDE
+  pub noted : (i : ℕ) → i < length cells → number_of (cell_at cells i) < length places
+  pub found : (i : ℕ) → i < length cells → slice_index_or places (number_of (cell_at cells i)) 0 ≡ i
 
 -- all cells are put back, the one that was kept last first
 abbrev pub put_back : List KeptCell → Picture → Picture

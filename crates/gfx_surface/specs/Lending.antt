@@ -1,5 +1,5 @@
 -- What a closure leaves of two pieces that it writes, which never share a place.
-use Rattle.std.specs.Prelude.{◌≡◌, ℕ, ◌+◌, ◌-◌, List, length, map, take, drop}
+use Rattle.std.specs.Prelude.{◌≡◌, ℕ, ◌+◌, ◌-◌, ◌*◌, List, length, map, take, drop}
 use Rattle.std.specs.List.{slice_index_or}
 use Rattle.std.specs.Borrow.{MutBor}
 use Rattle.std.specs.Fn.{Once}
@@ -47,7 +47,7 @@ pub record LentOf {F : Type 0} (g : OfTwo F) (f : F) (format : Format) (first fi
   pub writes : WritesRun first (first + first_length) (λ k. slice_index_or (map (shade format) left) (k - first) no_pixel) old mid
   pub writes_other : WritesRun second (second + second_length) (λ k. slice_index_or (map (shade format) left_other) (k - second) no_pixel) mid new
 
--- the closure was given two cells of a picture, which is then what it left there
+-- the closure was given two cells of a picture, which is then what it left there, cells as whole as they were
 pub record PairReturns {F : Type 0} (g : OfTwo F) (f : F) (first second : Cell) (old new : Picture) : Type 0 where
   pub shown : List Pixel
   pub shown_other : List Pixel
@@ -55,10 +55,12 @@ pub record PairReturns {F : Type 0} (g : OfTwo F) (f : F) (first second : Cell) 
   pub shows_other : IsCellOf old second shown_other
   pub left : List Pixel
   pub left_other : List Pixel
+  pub long : length left ≡ 4096
+  pub long_other : length left_other ≡ 4096
   pub lent : Lent g f shown shown_other left left_other
   pub leaves : new ≡ with_cell (with_cell old first left) second left_other
 
--- the closure was given two parts of a row of cells, parted at a column of them
+-- the closure was given two parts of a row of cells, parted at a column of them, and left as many places in each
 pub record SplitReturns {F : Type 0} (g : OfTwo F) (f : F) (row column : ℕ) (old new : Picture) : Type 0 where
   pub shown : List Pixel
   pub shown_other : List Pixel
@@ -66,5 +68,7 @@ pub record SplitReturns {F : Type 0} (g : OfTwo F) (f : F) (row column : ℕ) (o
   pub shows_other : IsStripOf old row column (cells_along old.width) shown_other
   pub left : List Pixel
   pub left_other : List Pixel
+  pub long : length left ≡ 4096 * column
+  pub long_other : length left_other ≡ 4096 * (cells_along old.width - column)
   pub lent : Lent g f shown shown_other left left_other
   pub leaves : new ≡ with_strip (with_strip old row 0 column left) row column (cells_along old.width) left_other

@@ -1,10 +1,12 @@
 //! Cells as they stood before they were drawn on, kept and put back.
-ghost use Rattle.std.specs.Prelude.{◌≡◌, ◌<◌, ◌+◌, ◌*◌, ◌^◌, [], IfOk, IsTrue, OnErr, OnOk};
+ghost use Rattle.std.specs.Prelude.{◌≡◌, ◌<◌, ◌≤◌, ◌^◌, [], length, IfOk, IsTrue, OnErr, OnOk, ℕ};
+ghost use Rattle.std.specs.List.{slice_index_or};
 ghost use Rattle.std.specs.Vec.{vec_len};
-ghost use Rattle.gfx_base.specs.Cells.{cells_along};
-ghost use Rattle.gfx_surface.specs.Kept.{IsKept, IsKeptOf, KeepsCell, lies_on, put_back};
+ghost use Rattle.gfx_surface.specs.Kept.{AreFound, IsKept, IsKeptOf, KeepsCell, cell_at, cells_of, lies_on, number_of, put_back};
+ghost use Rattle.gfx_surface.specs.declared.log.TheConstants.{MOST_SPARE};
 ghost use Rattle.gfx_surface.specs.Views.{LiesOn, with_cell};
 
+use crate::MOST_SIDE;
 use crate::cells::cells_along;
 use crate::kept_cell::KeptCell;
 use crate::surface::Surface;
@@ -19,10 +21,12 @@ const MOST_SPARE: usize = 2_048;
 #[derive(Drop)]
 pub struct CellLog {
     pub(crate) cells: Vec<KeptCell>,
-    /// Where among the cells that of a surface's number may stand, if it is kept. Anything may stand here.
+    /// Where among the cells that of a number stands, if it is kept. At another number anything may stand.
     places: Vec<usize>,
     /// Pixels that mean nothing.
     spare: Vec<Vec<Pixel>>,
+    ghost found: { AreFound (cells_of cells.items) places.items },
+    ghost few: { vec_len spare ≤ MOST_SPARE },
 }
 
 impl CellLog {
@@ -37,13 +41,16 @@ impl CellLog {
         }
     }
 
-    /// Keeps a cell as it stands, if it isn't kept yet.
+    /// Keeps a cell as it stands, if it isn't kept yet. One that is kept stays as it is kept.
     pub fn keep(&mut self, alloc: Global, surface: &Surface, cell: Cell) -> Result<(), NoMemory>
         requires { LiesOn surface.now cell }
         ensures ok { OnOk result (KeepsCell cell surface.now self.old.cells.items self.new.cells.items) }
+        ensures again { IsKept cell self.old.cells.items → self.new.cells.items ≡ self.old.cells.items }
         ensures err { OnErr result (self.new.cells.items ≡ self.old.cells.items) }
     {
-        let number = number_in(surface.size(), cell);
+        // Its sides are no longer than the longest.
+        let (_, _) = surface.size();
+        let number = number_of(cell);
         make_place(&mut self.places, number)?;
         if !is_kept(&self.cells, self.places[number], cell) {
             let kept = as_it_stands(alloc, &mut self.spare, surface, cell)?;
@@ -74,18 +81,20 @@ impl CellLog {
     }
 }
 
-/// The number of a cell of a surface of these sides, row by row.
-fn number_in(size: (u16, u16), cell: Cell) -> usize
-    ensures number { result ≡ cell.y * cells_along size.0 + cell.x }
+/// The number of a cell, row by row on a surface of the longest sides.
+fn number_of(cell: Cell) -> usize
+    ensures number { result ≡ number_of cell }
     ensures few { result < 2 ^ 32 }
 {
-    usize::from(cell.y) * cells_along(size.0) + usize::from(cell.x)
+    usize::from(cell.y) * cells_along(MOST_SIDE) + usize::from(cell.x)
 }
 
-/// Makes a place for this number.
+/// Makes a place for this number. The places that there are stay.
 fn make_place(places: &mut Vec<usize>, number: usize) -> Result<(), NoMemory>
     requires { number < 2 ^ 32 }
-    ensures { OnOk result (number < vec_len places.new) }
+    ensures place { OnOk result (number < length places.new.items) }
+    ensures more { length places.old.items ≤ length places.new.items }
+    ensures stay { (k : ℕ) → k < length places.old.items → slice_index_or places.new.items k 0 ≡ slice_index_or places.old.items k 0 }
 {
     if number >= places.len() {
         places.resize(number + 1, 0)?;
@@ -95,14 +104,16 @@ fn make_place(places: &mut Vec<usize>, number: usize) -> Result<(), NoMemory>
 
 /// Whether a cell is the one that is kept at this place.
 fn is_kept(cells: &[KeptCell], place: usize, cell: Cell) -> bool
-    ensures { IsTrue result → IsKept cell cells.now }
+    ensures kept { IsTrue result → IsKept cell cells.now }
+    ensures here { place < length cells.now → cell_at (cells_of cells.now) place ≡ cell → IsTrue result }
 {
     place < cells.len() && is_same(cells[place].cell, cell)
 }
 
 /// Whether two cells are one.
 fn is_same(first: Cell, second: Cell) -> bool
-    ensures { IsTrue result → first ≡ second }
+    ensures same { IsTrue result → first ≡ second }
+    ensures found { first ≡ second → IsTrue result }
 {
     first.x == second.x && first.y == second.y
 }
@@ -115,14 +126,17 @@ fn as_it_stands(
     cell: Cell,
 ) -> Result<KeptCell, NoMemory>
     requires { LiesOn surface.now cell }
-    ensures { IfOk result (IsKeptOf cell surface.now) }
+    ensures ok { IfOk result (IsKeptOf cell surface.now) }
+    ensures few { vec_len spare.new ≤ vec_len spare.old }
 {
     let pixels = copied(some_memory(alloc, spare), surface.cell(cell))?;
     Ok(KeptCell { cell, pixels })
 }
 
 /// Memory for pixels, which mean nothing.
-fn some_memory(alloc: Global, spare: &mut Vec<Vec<Pixel>>) -> Vec<Pixel> {
+fn some_memory(alloc: Global, spare: &mut Vec<Vec<Pixel>>) -> Vec<Pixel>
+    ensures { vec_len spare.new ≤ vec_len spare.old }
+{
     match spare.pop() {
         Some(pixels) => pixels,
         None => Vec::new(alloc),
@@ -156,7 +170,10 @@ fn lies_on(size: (u16, u16), cell: Cell) -> bool
 }
 
 /// Takes the memory of a cell. Where there is no room for it, it is let go of.
-fn take(spare: &mut Vec<Vec<Pixel>>, kept: KeptCell) {
+fn take(spare: &mut Vec<Vec<Pixel>>, kept: KeptCell)
+    requires { vec_len spare.old ≤ MOST_SPARE }
+    ensures { vec_len spare.new ≤ MOST_SPARE }
+{
     if spare.len() < MOST_SPARE {
         let _ = spare.push(kept.pixels);
     }

@@ -1,4 +1,4 @@
-//! A reader that fails and a writer that takes one byte, as a source and a sink.
+//! A reader that fails, and writers that take one byte, are interrupted or fail, as a source and a sink.
 use gfx_base::{Failed, Sink, Source, write_all};
 use gfx_streams::{StdSink, StdSource};
 use std::io;
@@ -63,5 +63,61 @@ fn a_short_write_is_gone_on_with(rt: HostRuntime) {
     let mut sink = StdSink::new(Narrow { calls: 0 });
     assert_eq!(rt; write_all(&mut sink, b"four"), Ok(()));
     assert_eq!(rt; write_all(&mut sink, b"more"), Err(Failed));
+    assert_eq!(rt; sink.flush(), Err(Failed));
+}
+
+/// A writer that is interrupted at its first call, fails at the third, takes all at each other one, and can be flushed
+/// once.
+#[derive(Drop)]
+struct Breaking {
+    calls: u8,
+    flushed: bool,
+}
+
+impl Write for Breaking {
+    fn write(&mut self, buf: &[u8]) -> io::Result<usize> {
+        self.calls = self.calls.saturating_add(1);
+        match self.calls {
+            1 => Err(Error::from(ErrorKind::Interrupted)),
+            3 => Err(Error::from(ErrorKind::BrokenPipe)),
+            _ => Ok(buf.len()),
+        }
+    }
+
+    fn flush(&mut self) -> io::Result<()> {
+        if self.flushed {
+            return Err(Error::from(ErrorKind::BrokenPipe));
+        }
+        self.flushed = true;
+        Ok(())
+    }
+}
+
+/// The sink of such a writer.
+fn failing_sink() -> StdSink<Breaking> {
+    StdSink::new(Breaking {
+        calls: 0,
+        flushed: false,
+    })
+}
+
+#[test]
+fn an_interrupted_write_is_tried_again(rt: HostRuntime) {
+    let mut sink = failing_sink();
+    assert_eq!(rt; sink.write(b"four"), Ok(4));
+}
+
+#[test]
+fn a_failed_write_is_not_tried_again(rt: HostRuntime) {
+    let mut sink = failing_sink();
+    assert_eq!(rt; write_all(&mut sink, b"four"), Ok(()));
+    assert_eq!(rt; write_all(&mut sink, b"more"), Err(Failed));
+    assert_eq!(rt; write_all(&mut sink, b"last"), Ok(()));
+}
+
+#[test]
+fn a_failed_flush_is_told(rt: HostRuntime) {
+    let mut sink = failing_sink();
+    assert_eq!(rt; sink.flush(), Ok(()));
     assert_eq!(rt; sink.flush(), Err(Failed));
 }

@@ -5,3 +5,4 @@ pub mod Playing
 pub mod Noting
 pub mod Bringing
 pub mod Beginning
+pub mod Wants

@@ -1,3 +1,4 @@
 pub mod Replies
 pub mod Client
 pub mod Standing
+pub mod Wanting

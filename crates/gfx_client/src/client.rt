@@ -3,6 +3,11 @@ ghost use Rattle.gfx_client.specs.Standing.{StandsFor, StandsFrom, HasBrought, H
 ghost use Rattle.gfx_state.specs.History.{Effect, coming};
 ghost use Rattle.gfx_state.specs.Cursor.{given};
 ghost use Rattle.gfx_state.specs.State.{State};
+ghost use Rattle.gfx_client.specs.Wanting.{LacksOnlyIf, may_want};
+ghost use Rattle.gfx_base.specs.Outcome.{WantsOnlyIf};
+ghost use Rattle.gfx_layout.specs.Header.{is_headed};
+ghost use Rattle.gfx_pdu.specs.Id.{id_of_number};
+ghost use Rattle.gfx_segment.specs.Framing.{may_give};
 ghost use Rattle.gfx_client.specs.Replies.{hello, is_empty_reply, reply_to, stepped_of, stream_of};
 ghost use Rattle.gfx_damage.specs.Damage.{undamaged};
 ghost use Rattle.gfx_damage.specs.History.{damaged};
@@ -191,9 +196,11 @@ impl Client {
 
     /// Applies the next message, and says which it is and what the server is to be told of it. `Need`
     /// says that the bytes taken hold no further whole message and no refusal. The first fault closes the
-    /// client; a message for which memory ran out has changed nothing.
+    /// client; a message for which memory ran out has changed nothing. It runs out only behind a message's header that is
+    /// accepted, or behind the known descriptor of a whole channel message.
     pub fn step(&mut self) -> Result<Stepped, ClientFault>
         ensures steps { Steps (closed_by self.old) result self.old self.new }
+        ensures memory { closed_by self.old ≡ None → LacksOnlyIf result (may_want (cursor_of self.new)) }
 
         // Whatever it answers, it stands for the same bytes.
         ensures stands { (start : State) (bytes : List ℕ) → StandsFrom start self.old bytes → StandsFrom start self.new bytes }
@@ -312,6 +319,7 @@ impl Client {
     /// Applies the next message, and opens channel messages until there is one.
     fn advance(&mut self) -> Result<Stepped, Fault>
         ensures advances { Advances result self.old self.new }
+        ensures memory { WantsOnlyIf result (may_want (cursor_of self.new)) }
         ensures offers { offers_of self.new ≡ offers_of self.old }
         ensures living { is_living self.new ≡ is_living self.old }
     {
@@ -328,6 +336,7 @@ impl Client {
     /// Applies the next message of the payload, if there is one. Its data are lent by the payload.
     fn take_message(&mut self) -> Result<Option<Stepped>, Fault>
         ensures takes { TakesMessage result self.old self.new }
+        ensures memory { WantsOnlyIf result (is_headed id_of_number (cursor_of self.old).left) }
         ensures offers { offers_of self.new ≡ offers_of self.old }
         ensures living { is_living self.new ≡ is_living self.old }
     {
@@ -348,6 +357,7 @@ impl Client {
     fn open_message(&mut self) -> Result<bool, Fault>
         requires { IsAtPayloadEnd self.old }
         ensures opens { OpensMessage result self.old self.new }
+        ensures memory { WantsOnlyIf result (may_give (cursor_of self.old).splitter) }
         ensures offers { offers_of self.new ≡ offers_of self.old }
         ensures living { is_living self.new ≡ is_living self.old }
     {

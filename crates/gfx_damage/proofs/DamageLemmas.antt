@@ -1,23 +1,36 @@
 -- What a message does to the rectangles of each surface.
 use Rattle.std.proofs.Common.{◌≡◌, ◌∙◌, ℕ, ◌&&◌, ◌||◌, not, Bool, true, false, List, [], Option, Some, None, Result, Ok, Err, nat_eq, cond, if◌then◌else◌, refl, sym, ap}
 use Rattle.std.proofs.lemmas.Bool.{eqb-true}
-use Rattle.std.specs.Prelude.{IsOk, OnOk}
-use Rattle.std.specs.FinMap.{empty, get, get-empty, get-insert}
-use Rattle.std.specs.Option.{option_map}
+use Rattle.std.specs.Prelude.{IsOk, OnErr, OnOk}
+use Rattle.std.specs.FinMap.{empty, from_entries, get, get-insert, insert}
+use Rattle.std.specs.Map.{lookup}
 use Rattle.std.specs.Cmp.{nat_cmp_total}
 use Rattle.std.specs.Ordering.{nat_cmp}
 use Rattle.gfx_base.specs.declared.geometry.Rect.{Rect}
-use Rattle.gfx_base.proofs.MapLemmas.{eq_by_cmp-nat_cmp}
+use Rattle.gfx_base.proofs.MapLemmas.{eq_by_cmp-nat_cmp, get-entries_lookup, updated_map}
 use Rattle.gfx_pdu.specs.declared.pdu.Pdu.{Pdu}
 use Rattle.gfx_state.specs.State.{State}
 use Rattle.gfx_state.specs.Written.{changes_all, own_rects, written}
-use Rattle.gfx_damage.specs.Damage.{Damage, Marks, Notes, begun, ends_frame, marked, marks_with, noted, put, rects_in, rects_on, undamaged}
+use Rattle.gfx_damage.specs.Damage.{Damage, Marks, Notes, begun, ends_frame, marked, noted, rects_in, rects_on, undamaged}
 use Rattle.gfx_damage.specs.Marks.{with_rects}
 
 -- what a call that gave its value has done
 pub was_ok : {A E P : Type 0} (r : Result A E) → IsOk r → OnOk r P → P
 was_ok (Ok x) is p = p
 was_ok (Err e) is p = absurd cc
+
+-- what holds where a call failed
+pub where_err : {A E P : Type 0} (r : Result A E) → P → OnErr r P
+where_err (Ok x) p = tt
+where_err (Err e) p = p
+
+-- entries of which one alone was written: that of a surface, with what was put to its rectangles
+pub put_to : (old new : List (ℕ × List Rect)) (one : ℕ × List Rect) (held made : List Rect) → held ≡ rects_in (lookup (nat_eq one.0) old) → made ≡ with_rects held one.1
+    → ((q : ℕ) → lookup (nat_eq q) new ≡ cond (nat_eq one.0 q) (Some made) (lookup (nat_eq q) old))
+    → from_entries {R = nat_cmp} new ≡ marked (from_entries old) (Some one)
+put_to old new one held made holds makes says =
+    updated_map old new one.0 made says
+    ∙ ap (insert (from_entries old) one.0) (makes ∙ ap (λ h. with_rects h one.1) (holds ∙ ap rects_in (sym (get-entries_lookup old one.0))))
 
 -- what is written on one surface is put to its own, and those of no other change
 own : (marks : Marks) (drawn : Option (ℕ × List Rect)) (id : ℕ) → rects_on (marked marks drawn) id ≡ with_rects (rects_on marks id) (own_rects id drawn)
@@ -33,10 +46,6 @@ own marks (Some one) id =
 pub notes : (before : Damage) (state : State) (pdu : Pdu) → Notes before state pdu
 unfolding noted
 notes before state pdu = record { rects = λ id. own (begun before).marks (written state pdu) id }
-
--- behind the end of a frame no surface has any
-pub none_begun : (before : Damage) (id : ℕ) → before.ended ≡ true → [] ≡ rects_on (begun before).marks id
-none_begun before id e = sym (ap (λ b. rects_on (if b then undamaged else before).marks id) e ∙ ap rects_in (get-empty nat_cmp id))
 
 never : (a : Bool) → (a && false) ≡ false
 never true = refl
@@ -55,11 +64,11 @@ marks_begun before = elim before.ended as (λ b. (if b then empty else before.ma
 
 pub noting : (before : Damage) (state : State) (pdu : Pdu) (ended whole : Bool) (first marks : Marks) (drawn : Option (ℕ × List Rect))
     → ended ≡ ends_frame pdu → whole ≡ ((before.whole && not before.ended) || changes_all pdu) → first ≡ (if before.ended then empty else before.marks)
-    → drawn ≡ option_map (marks_with (begun before).marks) (written state pdu) → marks ≡ put first drawn
+    → drawn ≡ written state pdu → marks ≡ marked first drawn
     → record { ended = ended; whole = whole; marks = marks } ≡ noted before state pdu
 unfolding noted
 noting before state pdu ended whole first marks drawn ends all starts draws puts = λ i. record {
   ended = ends i;
   whole = (all ∙ ap (λ b. b || changes_all pdu) (whole_begun before)) i;
-  marks = (puts ∙ (λ j. put ((starts ∙ marks_begun before) j) (draws j))) i;
+  marks = (puts ∙ (λ j. marked ((starts ∙ marks_begun before) j) (draws j))) i;
 }

@@ -1,3 +1,4 @@
 pub mod MarkLemmas
 pub mod DamageLemmas
 pub mod OpeningLemmas
+pub mod WantLemmas

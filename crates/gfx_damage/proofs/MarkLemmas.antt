@@ -37,11 +37,11 @@ four false b c d e = absurd cc
 all_four : (a b c d : Bool) → a ≡ true → b ≡ true → c ≡ true → d ≡ true → (a && b && c && d) ≡ true
 all_four a b c d p q r s = rw (p, q, r, s) refl
 
-first-or : (a b : Bool) → a ≡ true → (a || b) ≡ true
+pub first-or : (a b : Bool) → a ≡ true → (a || b) ≡ true
 first-or true b e = refl
 first-or false b e = absurd cc
 
-second-or : (a b : Bool) → b ≡ true → (a || b) ≡ true
+pub second-or : (a b : Bool) → b ≡ true → (a || b) ≡ true
 second-or true b e = refl
 second-or false b e = e
 

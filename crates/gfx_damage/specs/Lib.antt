@@ -2,5 +2,6 @@ pub mod Marks
 pub mod Damage
 pub mod Codes
 pub mod Inside
-pub mod Marked
+pub mod Drawing
+pub mod Memory
 pub mod History

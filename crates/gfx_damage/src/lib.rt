@@ -9,9 +9,10 @@
 
 mod adding;
 mod damage;
+mod drawing;
+mod few_rects;
 mod kinds;
 mod laws;
-mod marking;
 
 pub use adding::MOST_RECTS;
 pub use damage::Damage;

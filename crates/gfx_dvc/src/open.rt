@@ -1,4 +1,5 @@
-ghost use Rattle.std.specs.Prelude.{◌≡◌, ◌+◌, ◌≤◌, ◌<◌, ◌^◌, [], ◌++◌, length, OnOk, OnErr};
+ghost use Rattle.std.specs.Prelude.{◌≡◌, ◌+◌, ◌*◌, ◌≤◌, ◌<◌, ◌^◌, [], ◌++◌, length, max, OnOk, OnErr};
+ghost use Rattle.std.specs.Vec.{vec_len, vec_capacity};
 
 use gfx_base::{Bytes, NoMemory};
 use std::alloc::Global;
@@ -35,18 +36,13 @@ impl Gathered {
         self.items.len()
     }
 
-    /// Puts a piece at the end, of a message that has so many bytes in the whole. Room is at least doubled where it
-    /// grows, and never for more bytes than the message has.
+    /// Puts a piece at the end, of a message that has so many bytes in the whole.
     pub(crate) fn gain(&mut self, piece: &[u8], total: usize) -> Result<(), NoMemory>
         requires { length self.old + length piece.now ≤ total }
         ensures ok { OnOk result (self.new ≡ self.old ++ piece.now) }
         ensures err { OnErr result (self.new ≡ self.old) }
     {
-        let len = self.items.len();
-        if piece.len() > self.items.capacity() - len {
-            let more = piece.len().max(len).min(total - len);
-            self.items.reserve_exact(more)?;
-        }
+        make_room(&mut self.items, piece.len(), total)?;
         self.items.extend_from_slice(piece)?;
         Ok(())
     }
@@ -66,4 +62,21 @@ pub(crate) struct Open {
     pub total: usize,
     /// Those that have come.
     pub bytes: Gathered,
+}
+
+/// Makes room for so many bytes more, of a message that has so many in the whole. Room is at least doubled where it
+/// grows, yet never more than twice what has come then, nor for more bytes than the message has: what a message says of
+/// its size takes no memory.
+fn make_room(items: &mut Vec<u8>, count: usize, total: usize) -> Result<(), NoMemory>
+    requires { vec_len items.old + count ≤ total }
+    ensures same { items.new.items ≡ items.old.items }
+    ensures few { vec_capacity items.new ≤ max (vec_capacity items.old) (2 * (vec_len items.old + count)) }
+    ensures within { vec_capacity items.new ≤ max (vec_capacity items.old) total }
+{
+    let len = items.len();
+    if count > items.capacity() - len {
+        let more = count.max(len).min(total - len);
+        items.reserve_exact(more)?;
+    }
+    Ok(())
 }

@@ -1,5 +1,5 @@
 -- What is found in bytes, and in them with more behind.
-use Rattle.std.proofs.Common.{◌≡◌, ℕ, List, [], ◌∷◌, ◌++◌, length, take, drop, Some, None, is_some, refl, sym, ap, ◌∙◌, subst, append_assoc}
+use Rattle.std.proofs.Common.{◌≡◌, ℕ, List, [], ◌∷◌, ◌++◌, length, take, drop, Some, None, is_some, Err, refl, sym, ap, ◌∙◌, subst, append_assoc}
 use Rattle.std.proofs.lemmas.Bool.{cond-true, cond-false}
 use Rattle.std.proofs.lemmas.Grind.{flat_map-append}
 use Rattle.std.proofs.lemmas.List.{append-nil, take-append-drop}
@@ -7,7 +7,7 @@ use Rattle.std.specs.List.{flat_map}
 use Rattle.gfx_base.specs.declared.refusal.Refusal.{Refusal}
 use Rattle.gfx_base.specs.declared.refusal.Refusal.TheVariants.{ChannelLength}
 use Rattle.gfx_dvc.specs.Cutting.{recorded}
-use Rattle.gfx_dvc.specs.Joining.{Joiner, fresh, refused, turn_of, turn, messages_of, joiner_after}
+use Rattle.gfx_dvc.specs.Joining.{Joiner, fresh, refused, step, turn_of, turn, messages_of, joiner_after}
 use Rattle.gfx_dvc.proofs.PassedLemmas.{passed-kept, step-refused}
 use Rattle.gfx_segment.specs.Framing.{prefixed}
 use Rattle.gfx_fragments.specs.Cut.{Next, One, Few, Wrong, next_message, next_fragment, Cut, cut_of, cut}
@@ -102,6 +102,11 @@ joiner-append joiner (x ∷ xs) ys = joiner-append (turn joiner x).1 xs ys
 turn-refused : (joiner : Joiner) (f : List ℕ) (r : Refusal) → joiner.refusal ≡ Some r → turn joiner f ≡ ([], refused r)
 unfolding turn_of
 turn-refused joiner f r e = ap turn_of (step-refused joiner f r (passed-kept joiner f r e))
+
+-- a turn that is refused
+pub turn-not : (joiner : Joiner) (f : List ℕ) (r : Refusal) → step joiner f ≡ Err r → turn joiner f ≡ ([], refused r)
+unfolding turn_of
+turn-not joiner f r e = ap turn_of e
 
 pub record IsOver (joiner : Joiner) (fragments : List (List ℕ)) (r : Refusal) : Type 0 where
   pub messages : messages_of joiner fragments ≡ []

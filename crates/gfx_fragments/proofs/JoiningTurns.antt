@@ -2,7 +2,9 @@
 use Rattle.std.proofs.Common.{◌≡◌, ℕ, Bool, true, false, ◌||◌, List, [], ◌∷◌, ◌++◌, length, Option, Some, None, is_some, if◌then◌else◌, Result, Ok, Err, refl, sym, ap, ◌∙◌, subst, eqb}
 use Rattle.std.proofs.lemmas.List.{append-nil}
 use Rattle.std.specs.List.{flat_map}
+use Rattle.std.specs.Result.{is_ok}
 use Rattle.gfx_base.specs.Memory.{next_count}
+use Rattle.gfx_base.specs.Outcome as outcome
 use Rattle.gfx_base.specs.Stream.{Change, change, Gains}
 use Rattle.gfx_base.specs.declared.answer.Cause.{Cause}
 use Rattle.gfx_base.specs.declared.answer.Cause.TheVariants as cause
@@ -11,7 +13,7 @@ use Rattle.gfx_base.specs.declared.refusal.Refusal.TheVariants.{ChannelLength}
 use Rattle.gfx_base.proofs.ResultLemmas.{and_then_ok}
 use Rattle.gfx_base.proofs.Streams.{Gains-append}
 use Rattle.gfx_dvc.specs.Joining.{Joiner, fresh, refused, idle, opened, whole, so_far, passed, reached, put, step, given, turn_of, turn, messages_of, joiner_after, Answers}
-use Rattle.gfx_input.specs.Reading.{TakesPiece}
+use Rattle.gfx_input.specs.Reading.{TakesPiece, WantsOnlyIf}
 use Rattle.gfx_input.specs.declared.fault.TakeFault.{TakeFault}
 use Rattle.gfx_input.specs.declared.fault.TakeFault.TheVariants as broke
 use Rattle.gfx_input.specs.declared.taker.Taken.{Taken}
@@ -24,7 +26,7 @@ use Rattle.gfx_fragments.specs.Turns.{WritesItem, IsJoining, HasJoined, RefusesJ
 use Rattle.gfx_fragments.specs.declared.joining.Assembler.{Assembler}
 use Rattle.gfx_fragments.proofs.CutLemmas.{Cuts-append, Cuts-then, Cuts-one, cut-there, cut-is, cut-behind, cut-nil}
 use Rattle.gfx_fragments.proofs.EndLemmas.{IsTaken}
-use Rattle.gfx_fragments.proofs.FoundLemmas.{IsTextFront, fronts_fine, joined-is, joined-append, joiner-append, over, passed-all, passed-to, joins_found}
+use Rattle.gfx_fragments.proofs.FoundLemmas.{IsTextFront, fronts_fine, joined-is, joined-append, joiner-append, over, passed-all, passed-to, joins_found, turn-not}
 use Rattle.gfx_fragments.proofs.FrontLemmas.{fragments_lawful}
 use Rattle.gfx_fragments.proofs.TurnLemmas.{counts-one, part_written, part_still, fails_then}
 
@@ -49,10 +51,6 @@ turn-taken : (joiner new : Joiner) (f : List ℕ) (message : Option (List ℕ)) 
 unfolding turn_of
 turn-taken joiner new f message e = ap turn_of e
 
-turn-not : (joiner : Joiner) (f : List ℕ) (r : Refusal) → step joiner f ≡ Err r → turn joiner f ≡ ([], refused r)
-unfolding turn_of
-turn-not joiner f r e = ap turn_of e
-
 -- what a joiner answered
 pub took : (old new : Joiner) (f g : List ℕ) (message : Option (List ℕ)) (result : Result (Option (List ℕ)) (Cause Refusal)) → result ≡ Ok message → f ≡ g → Answers result old new (step old f) → step old g ≡ Ok (message, new)
 took old new f g message (Ok m) e same is = ap (step old) (sym same) ∙ is ∙ (let one : m ≡ message = cc in ap (λ z. Ok (z, new)) one)
@@ -62,6 +60,18 @@ pub took_not : (old new : Joiner) (f g : List ℕ) (r : Refusal) (result : Resul
 took_not old new f g r (Ok m) e same is = absurd cc
 took_not old new f g r (Err cause.Memory) e same is = let clash : cause.Memory ≡ cause.Refused r = cc in absurd cc
 took_not old new f g r (Err (cause.Refused s)) e same is = ap (step old) (sym same) ∙ is.0 ∙ (let one : s ≡ r = cc in ap (λ z. Err z) one)
+
+-- it wanted memory only for a fragment that passes
+pub wanted : (old : Joiner) (f g : List ℕ) (result : Result (Option (List ℕ)) (Cause Refusal)) → result ≡ Err cause.Memory → f ≡ g → outcome.WantsOnlyIf result (is_ok (step old f))
+    → is_ok (step old g) ≡ true
+wanted old f g (Ok m) e same wants = absurd cc
+wanted old f g (Err cause.Memory) e same wants = ap (λ z. is_ok (step old z)) (sym same) ∙ wants
+wanted old f g (Err (cause.Refused s)) e same wants = let clash : cause.Refused s ≡ cause.Memory = cc in absurd cc
+
+pub wants_any : {X : Type 0} (result : Result X TakeFault) (may : Bool) → may ≡ true → WantsOnlyIf result may
+wants_any (Ok x) may e = tt
+wants_any (Err broke.Write) may e = tt
+wants_any (Err broke.Memory) may e = e
 
 -- what was written is a front of the text that is due
 join_front : (bytes : List ℕ) (fragments : List (List ℕ)) (rest : List ℕ) → Cuts next_fragment bytes fragments rest → IsTextFront (joined_text fragments) (joined bytes).text

@@ -1,29 +1,31 @@
 -- `join` of `fragment`, and `join` of whatever fragments.
-use Rattle.std.proofs.Common.{◌≡◌, ℕ, ◌≤◌, false, ◌||◌, List, [], ◌∷◌, ◌++◌, length, Option, Some, None, is_some, refl, sym, ap, ◌∙◌, subst}
+use Rattle.std.proofs.Common.{◌≡◌, ℕ, ◌+◌, ◌≤◌, false, ◌||◌, List, [], ◌∷◌, ◌++◌, length, Option, Some, None, is_some, refl, sym, ap, ◌∙◌, subst}
 use Rattle.std.proofs.lemmas.Bool.{le-leb, cond-true}
 use Rattle.std.proofs.lemmas.Grind.{flat_map-append}
 use Rattle.std.proofs.lemmas.List.{append-nil}
 use Rattle.std.specs.List.{flat_map, AllByRecursion}
 use Rattle.gfx_base.specs.declared.refusal.Refusal.{Refusal}
 use Rattle.gfx_dvc.specs.Cutting.{recorded_fragment, recorded, fragments_of, IsRecordable}
-use Rattle.gfx_dvc.specs.Joining.{Joiner, fresh, idle, messages_of, joiner_after}
-use Rattle.gfx_dvc.specs.Joined.{Ended, known_in, Joined}
+use Rattle.gfx_dvc.specs.Joining.{Joiner, fresh, idle, turn, messages_of, joiner_after}
+use Rattle.gfx_dvc.specs.Joined.{Ended, known_in, Accepted, EndsBehind, Joined}
 use Rattle.gfx_dvc.specs.Laws.{IsIdle}
 use Rattle.gfx_dvc.specs.declared.profile.TheConstants.{CHANNEL}
 use Rattle.gfx_dvc.proofs.CutLemmas.{is_cut}
 use Rattle.gfx_dvc.proofs.OneJoiningLemmas.{one_joining}
+use Rattle.gfx_dvc.proofs.PassedLemmas.{step-refused}
 use Rattle.gfx_dvc.proofs.RecordingLemmas.{recorded_is_whole}
 use Rattle.gfx_dvc.specs.Recording as recording
 use Rattle.gfx_segment.specs.Framing as framing
 use Rattle.gfx_segment.specs.Framing.{prefixed}
 use Rattle.gfx_segment.proofs.ReadBackLemmas.{front-prefixed}
 use Rattle.gfx_fragments.specs.Cut.{is_one, next_message, next_fragment, cut_of, Cuts}
-use Rattle.gfx_fragments.specs.Due.{Due, last_of, ending_of, due_in}
-use Rattle.gfx_fragments.specs.Found.{Found, first_of, left_open, wrong_in, fragmented_of, fragmented, fragments_due, joined_of, joined, ended}
-use Rattle.gfx_fragments.specs.Laws.{IsMessage, stream_of, whole_due, StreamComesBack, WritesEach, recording_of, WritesJoined, AnyCutting}
+use Rattle.gfx_fragments.specs.Due.{Due, counted, last_of, ending_of, due_in}
+use Rattle.gfx_fragments.specs.Found.{Found, first_of, left_open, wrong_in, passed_by, fragmented_of, fragmented, fragments_due, joined_of, joined, ended}
+use Rattle.gfx_fragments.specs.Laws.{IsMessage, stream_of, whole_due, StreamComesBack, WritesEach, recording_of, WritesJoined, NamesRefused, AnyCutting}
+use Rattle.gfx_fragments.specs.declared.ended.Ended.TheVariants.{Refused}
 use Rattle.gfx_fragments.proofs.CutLemmas.{cut-is}
 use Rattle.gfx_fragments.proofs.EndLemmas.{within-found}
-use Rattle.gfx_fragments.proofs.FoundLemmas.{fragmented-is, joined-is}
+use Rattle.gfx_fragments.proofs.FoundLemmas.{fragmented-is, joined-is, passed-all, passed-to, turn-not}
 use Rattle.gfx_fragments.proofs.FrontLemmas.{message-is, messages_lawful, fragment-is, fragments_lawful}
 
 -- a stream, and a recording, cut into what they were put together of ----------------------------------------------
@@ -72,6 +74,42 @@ writes_joined fragments messages joiner all joined_are =
           ∙ ap (λ z. first_of joiner.refusal (wrong_in z)) fragments_lawful.none
           ∙ first-alone joiner.refusal,
     )
+
+-- those that were accepted are joined to the joiner behind them
+accepted-joined : (accepted messages : List (List ℕ)) (before : Joiner) → Accepted accepted messages before → joiner_after fresh accepted ≡ before
+accepted-joined accepted messages before taken =
+    let joins : Joined accepted messages before = record { accepted = accepted; behind = []; cut = sym (append-nil accepted); before = before; taken = taken; ends = refl } in
+    (one_joining accepted messages before joins).1
+
+-- and what is refused behind them is passed by no more
+counts-accepted : (fragments messages accepted behind : List (List ℕ)) (joiner before : Joiner) → fragments ≡ accepted ++ behind → Accepted accepted messages before
+    → EndsBehind before behind joiner → passed_by fresh fragments ≡ accepted
+counts-accepted fragments messages accepted [] joiner before cut taken ends =
+    let all : fragments ≡ accepted = cut ∙ append-nil accepted in
+    let clear : (joiner_after fresh accepted).refusal ≡ None = ap (λ (z : Joiner). z.refusal) (accepted-joined accepted messages before taken) ∙ taken.clear in
+    ap (passed_by fresh) all ∙ passed-all fresh accepted clear
+counts-accepted fragments messages accepted (bad ∷ others) joiner before cut taken (r, bad_is, is) =
+    let at = accepted-joined accepted messages before taken in
+    let clear : (joiner_after fresh accepted).refusal ≡ None = ap (λ (z : Joiner). z.refusal) at ∙ taken.clear in
+    let now : (turn (joiner_after fresh accepted) bad).1.refusal ≡ Some r = ap (λ (z : Joiner). (turn z bad).1.refusal) at ∙ ap (λ (z : List (List ℕ) × Joiner). z.1.refusal) (turn-not before bad r (step-refused before bad r bad_is)) in
+    ap (passed_by fresh) cut ∙ passed-to fresh accepted bad others r clear now
+
+-- what is due of an input that is refused
+refused-is : (find : List ℕ → Found) (limit : ℕ) (bytes text : List ℕ) (count : ℕ) (r : Refusal) → length bytes ≤ limit → (find bytes).text ≡ text → (find bytes).refusal ≡ Some r → (find bytes).count ≡ count
+    → due_in find limit bytes ≡ record { text = text; ending = Refused (counted (count + 1)) r }
+refused-is find limit bytes text count r within is refused counts =
+    let found = within-found find limit bytes within in
+    let refusal : (ended (find bytes)).refusal ≡ Some r = ap (λ z. first_of z (left_open (find bytes).is_open)) refused in
+    ap (λ (z : Found). let due : Due = record { text = z.text; ending = ending_of z.refusal z.count (last_of limit bytes) } in due) found
+    ∙ ap (λ z. let due : Due = record { text = (find bytes).text; ending = ending_of z (find bytes).count (last_of limit bytes) } in due) refusal
+    ∙ (λ i. record { text = is i; ending = Refused (counted (counts i + 1)) r })
+
+pub names_refused : NamesRefused
+names_refused limit fragments messages joiner r all joining kept within =
+    let w = writes_joined fragments messages joiner all joining in
+    let count : passed_by fresh fragments ≡ joining.accepted = counts-accepted fragments messages joining.accepted joining.behind joiner joining.before joining.cut joining.taken joining.ends in
+    refused-is joined limit (recording_of fragments) (stream_of messages) (length joining.accepted) r within w.0 (w.1 ∙ kept)
+    (ap (λ (z : Found). z.count) (recording-found fragments all) ∙ ap length count)
 
 -- the joiner behind messages that are whole
 abbrev closed : ℕ → List (List ℕ) → Joiner

@@ -1,14 +1,15 @@
 -- What holds of `fragment` and `join`: this project's own promises.
-use Rattle.std.specs.Prelude.{◌≡◌, ℕ, ◌<◌, ◌≤◌, List, [], length}
+use Rattle.std.specs.Prelude.{◌≡◌, ℕ, ◌+◌, ◌<◌, ◌≤◌, List, [], length, Some}
 use Rattle.std.specs.List.{flat_map, AllByRecursion}
 use Rattle.gfx_base.specs.declared.TheConstants.{MOST_MESSAGE}
+use Rattle.gfx_base.specs.declared.refusal.Refusal.{Refusal}
 use Rattle.gfx_dvc.specs.Cutting.{recorded_fragment, recorded, IsRecordable}
 use Rattle.gfx_dvc.specs.Joining.{Joiner}
 use Rattle.gfx_dvc.specs.Joined.{Ended, Joined}
 use Rattle.gfx_segment.specs.Framing.{prefixed}
-use Rattle.gfx_fragments.specs.Due.{Due, due_in}
+use Rattle.gfx_fragments.specs.Due.{Due, counted, due_in}
 use Rattle.gfx_fragments.specs.Found.{fragmented, joined, fragments_due, joined_due}
-use Rattle.gfx_fragments.specs.declared.ended.Ended.TheVariants.{Done}
+use Rattle.gfx_fragments.specs.declared.ended.Ended.TheVariants.{Done, Refused}
 
 -- a channel message, and a stream of such messages, each behind its length
 abbrev pub IsMessage : List ℕ → Type 0
@@ -44,6 +45,14 @@ abbrev pub WritesJoined : Type 0
 WritesJoined =
     (fragments messages : List (List ℕ)) (joiner : Joiner) → AllByRecursion IsRecordable fragments → Joined fragments messages joiner
     → (joined_due (recording_of fragments) ≡ stream_of messages) × ((joined (recording_of fragments)).refusal ≡ joiner.refusal)
+
+-- and the first fragment that is refused is named, by its number from 1, with the refusal of the joiner behind those
+-- that were accepted
+abbrev pub NamesRefused : Type 0
+NamesRefused =
+    (limit : ℕ) (fragments messages : List (List ℕ)) (joiner : Joiner) (refusal : Refusal) → AllByRecursion IsRecordable fragments
+    → (joining : Joined fragments messages joiner) → joiner.refusal ≡ Some refusal → length (recording_of fragments) ≤ limit
+    → due_in joined limit (recording_of fragments) ≡ record { text = stream_of messages; ending = Refused (counted (length joining.accepted + 1)) refusal }
 
 -- messages whose fragments were cut in any way are written whole, and nothing is refused
 abbrev pub AnyCutting : Type 0

@@ -1,11 +1,11 @@
 //! The command `join`: the fragments of a recording are joined, and each channel message is written once it is whole.
-ghost use Rattle.std.specs.Prelude.{◌≡◌, ℕ, ◌+◌, ◌≤◌, ◌<◌, ◌^◌, List, [], ◌||◌, length, take, drop, Option, Some, None, is_some, IfOk};
+ghost use Rattle.std.specs.Prelude.{◌≡◌, ℕ, ◌+◌, ◌≤◌, ◌<◌, ◌^◌, List, [], ◌||◌, length, take, drop, Option, Some, None, is_some, is_ok, IfOk};
 ghost use Rattle.std.specs.List.{flat_map};
 ghost use Rattle.gfx_base.specs.Stream.{Writes, change};
 ghost use Rattle.gfx_base.specs.declared.refusal.Refusal.{Refusal};
-ghost use Rattle.gfx_dvc.specs.Joining.{fresh, given};
+ghost use Rattle.gfx_dvc.specs.Joining.{fresh, given, step};
 ghost use Rattle.gfx_dvc.specs.declared.profile.TheConstants.{PREFIX};
-ghost use Rattle.gfx_input.specs.Reading.{TakesPiece};
+ghost use Rattle.gfx_input.specs.Reading.{TakesPiece, WantsOnlyIf};
 ghost use Rattle.gfx_segment.specs.Framing.{prefixed};
 ghost use Rattle.gfx_fragments.specs.Cut.{One, next_fragment};
 ghost use Rattle.gfx_fragments.specs.Due.{Does};
@@ -152,7 +152,7 @@ fn join_next<O: Sink>(taker: &mut Assembler, out: &mut O) -> Result<Option<Taken
     }
 }
 
-/// Joins the fragment of this size, which is at the front.
+/// Joins the fragment of this size, which is at the front. Memory is wanting only for one that passes the joiner's checks.
 fn take_fragment<O: Sink>(
     size: usize,
     taker: &mut Assembler,
@@ -164,6 +164,7 @@ fn take_fragment<O: Sink>(
         → IsJoining taker.old bytes (change before (O.faults out.old) held (O.held out.old))
         → JoinsOn result taker.new bytes (change before (O.faults out.new) held (O.held out.new)) }
     ensures fewer { IfOk result (λ answer. answer ≡ None → taker.new.pending ≡ drop (PREFIX + size) taker.old.pending) }
+    ensures memory { WantsOnlyIf result (is_ok (step taker.old.joiner (take size (drop PREFIX taker.old.pending)))) }
 {
     match taker.joiner.take(taker.pending.fragment(size)) {
         Ok(message) => {

@@ -1,5 +1,5 @@
 -- How an input is read, piece by piece: this project's own rule.
-use Rattle.std.specs.Prelude.{◌≡◌, ℕ, ◌+◌, ◌-◌, ◌≤◌, ◌<◌, List, [], ◌++◌, length, take, Option, Some, None, Result, Ok, Err}
+use Rattle.std.specs.Prelude.{◌≡◌, ℕ, ◌+◌, ◌-◌, ◌≤◌, ◌<◌, Bool, true, List, [], ◌++◌, length, take, Option, Some, None, Result, Ok, Err}
 use Rattle.gfx_base.specs.Stream.{Change, Gains, GainsPart, FailsAfter, Tells, Gave, Keeps, Rose}
 use Rattle.gfx_input.specs.declared.fault.InputFault.{InputFault}
 use Rattle.gfx_input.specs.declared.fault.InputFault.TheVariants as fault
@@ -25,6 +25,12 @@ abbrev pub Breaks : InputFault → Change → List ℕ → Type 0
 Breaks fault.Read o text = Gains o text
 Breaks fault.Write o text = FailsAfter o text
 Breaks fault.Memory o text = (o.now ≡ o.before) × GainsPart o text
+
+-- memory is wanting only where this holds
+abbrev pub WantsOnlyIf : {X : Type 0} → Result X TakeFault → Bool → Type 0
+WantsOnlyIf (Ok x) may = Unit {0}
+WantsOnlyIf (Err broke.Write) may = Unit {0}
+WantsOnlyIf (Err broke.Memory) may = may ≡ true
 
 -- what giving a piece answers, which is the last of these bytes, where this text is due of all of them
 abbrev pub TakesPiece : {S : Type 0} → (S → List ℕ → Type 0) → (S → List ℕ → Type 0) → List ℕ → Result Taken TakeFault → S → List ℕ → Change → Type 0

@@ -1,12 +1,12 @@
 -- What bytes begin with where a kept file is due behind its length: this project's own rule.
-use Rattle.std.specs.Prelude.{ℕ, ◌+◌, nat_le, nat_lt, if◌then◌else◌, List, length, take, drop, Option, Some, None, Result, Ok, Err}
+use Rattle.std.specs.Prelude.{ℕ, ◌+◌, Bool, true, false, ◌||◌, nat_le, nat_lt, if◌then◌else◌, List, length, take, drop, Option, Some, None, Result, Ok, Err}
 use Rattle.std.specs.Int.{w32}
 use Rattle.std.specs.Option.{unwrap_or}
 use Rattle.gfx_base.specs.Field.{field}
 use Rattle.gfx_base.specs.declared.refusal.Refusal.{Refusal}
 use Rattle.gfx_base.specs.declared.refusal.Refusal.TheVariants.{KeptShape}
 use Rattle.gfx_bitmap_cache.specs.Slots.{Entry}
-use Rattle.gfx_import.specs.File.{entries_of}
+use Rattle.gfx_import.specs.File.{entries_of, is_begun}
 use Rattle.gfx_import.specs.declared.limits.TheConstants.{MOST_FILE}
 use Rattle.gfx_kept_input.specs.declared.file.TheConstants.{PREFIX}
 
@@ -38,3 +38,17 @@ known_size bytes = unwrap_or (field w32 bytes 0) 0
 
 abbrev pub size_of : List ℕ → ℕ
 size_of bytes = PREFIX + known_size bytes
+
+-- it is read, and nothing of it is refused
+abbrev pub is_whole : Front → Bool
+is_whole (Whole entries after) = true
+is_whole Short = false
+is_whole (Bad refusal) = false
+
+-- its start at least is accepted: only behind that may memory be wanting
+abbrev pub is_begun_in : List ℕ → Bool
+is_begun_in bytes = is_begun (take (known_size bytes) (drop PREFIX bytes))
+
+-- or it is whole, and then it is let go of
+abbrev pub may_want : List ℕ → Bool
+may_want bytes = is_whole (front bytes) || is_begun_in bytes

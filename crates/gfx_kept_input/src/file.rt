@@ -1,6 +1,7 @@
 //! A kept file behind its length.
 ghost use Rattle.std.specs.Prelude.{◌≡◌, ◌+◌, ◌≤◌, [], length, drop, OnOk};
-ghost use Rattle.gfx_kept_input.specs.Front.{known_size};
+ghost use Rattle.gfx_base.specs.Outcome.{WantsOnlyIf};
+ghost use Rattle.gfx_kept_input.specs.Front.{is_begun_in, known_size};
 ghost use Rattle.gfx_kept_input.specs.Taking.{ReadsFront};
 
 use gfx_base::{Bytes, Fault, NoMemory, Refusal, field_u32};
@@ -40,10 +41,12 @@ pub(crate) fn known_size(bytes: &[u8]) -> u32
 }
 
 /// Reads the file at the front, behind its length, once it is whole. `None` says that bytes are missing yet. It is
-/// KeptShape where its length is above 67,108,864, or where it isn't a kept file.
+/// KeptShape where its length is above 67,108,864, or where it isn't a kept file. Memory is wanting only where the file's
+/// start is accepted.
 #[tactic(auto, unfolding(crate::specs::Front::front, crate::specs::Front::front_of))]
 pub(crate) fn read_front(alloc: Global, bytes: &[u8]) -> Result<Option<File>, Fault>
-    ensures { ReadsFront result bytes.now }
+    ensures read { ReadsFront result bytes.now }
+    ensures memory { WantsOnlyIf result (is_begun_in bytes.now) }
 {
     let Some(size) = field_u32(bytes, 0) else {
         return Ok(None);

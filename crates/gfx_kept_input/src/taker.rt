@@ -1,6 +1,9 @@
 //! What an input is given to, piece by piece: each file is read once it is whole, and the script is collected.
 ghost use Rattle.std.specs.Prelude.{◌≡◌, ℕ, List, []};
 ghost use Rattle.gfx_input.specs.declared.taker.Taken.TheVariants.{Stopped};
+ghost use Rattle.gfx_import.specs.Agreed.{agree};
+ghost use Rattle.gfx_input.specs.Reading.{WantsOnlyIf};
+ghost use Rattle.gfx_kept_input.specs.Front.{may_want};
 ghost use Rattle.gfx_kept_input.specs.Taking.{due_size, Holds, Goes, IsRead};
 ghost use Rattle.gfx_kept_input.specs.declared.taker.Part.TheVariants.{Server, Client, Refused};
 
@@ -111,7 +114,8 @@ fn read_files(taker: &mut Intake) -> Result<Taken, TakeFault>
 /// Reads the server's file once it is whole, and then the client's.
 fn read_server(taker: &mut Intake) -> Result<Taken, TakeFault>
     requires { taker.old.part ≡ Server }
-    ensures { (bytes : List ℕ) → Holds Server taker.old bytes → Goes result taker.new bytes }
+    ensures turn { (bytes : List ℕ) → Holds Server taker.old bytes → Goes result taker.new bytes }
+    ensures memory { WantsOnlyIf result (may_want taker.old.bytes) }
 {
     match read_front(taker.alloc, taker.bytes.as_slice()) {
         Ok(Some(file)) => take_server(taker, file),
@@ -132,10 +136,11 @@ fn take_server(taker: &mut Intake, file: File) -> Result<Taken, TakeFault>
     read_client(taker)
 }
 
-/// Reads the client's file once it is whole.
+/// Reads the client's file once it is whole. Memory is wanting only where its start at least is accepted.
 fn read_client(taker: &mut Intake) -> Result<Taken, TakeFault>
     requires { taker.old.part ≡ Client }
-    ensures { (bytes : List ℕ) → Holds Client taker.old bytes → Goes result taker.new bytes }
+    ensures turn { (bytes : List ℕ) → Holds Client taker.old bytes → Goes result taker.new bytes }
+    ensures memory { WantsOnlyIf result (may_want taker.old.bytes) }
 {
     match read_front(taker.alloc, taker.bytes.as_slice()) {
         Ok(Some(file)) => take_client(taker, file),
@@ -145,10 +150,11 @@ fn read_client(taker: &mut Intake) -> Result<Taken, TakeFault>
     }
 }
 
-/// Takes the client's file, which is at the front, where both files agree.
+/// Takes the client's file, which is at the front, where both files agree. Memory is wanting only where they do.
 fn take_client(taker: &mut Intake, file: File) -> Result<Taken, TakeFault>
     requires { IsRead file taker.old.bytes }
-    ensures { (bytes : List ℕ) → Holds Client taker.old bytes → Goes result taker.new bytes }
+    ensures turn { (bytes : List ℕ) → Holds Client taker.old bytes → Goes result taker.new bytes }
+    ensures memory { WantsOnlyIf result (agree taker.old.server.kept file.kept) }
 {
     if !agree(&taker.server.kept, &file.kept) {
         return Ok(refuse(taker, Refusal::KeptDiffers));

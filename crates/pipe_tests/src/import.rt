@@ -32,7 +32,7 @@ struct Case {
     err: &'static str,
 }
 
-const CASES: [Case; 8] = [
+const CASES: [Case; 9] = [
     Case {
         input: SESSION,
         status: Status::Done,
@@ -68,6 +68,13 @@ const CASES: [Case; 8] = [
     // A file that begins otherwise.
     Case {
         input: b"\x06\x00\x00\x00KEPU\x00\x00\x06\x00\x00\x00KEPT\x00\x00",
+        status: Status::Refused,
+        out: "",
+        err: "kept: 54 KeptShape\n",
+    },
+    // The client's file begins otherwise.
+    Case {
+        input: b"\x06\x00\x00\x00KEPT\x00\x00\x06\x00\x00\x00KEPU\x00\x00",
         status: Status::Refused,
         out: "",
         err: "kept: 54 KeptShape\n",

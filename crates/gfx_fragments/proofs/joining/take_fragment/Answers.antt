@@ -1,6 +1,7 @@
 use Rattle.std.proofs.Common.{◌∙◌, ◌+◌, Some, Err, refl, ap, take, drop}
+use Rattle.std.specs.Result.{is_ok}
 use Rattle.gfx_dvc.specs.declared.profile.TheConstants.{PREFIX}
-use Rattle.gfx_fragments.proofs.JoiningTurns.{take_turns, refused_turns, no_memory, took, took_not}
+use Rattle.gfx_fragments.proofs.JoiningTurns.{take_turns, refused_turns, no_memory, took, took_not, wanted, wants_any}
 use Rattle.gfx_fragments.proofs.joining.take_fragment.Goals as goal
 
 pub returns-in-Ok-clause-turns : goal.returns-in-Ok-clause-turns
@@ -18,3 +19,11 @@ returns-in-Err-Refused-clause-turns g c = λ bytes before held start.
 
 pub returns-in-Err-Memory-clause-turns : goal.returns-in-Err-Memory-clause-turns
 returns-in-Err-Memory-clause-turns g c = λ bytes before held start. no_memory _ c.args.taker.now c.args.taker.now bytes start
+
+pub returns-in-Ok-clause-memory : goal.returns-in-Ok-clause-memory
+returns-in-Ok-clause-memory g c =
+    wants_any c.put_given.result _ (ap is_ok (took c.args.taker.now.joiner c.take.new.self _ _ c.in-Ok.message c.take.result c.in-Ok.is c.fragment.ensures c.take.ensures.exact))
+
+pub returns-in-Err-Memory-clause-memory : goal.returns-in-Err-Memory-clause-memory
+returns-in-Err-Memory-clause-memory g c =
+    wanted c.args.taker.now.joiner _ _ c.take.result (c.in-Err-Memory.is ∙ ap (λ z. Err z) c.in-Err-Memory.field-0-is) c.fragment.ensures c.take.ensures.memory

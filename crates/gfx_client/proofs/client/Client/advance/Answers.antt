@@ -1,7 +1,8 @@
 use Rattle.std.proofs.Common.{[], refl, sym, ap, subst, ◌∙◌}
 use Rattle.std.proofs.lemmas.Result.{err_from_is_err_and}
-use Rattle.gfx_client.specs.Client.{damage_of, Moves}
+use Rattle.gfx_client.specs.Client.{damage_of, IsAtPayloadEnd, Moves}
 use Rattle.gfx_client.proofs.ClientLemmas.{not_moved, moved_on, moved_by, waits, stopped_taking, stopped_opening}
+use Rattle.gfx_client.proofs.Wants.{channel_wants, message_wants}
 use Rattle.gfx_client.proofs.client.Client.advance.Goals as goal
 
 pub messages-init : goal.messages-init
@@ -45,3 +46,15 @@ messages-preserved c =
       opens.damage ∙ ap damage_of none.1 ∙ c.messages.invariant.2,
       c.in_ok-open_message.ensures.living ∙ c.in_ok-stepped.ensures.living ∙ c.messages.invariant.3,
     )
+
+pub returns-in_err-stepped-clause-memory : goal.returns-in_err-stepped-clause-memory
+returns-in_err-stepped-clause-memory c =
+    let p = err_from_is_err_and c.from_residual.result c.from_residual.ensures.1 in
+    rw (p.1, p.2) (message_wants c.messages.self c.take_message.new.self c.in_err-stepped.field-0.0 c.in_err-stepped.ensures.takes c.in_err-stepped.ensures.memory)
+
+pub returns-in_err-open_message-clause-memory : goal.returns-in_err-open_message-clause-memory
+returns-in_err-open_message-clause-memory c =
+    let p = err_from_is_err_and c.from_residual-in_err-open_message.result c.from_residual-in_err-open_message.ensures.1 in
+    let none = rw c.in_default.is at c.in_ok-stepped.ensures.takes in
+    let end = subst IsAtPayloadEnd (sym none.1) none.0 in
+    rw (p.1, p.2) (channel_wants c.take_message.new.self c.open_message.new.self c.in_err-open_message.field-0.0 end c.in_err-open_message.ensures.opens c.in_err-open_message.ensures.memory)

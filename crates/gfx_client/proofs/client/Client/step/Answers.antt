@@ -36,3 +36,6 @@ pub returns-in-Err-Memory-clause-brings : goal.returns-in-Err-Memory-clause-brin
 returns-in-Err-Memory-clause-brings c =
     let moves = rw c.in-Err-Memory.field-0-is at c.in-Err-Memory.ensures.advances in
     λ origin bytes all b. brings_none (closed_by c.args.self.now) c.args.self.now c.advance.new.self _ bytes all c.in_default.is moves.0 refl b
+
+pub returns-in-Err-Memory-clause-memory : goal.returns-in-Err-Memory-clause-memory
+returns-in-Err-Memory-clause-memory c = λ not_closed. rw c.in-Err-Memory.field-0-is at c.in-Err-Memory.ensures.memory

@@ -196,7 +196,7 @@ module _ (script : Script) (pictures : List Source) (steps : List Step) where
   left_out_same None items agree = refl
   left_out_same (Some written) items agree = is_covered_same written items agree
 
-  kept_same : (items : List Queued) → AllByRecursion LooksAt items → kept now items ≡ kept script items
+  pub kept_same : (items : List Queued) → AllByRecursion LooksAt items → kept now items ≡ kept script items
   unfolding kept
   kept_same [] agree = refl
   kept_same (item ∷ items) agree =
@@ -257,7 +257,7 @@ module _ (script : Script) (pictures : List Source) (steps : List Step) where
   looks_all [] agree = tt
   looks_all (item ∷ items) agree = ((agree.0.0, looks_if (step_at script.steps item.step) agree.0.1), looks_all items agree.1)
 
-  sees_all_at : (items : List Queued) → AllByRecursion AgreesAt items → AllByRecursion (SeesAt script pictures) items
+  pub sees_all_at : (items : List Queued) → AllByRecursion AgreesAt items → AllByRecursion (SeesAt script pictures) items
   sees_all_at [] agree = tt
   sees_all_at (item ∷ items) agree = (agree.0.1, sees_all_at items agree.1)
 

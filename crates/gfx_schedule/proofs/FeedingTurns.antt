@@ -26,6 +26,7 @@ use Rattle.gfx_schedule.specs.Feeding.{grown, with_more, world_with_more, has_fr
 use Rattle.gfx_schedule.specs.Forgetting.{Sees}
 use Rattle.gfx_schedule.specs.Hearing.{Heard, listening, hears}
 use Rattle.gfx_schedule.specs.ServerEnd.{ScheduledEnd, first_frame, behind_frame, numbered, queued, can_send, due, with_sent, sends, bytes_sent, serves, serving}
+use Rattle.gfx_schedule.specs.Sparing.{PaintsWithin}
 use Rattle.gfx_schedule.specs.Starts.{Start}
 use Rattle.gfx_schedule.specs.World.{World, begin_from, server_turns, client_takes, server_heard, happens}
 use Rattle.gfx_schedule.proofs.FeedingScripts.{AgreesAt, sends_alike, bytes_alike}
@@ -112,7 +113,7 @@ turn_inside count script w (Answer most) inside = hears_inside count script w.se
 
 -- a longer script ----------------------------------------------------------------------------------------------------
 
-step_by : (steps more : List Step) (number : ℕ) (b : Bool) → (number == 0) ≡ b → number ≤ length steps → cond b None (slice_get (steps ++ more) (number - 1)) ≡ cond b None (slice_get steps (number - 1))
+pub step_by : (steps more : List Step) (number : ℕ) (b : Bool) → (number == 0) ≡ b → number ≤ length steps → cond b None (slice_get (steps ++ more) (number - 1)) ≡ cond b None (slice_get steps (number - 1))
 step_by steps more number true is le = refl
 step_by steps more number false is le = let some = eqb-false number 0 is in get_before steps more (number - 1) (omega (arith, some))
 
@@ -136,17 +137,12 @@ agree_before script pictures more most (item ∷ items) sees le all = (
   agree_before script pictures more most items sees le all.1,
 )
 
--- a paint names one of so many pictures
-abbrev pub Names : List Sides → Step → Type 0
-Names sides (Paint id picture at named glyph) = picture < length sides
-Names sides step = Unit {0}
-
 ok_or_there : {X : Type 0} (sides : List X) (n : ℕ) (o : Option X) (kind : ScriptKind) (x : X) → slice_get sides n ≡ o → ok_or o kind ≡ Ok x → n < length sides
 ok_or_there sides n None kind x is ok = absurd cc
 ok_or_there sides n (Some y) kind x is ok = slice_get_within sides n y is
 
 -- so does each that passes the checks
-names : (held after : Held) (step : Step) → held_after held step ≡ Ok after → Names held.pictures step
+names : (held after : Held) (step : Step) → held_after held step ≡ Ok after → PaintsWithin (length held.pictures) step
 unfolding held_after picture_painted
 names held after (Paint id picture at kind glyph) ok =
     let first = and_then_ok _ _ after ok in
@@ -154,17 +150,17 @@ names held after (Paint id picture at kind glyph) ok =
     ok_or_there held.pictures picture (slice_get held.pictures picture) _ second.0 refl second.1
 names held after step ok = tt
 
-pub all_name : (held after : Held) (steps : List Step) → held_through held steps ≡ Ok after → AllByRecursion (Names held.pictures) steps
+pub all_name : (held after : Held) (steps : List Step) → held_through held steps ≡ Ok after → AllByRecursion (PaintsWithin (length held.pictures)) steps
 all_name held after [] ok = tt
 all_name held after (step ∷ steps) ok =
     let c = held_through-first held after step steps ok in
-    (names held c.0 step c.1, subst (λ sides. AllByRecursion (Names sides) steps) (pictures_stay held c.0 step c.1) (all_name c.0 after steps c.2))
+    (names held c.0 step c.1, subst (λ sides. AllByRecursion (PaintsWithin (length sides)) steps) (pictures_stay held c.0 step c.1) (all_name c.0 after steps c.2))
 
-sees_before : (pictures more : List Picture) (sides : List Sides) (step : Step) → length sides ≤ length pictures → Names sides step → Sees pictures (pictures ++ more) step
+sees_before : (pictures more : List Picture) (sides : List Sides) (step : Step) → length sides ≤ length pictures → PaintsWithin (length sides) step → Sees pictures (pictures ++ more) step
 sees_before pictures more sides (Paint id picture at named glyph) le name = get_before pictures more picture (omega (arith, name))
 sees_before pictures more sides step le name = tt
 
-pub all_see : (pictures more : List Picture) (sides : List Sides) (steps : List Step) → length sides ≤ length pictures → AllByRecursion (Names sides) steps → AllByRecursion (Sees pictures (pictures ++ more)) steps
+pub all_see : (pictures more : List Picture) (sides : List Sides) (steps : List Step) → length sides ≤ length pictures → AllByRecursion (PaintsWithin (length sides)) steps → AllByRecursion (Sees pictures (pictures ++ more)) steps
 all_see pictures more sides [] le names = tt
 all_see pictures more sides (step ∷ steps) le names = (sees_before pictures more sides step le names.0, all_see pictures more sides steps le names.1)
 

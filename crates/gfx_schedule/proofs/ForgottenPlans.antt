@@ -1,20 +1,17 @@
 -- Where nothing waits and nothing is left, a session of the forgotten script may have begun: the steps that are forgotten are
 -- frames, which check, want and hold nothing.
-use Rattle.std.proofs.Common.{◌≡◌, true, ◌≤◌, ℕ, zero, suc, IsTrue, List, [], ◌∷◌, ◌++◌, drop, length, map, replicate, None, Ok, refl, sym, ap, ◌∙◌, subst, arith, length-append}
+use Rattle.std.proofs.Common.{◌≡◌, true, ◌≤◌, ℕ, zero, suc, IsTrue, List, ◌∷◌, ◌++◌, length, replicate, None, Ok, refl, sym, ap, ◌∙◌, subst, arith}
 use Rattle.std.specs.List.{AllByRecursion}
 use Rattle.std.proofs.lemmas.List.{append-nil, drop_all, length-map, length-replicate}
 use Rattle.gfx_base.proofs.ResultLemmas.{and_then_at}
 use Rattle.gfx_alike.proofs.Steps.{alike_itself}
-use Rattle.gfx_script.proofs.MoreSteps.{pictures_stay_through}
 use Rattle.gfx_script.specs.Checks.{Held, held_after, held_through, sides_of_all}
 use Rattle.gfx_script.specs.Drafts.{sides_of}
-use Rattle.gfx_script.specs.Kinds.{KindedStep, Fits, HasKind, as_kind}
+use Rattle.gfx_script.specs.Kinds.{KindedStep, HasKind, as_kind}
 use Rattle.gfx_script.specs.Pictures.{IsDrawn}
 use Rattle.gfx_script.specs.Script.{IsAcceptedFrom, IsStep, is_framed}
 use Rattle.gfx_script.specs.Scripted.{Script}
 use Rattle.gfx_script.specs.Writes.{writes_by}
-use Rattle.gfx_script.specs.declared.held.Sides.{Sides}
-use Rattle.gfx_script.specs.declared.step.Step.{Step}
 use Rattle.gfx_script.specs.declared.step.Step.TheVariants.{Frame}
 use Rattle.gfx_planner.specs.Agree.{Agree}
 use Rattle.gfx_planner.specs.Holds.{Holds}
@@ -24,10 +21,8 @@ use Rattle.gfx_planner.specs.Want.{wanted_as, want_from}
 use Rattle.gfx_planner.specs.Wanted.{Wanted}
 use Rattle.gfx_planner.proofs.Streams.{bare}
 use Rattle.gfx_script.specs.Forgetting.{blank, forgotten, sides_forgotten}
-use Rattle.gfx_schedule.specs.Forgetting.{BeganSo, ForgettingIsPlanned}
-use Rattle.gfx_schedule.specs.Plan.{InPlanFrom}
-use Rattle.gfx_schedule.specs.ServerEnd.{ScheduledEnd}
-use Rattle.gfx_schedule.specs.Starts.{MayBegin, MayStart, Start}
+use Rattle.gfx_schedule.specs.Forgetting.{ForgettingIsPlanned}
+use Rattle.gfx_schedule.specs.Starts.{MayStart, Start}
 
 -- frames ----------------------------------------------------------------------------------------------------------
 

@@ -1,14 +1,14 @@
 -- What the script of a live server forgets once nothing of it waits, and why no one notices: this project's own rule.
-use Rattle.std.specs.Prelude.{◌≡◌, ◌≤◌, ◌<◌, ℕ, List, [], drop, length, map}
+use Rattle.std.specs.Prelude.{◌≡◌, ◌≤◌, ◌<◌, ℕ, List, [], length}
 use Rattle.std.specs.List.{AllByRecursion, slice_get}
 use Rattle.gfx_script.specs.Checks.{Held}
-use Rattle.gfx_script.specs.Forgetting.{PaintsFrom, forgotten, sides_forgotten}
+use Rattle.gfx_script.specs.Forgetting.{forgotten, sides_forgotten}
 use Rattle.gfx_script.specs.Kinds.{KindedStep}
 use Rattle.gfx_script.specs.Scripted.{Script}
 use Rattle.gfx_script.specs.declared.picture.Picture.{Picture}
 use Rattle.gfx_script.specs.declared.step.Step.{Step}
 use Rattle.gfx_script.specs.declared.step.Step.TheVariants.{Paint}
-use Rattle.gfx_schedule.specs.Feeding.{grown, with_more}
+use Rattle.gfx_schedule.specs.Feeding.{with_more}
 use Rattle.gfx_schedule.specs.Hearing.{Heard, hears}
 use Rattle.gfx_schedule.specs.Plan.{InPlanFrom}
 use Rattle.gfx_schedule.specs.ServerEnd.{ScheduledEnd, serves, serving}
@@ -18,20 +18,6 @@ use Rattle.gfx_schedule.specs.Starts.{MayBegin, Start}
 abbrev pub Sees : List Picture → List Picture → Step → Type 0
 Sees some others (Paint id picture at named glyph) = slice_get others picture ≡ slice_get some picture
 Sees some others step = Unit {0}
-
--- what is kept of a whole script: it differs in the first steps alone, so many, and in pictures that no later step paints, and
--- has as many of both
-pub record Forgot (over : ℕ) (whole kept : Script) : Type 0 where
-  pub others : kept ≡ record whole { pictures = kept.pictures; steps = kept.steps }
-  pub steps : drop over kept.steps ≡ drop over whole.steps
-  pub seen : AllByRecursion (Sees whole.pictures kept.pictures) (drop over whole.steps)
-  pub step_count : length kept.steps ≡ length whole.steps
-  pub picture_count : length kept.pictures ≡ length whole.pictures
-
--- a script that has forgotten nothing but steps that nothing waits for, and has as many, may forget all of them
-abbrev pub AllIsForgotten : Type 0
-AllIsForgotten =
-    (whole kept : Script) (over count : ℕ) → Forgot over whole kept → length whole.steps ≡ count → Forgot count whole (forgotten kept)
 
 -- it isn't noticed -----------------------------------------------------------------------------------------------
 
@@ -51,23 +37,10 @@ abbrev pub StaysBehind : Type 0
 StaysBehind = (over : ℕ) → KeepsBehind over
 
 -- a server's end takes the same turn with both scripts, puts out the same bytes, and hears the same
-pub record ServesAlike (whole kept : Script) (end : ScheduledEnd) : Type 0 where
-  pub serves : serves kept end ≡ serves whole end
-  pub serving : serving kept end ≡ serving whole end
-  pub hears : (heard : Heard) (bytes : List ℕ) → hears kept heard bytes ≡ hears whole heard bytes
-
--- so it is where only steps were forgotten that nothing waits for
-abbrev pub ForgottenServesAlike : Type 0
-ForgottenServesAlike = (over : ℕ) (whole kept : Script) (end : ScheduledEnd) → Forgot over whole kept → IsBehind over end → ServesAlike whole kept end
-
--- the script grows on ----------------------------------------------------------------------------------------------
-
--- both scripts may grow by the same pictures and steps, where the steps paint no picture that was there before
-abbrev pub ForgottenGrows : Type 0
-ForgottenGrows =
-    (over : ℕ) (whole kept : Script) (pictures : List Picture) (more : List KindedStep)
-    → Forgot over whole kept → over ≤ length whole.steps → AllByRecursion (PaintsFrom (length whole.pictures)) (map (λ one. one.step) more)
-    → Forgot over (grown whole pictures more) (grown kept pictures more)
+pub record ServesAlike (whole own : Script) (end : ScheduledEnd) : Type 0 where
+  pub serves : serves own end ≡ serves whole end
+  pub serving : serving own end ≡ serving whole end
+  pub hears : (heard : Heard) (bytes : List ℕ) → hears own heard bytes ≡ hears whole heard bytes
 
 -- a session of what is left ------------------------------------------------------------------------------------------
 

@@ -9,6 +9,7 @@ pub mod Limits
 pub mod MoreSteps
 pub mod ForgottenItems
 pub mod SparedPictures
+pub mod SparedLemmas
 pub mod Improving
 pub mod Ranged
 pub mod Drafting

@@ -1,6 +1,7 @@
 -- What a script forgets of steps that were sent, so that it takes no memory for them any more: a frame stands for each step
 -- then, and a blank picture for each picture, so that what comes later has the numbers that it had. This project's own rule.
 use Rattle.std.specs.Prelude.{ℕ, ◌≤◌, ◌++◌, length, drop, replicate}
+use Rattle.gfx_base.specs.declared.pixel.Pixel.{Pixel}
 use Rattle.gfx_script.specs.declared.picture.Pattern.TheVariants.{Solid}
 use Rattle.gfx_script.specs.declared.picture.Picture.{Picture}
 use Rattle.gfx_script.specs.declared.step.Step.{Step}
@@ -9,9 +10,13 @@ use Rattle.gfx_script.specs.Checks.{Held}
 use Rattle.gfx_script.specs.Drafts.{Draft, sides_of}
 use Rattle.gfx_script.specs.Scripted.{Script}
 
+-- an opaque black pixel
+abbrev pub black : Pixel
+black = record { b = 0; g = 0; r = 0; a = 255 }
+
 -- the picture that stands for one that is forgotten: a black pixel
 abbrev pub blank : Picture
-blank = record { width = 1; height = 1; pattern = Solid (record { b = 0; g = 0; r = 0; a = 255 }) }
+blank = record { width = 1; height = 1; pattern = Solid black }
 
 -- a script that has forgotten all of its steps and pictures
 abbrev pub forgotten : Script → Script

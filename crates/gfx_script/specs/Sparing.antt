@@ -2,10 +2,10 @@
 -- that which step covers which stays too. This project's own rule.
 use Rattle.std.specs.Prelude.{◌≡◌, ℕ, ◌+◌, ◌-◌, Bool, true, false, nat_lt, List, [], ◌∷◌, length, replicate, if◌then◌else◌, Option, Some, None, unwrap_or}
 use Rattle.std.specs.List.{slice_get, slice_set}
-use Rattle.gfx_base.specs.declared.pixel.Pixel.{Pixel}
 use Rattle.gfx_script.specs.declared.picture.Pattern.{Pattern}
 use Rattle.gfx_script.specs.declared.picture.Pattern.TheVariants.{Solid, Ramp, Noise, Text, Desktop, Hex}
 use Rattle.gfx_script.specs.declared.picture.Picture.{Picture}
+use Rattle.gfx_script.specs.Forgetting.{black}
 use Rattle.gfx_script.specs.Scripted.{Script}
 
 -- ---- marks
@@ -28,10 +28,6 @@ abbrev pub keeps : Marks → ℕ → Bool
 keeps marks number = if nat_lt number marks.first then true else unwrap_or (slice_get marks.kept (number - marks.first)) true
 
 -- ---- pixels
-
--- an opaque black pixel
-abbrev pub black : Pixel
-black = record { b = 0; g = 0; r = 0; a = 255 }
 
 -- what stands for a pattern that is forgotten; one that lists no pixels takes no memory, and stays
 abbrev pub unlisted : Pattern → Pattern

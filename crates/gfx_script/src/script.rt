@@ -1,6 +1,6 @@
 //! A script: pictures and steps, and what a session of them is like.
 
-ghost use Rattle.std.specs.Prelude.{◌≡◌, ◌≤◌, ◌==◌, IfOk, IsSome, OnErr, OnOk, Some, drop, length};
+ghost use Rattle.std.specs.Prelude.{◌≡◌, ◌≤◌, ◌==◌, IfOk, IsSome, OnErr, OnOk, Some, drop, length, replicate, take};
 ghost use Rattle.std.specs.List.{slice_get};
 ghost use Rattle.std.specs.Option.{option_copied, option_map};
 ghost use Rattle.gfx_script.specs.Patterns.{pixel_of};
@@ -11,6 +11,7 @@ ghost use Rattle.gfx_script.specs.Sparing.{IsUnmarked, spared};
 ghost use Rattle.gfx_script.specs.Parts.{parts_seen};
 ghost use Rattle.gfx_script.specs.declared.TheConstants.{MOST_STEPS};
 ghost use Rattle.gfx_script.specs.Script.{IsAcceptedAtStart, frames_in, step_at, is_framed};
+ghost use Rattle.gfx_script.specs.declared.step.Step.TheVariants.{Frame};
 
 use crate::draft::Draft;
 use crate::error::Flaw;
@@ -161,6 +162,14 @@ impl Script {
         self.steps.clear();
         self.forgotten_pictures += self.pictures.len() as u32;
         self.pictures.clear();
+    }
+
+    /// How many of its first steps it has forgotten: a frame stands for each.
+    pub fn steps_forgotten(&self) -> u32
+        ensures few { result ≤ length self.now.steps }
+        ensures frames { take result self.now.steps ≡ replicate result Frame }
+    {
+        self.forgotten_steps
     }
 
     /// Marks for its pictures, none of which is marked yet.

@@ -1,5 +1,5 @@
 -- What a call of a server's end comes to.
-use Rattle.std.proofs.Common.{◌≡◌, ℕ, Bool, true, false, List, [], ◌∷◌, length, map, Option, Some, None, is_some, Ok, Err, refl, sym, ap, ◌∙◌, subst, arith}
+use Rattle.std.proofs.Common.{◌≡◌, ℕ, Bool, true, false, ◌||◌, List, [], ◌∷◌, length, map, Option, Some, None, is_some, Ok, Err, refl, sym, ap, ◌∙◌, subst, arith}
 use Rattle.std.proofs.lemmas.List.{length-map}
 use Rattle.gfx_schedule.specs.Hearing.{Heard, listening, hears}
 use Rattle.gfx_schedule.specs.Plan.{InPlanFrom}
@@ -12,7 +12,7 @@ use Rattle.gfx_window.specs.declared.window.Sent.{Sent}
 use Rattle.gfx_session.specs.Kept.{noted, InStep, IsServerEndFrom, ListensAs, PlansAsBefore}
 use Rattle.gfx_session.specs.Listening.{Amid, LeavesPlan, Hears}
 use Rattle.gfx_session.specs.Noting.{Listens, taken_of}
-use Rattle.gfx_session.specs.Taking.{Takes}
+use Rattle.gfx_session.specs.Taking.{Takes, is_want_of_memory}
 use Rattle.gfx_session.specs.declared.server_end.ServerEnd.{ServerEnd}
 use Rattle.gfx_session.specs.declared.server_end.ServerFault.{ServerFault}
 use Rattle.gfx_session.specs.declared.server_end.ServerFault.TheVariants.{Refused, Ack, Memory, Closed}
@@ -55,11 +55,23 @@ pub spent_end : {held : Held} (old new : ServerEnd) → IsServerEndFrom held old
 spent_end {held} old new i same spent =
     record { good = subst (IsAcceptedFrom held) (sym same) i.good; in_step = λ fresh. absurd (let e = sym spent ∙ fresh in cc) }
 
-pub closed_too : {held : Held} (new : ServerEnd) (closed : Bool) → IsServerEndFrom held new → IsServerEndFrom held (record new { closed = closed })
-closed_too new closed i = record {
+-- a server's end that a fault closes, and spends where memory is wanting
+abbrev pub closed_for : ServerFault → ServerEnd → ServerEnd
+closed_for fault end = record end { closed = true; spent = is_want_of_memory fault || end.spent }
+
+not_spent : (b spent : Bool) → (b || spent) ≡ false → spent ≡ false
+not_spent true spent none = absurd cc
+not_spent false spent none = none
+
+pub closed_too : {held : Held} (new : ServerEnd) (fault : ServerFault) → IsServerEndFrom held new → IsServerEndFrom held (closed_for fault new)
+closed_too new fault i = record {
   good = i.good;
-  in_step = λ fresh. let s = i.in_step fresh in record { origin = s.origin; checks = s.checks; kinded = s.kinded; begins = s.begins; at = s.at; gone = s.gone; waiting = s.waiting; plan = s.plan; last = s.last; window = s.window; planned = s.planned };
+  in_step = λ fresh. let s = i.in_step (not_spent (is_want_of_memory fault) new.spent fresh) in record { origin = s.origin; checks = s.checks; kinded = s.kinded; begins = s.begins; at = s.at; gone = s.gone; waiting = s.waiting; plan = s.plan; last = s.last; window = s.window; planned = s.planned };
 }
+
+-- the same, however it was found out why
+pub closed_is : (fault : ServerFault) (end : ServerEnd) (wants : Bool) → wants ≡ is_want_of_memory fault → closed_for fault end ≡ record end { closed = true; spent = wants || end.spent }
+closed_is fault end wants is = λ i. record end { closed = true; spent = sym is i || end.spent }
 
 -- a server's end that a fault closes hears as the schedule's that has stopped
 stops : (before now : List ℕ) (had has : List ShownFrame) (new : ServerEnd) (heard : Heard) (why : Stop) → Amid before now had has new heard → heard.end.stopped ≡ Some why → ListensAs (record new { closed = true }) heard.end
@@ -79,7 +91,7 @@ plans b = record { script = b.plans.script; last = b.plans.last; planner = b.pla
 
 -- what a fault leaves that closes it
 pub closed_by : (closed : Bool) (fault : ServerFault) (old new : ServerEnd) (before now : List ℕ) (had has : List ShownFrame) (piece : List ℕ) → closed ≡ false → LeavesPlan old new had has
-    → Hears (Err fault) old new before now had has piece → Listens closed (Err fault) old (record new { closed = true }) before now had has piece
+    → Hears (Err fault) old new before now had has piece → Listens closed (Err fault) old (closed_for fault new) before now had has piece
 closed_by true fault old new before now had has piece unclosed b h = absurd cc
 closed_by false (Refused r) old new before now had has piece unclosed b h = (
   plans b,
@@ -89,7 +101,13 @@ closed_by false (Ack u) old new before now had has piece unclosed b h = (
   plans b,
   λ at stands. let x = h at stands in ((stops before now had has new (hears old.script (listening at) piece) (unknown u) x.0 x.1, x.0.out), x.1),
 )
-closed_by false Memory old new before now had has piece unclosed b h = (plans b, (refl, h))
+closed_by false Memory old new before now had has piece unclosed b h = (
+  (
+    record { script = b.plans.script; last = b.plans.last; planner = b.plans.planner; spent = refl; pending = b.plans.pending; digests = b.plans.digests },
+    refl,
+  ),
+  (refl, h),
+)
 closed_by false Closed old new before now had has piece unclosed b h = absurd h
 
 -- the count ---------------------------------------------------------------------------------------------------

@@ -92,6 +92,10 @@ pub going_opened : (script : Script) (start : Server) (window : Window) (planned
 going_opened script start window planned before now may s =
     subst (λ (p : Planned). Going script (due_of script window) (due_of script window) start p before now) (sym s.0) (opened_going script start window before now may s.1)
 
+-- nothing of it is put out
+pub none_put : (script : Script) (start : Server) (window : Window) (before : List ℕ) → PutsFront before before (sent (frame_of script start (due_of script window)))
+none_put script start window before = record { part = []; rest = sent (frame_of script start (due_of script window)); cut = refl; gained = sym (append-nil before) }
+
 pub not_opened : (script : Script) (start : Server) (window : Window) (new : Planned) (before now : List ℕ) → PartSent new before now (frame_start start ∷ []) → PutsFront before now (sent (frame_of script start (due_of script window)))
 not_opened script start window new before now s =
     let steps = due_of script window in

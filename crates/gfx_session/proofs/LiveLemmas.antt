@@ -49,6 +49,7 @@ use Rattle.gfx_session.specs.declared.live_end.LiveFault.{LiveFault}
 use Rattle.gfx_schedule.specs.declared.turned.Turned.{Turned}
 use Rattle.gfx_session.specs.declared.server_end.ServerEnd.{ServerEnd}
 use Rattle.gfx_session.specs.declared.server_end.ServerFault.{ServerFault}
+use Rattle.gfx_session.specs.declared.server_end.ServerFault.TheVariants.{Refused, Ack, Memory, Closed}
 use Rattle.gfx_session.specs.declared.server_end.listening.ShownFrame.{ShownFrame}
 use Rattle.gfx_session.proofs.Plans.{within}
 
@@ -311,4 +312,8 @@ serves_script (Err e) old new choosers left before now s = s.1
 
 pub listens_script : (closed : Bool) (result : Result (Unit {0}) ServerFault) (old new : ServerEnd) (before now : List ℕ) (had has : List ShownFrame) (piece : List ℕ) → Listens closed result old new before now had has piece → new.script ≡ old.script
 listens_script true result old new before now had has piece l = ap (λ (e : ServerEnd). e.script) l.1
-listens_script false result old new before now had has piece l = l.0.script
+listens_script false (Ok done) old new before now had has piece l = l.0.script
+listens_script false (Err Memory) old new before now had has piece l = l.0.0.script
+listens_script false (Err (Refused r)) old new before now had has piece l = l.0.script
+listens_script false (Err (Ack u)) old new before now had has piece l = l.0.script
+listens_script false (Err Closed) old new before now had has piece l = l.0.script

@@ -5,8 +5,8 @@ use Rattle.std.specs.Prelude.{◌≡◌, ℕ, Bool, true, false, List, [], ◌�
 use Rattle.gfx_schedule.specs.Hearing.{Heard, listening, hears}
 use Rattle.gfx_schedule.specs.ServerEnd.{ScheduledEnd}
 use Rattle.gfx_window.specs.declared.window.Sent.{Sent}
-use Rattle.gfx_session.specs.Kept.{noted, PlansAsBefore, Stands}
-use Rattle.gfx_session.specs.Taking.{AnswersAs, TakesOpen, WhenHeard}
+use Rattle.gfx_session.specs.Kept.{noted, Stands}
+use Rattle.gfx_session.specs.Taking.{AnswersAs, PlansOn, TakesOpen, WhenHeard}
 use Rattle.gfx_session.specs.declared.acked.Acked.{Acked}
 use Rattle.gfx_session.specs.declared.digests.Digests.{Digests}
 use Rattle.gfx_session.specs.declared.server_end.listening.ShownFrame.{ShownFrame}
@@ -30,10 +30,10 @@ ListensOpen (Ok done) old new before now had has piece =
     WhenHeard old piece (λ heard. AnswersAs new before now heard × (heard.end.stopped ≡ None) × Notes new.digests had has heard)
 ListensOpen (Err fault) old new before now had has piece = TakesOpen (Err fault) old new before now piece
 
--- what any does: one that is closed takes nothing and notes nothing, and an open one plans as before
+-- what any does: one that is closed takes nothing and notes nothing, and an open one plans on
 abbrev pub Listens : Bool → Result (Unit {0}) ServerFault → ServerEnd → ServerEnd → List ℕ → List ℕ → List ShownFrame → List ShownFrame → List ℕ → Type 0
 Listens true result old new before now had has piece = (result ≡ Err Closed) × (new ≡ old) × (now ≡ before) × (has ≡ had)
-Listens false result old new before now had has piece = PlansAsBefore old new × ListensOpen result old new before now had has piece
+Listens false result old new before now had has piece = PlansOn result old new × ListensOpen result old new before now had has piece
 
 -- a server's end will not refuse these bytes
 pub record WillHear (end : ServerEnd) (piece : List ℕ) : Type 0 where

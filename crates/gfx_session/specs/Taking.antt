@@ -61,7 +61,22 @@ TakesOpen (Err Closed) old new before now piece = ⊥
 TakesOpen (Err fault) old new before now piece =
     WhenHeard old piece (λ heard. AnswersAs new before now heard × IsWhyStopped fault heard.end.stopped)
 
--- what any server's end does with a piece: one that is closed takes nothing, and an open one plans as before
+-- a fault is want of memory
+abbrev pub is_want_of_memory : ServerFault → Bool
+is_want_of_memory Memory = true
+is_want_of_memory fault = false
+
+-- what is planned behind a fault: as before. Without memory it is spent besides, and sends nothing more
+abbrev pub PlansBehind : ServerFault → ServerEnd → ServerEnd → Type 0
+PlansBehind Memory old new = PlansAsBefore old (record new { spent = old.spent }) × (new.spent ≡ true)
+PlansBehind fault old new = PlansAsBefore old new
+
+-- and behind any answer
+abbrev pub PlansOn : {X : Type 0} → Result X ServerFault → ServerEnd → ServerEnd → Type 0
+PlansOn (Ok done) old new = PlansAsBefore old new
+PlansOn (Err fault) old new = PlansBehind fault old new
+
+-- what any server's end does with a piece: one that is closed takes nothing, and an open one plans on
 abbrev pub Takes : Bool → Result ℕ ServerFault → ServerEnd → ServerEnd → List ℕ → List ℕ → List ℕ → Type 0
 Takes true result old new before now piece = (result ≡ Err Closed) × (new ≡ old) × (now ≡ before)
-Takes false result old new before now piece = PlansAsBefore old new × TakesOpen result old new before now piece
+Takes false result old new before now piece = PlansOn result old new × TakesOpen result old new before now piece

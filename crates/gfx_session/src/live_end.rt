@@ -14,9 +14,9 @@ ghost use Rattle.gfx_script.specs.Heads.{script_from};
 ghost use Rattle.gfx_script.specs.Script.{is_frame};
 ghost use Rattle.gfx_script.specs.Starting.{stock_with};
 ghost use Rattle.gfx_session.specs.Idle.{ImprovesIdle, improvements_fed, is_idle};
-ghost use Rattle.gfx_session.specs.Live.{BeginsKept, Feeds, IsLive, fed, frame_fed, frames_behind, is_full, paint_fed, script_kept, step_fed, steps_behind, wants_frame};
+ghost use Rattle.gfx_session.specs.Live.{BeginsKept, Feeds, IsLive, fed, frame_fed, frames_behind, has_sent_all, is_full, paint_fed, script_kept, step_fed, steps_behind, wants_frame};
 ghost use Rattle.gfx_session.specs.Noting.{Listens};
-ghost use Rattle.gfx_session.specs.LiveServing.{ServesLive, behind_serving};
+ghost use Rattle.gfx_session.specs.LiveServing.{Forgets, ServesLive};
 ghost use Rattle.gfx_session.specs.Whole.{StandsWhole, StandsWithMore};
 
 use crate::digests::Digests;
@@ -90,7 +90,8 @@ impl From<NoMemory> for KeptFault {
 }
 
 /// A server's end, and the steps that were pushed since the last frame, which aren't in its script yet. It takes memory
-/// for what its client shows and for what wasn't sent yet; what was sent it forgets.
+/// for what its client shows and for what has still to be sent; what was sent it forgets, and the pixels of paints that wait
+/// where a later step covers them.
 #[derive(Drop)]
 pub struct LiveEnd {
     end: ServerEnd,
@@ -136,7 +137,7 @@ impl LiveEnd {
     }
 
     /// The script of all that was pushed in whole frames. Once all of it was sent it is forgotten: a frame stands for each
-    /// step then, and a blank picture for each picture.
+    /// step then, and a blank picture for each picture. While steps wait, a picture that need not be sent may be black.
     pub fn script(&self) -> &Script
         ensures { result.now ≡ self.now.end.script }
     {
@@ -191,7 +192,8 @@ impl LiveEnd {
     }
 
     /// A turn of the server's end, as `ServerEnd::serve`: Ended says that nothing is left to do until more is pushed. Where
-    /// all that was pushed in whole frames has been sent then, its steps and pictures are forgotten.
+    /// all that was pushed in whole frames has been sent then, its steps and pictures are forgotten. Where steps wait, since
+    /// the window is full, pixels of pictures are forgotten whose paints a later step covers.
     pub fn serve<C: Chooser>(
         &mut self,
         choosers: &mut Vec<C>,
@@ -201,8 +203,9 @@ impl LiveEnd {
         ensures serves { ServesLive result self.old self.new (seen C.reply C.is_spent choosers.old.items) (seen C.reply C.is_spent choosers.new.items) out.old out.new }
         ensures is { IsLive self.new }
     {
+        let waited = self.end.due();
         let turned = self.end.serve(choosers, out)?;
-        self.forget_sent();
+        self.forget(waited);
         Ok(turned)
     }
 
@@ -273,17 +276,20 @@ impl LiveEnd {
         self.end.frames_behind()
     }
 
-    /// Forgets all that was sent, where nothing is left and nothing waits.
-    fn forget_sent(&mut self)
+    /// Forgets all that was sent, where nothing is left and nothing waits, and else what waits and need not be sent, where
+    /// so many items waited before the last turn.
+    fn forget(&mut self, waited: usize)
         requires live { IsLive self.old }
         requires fresh { self.old.end.spent ≡ false }
-        ensures forgets { self.new ≡ behind_serving self.old }
+        ensures forgets { Forgets (has_sent_all self.old.end) waited self.old self.new }
         ensures is { IsLive self.new }
     {
         if self.end.has_sent_all() {
             let count = self.end.script().picture_count() as u32;
             self.end.forget_script();
             self.draft.forget_pictures(count);
+        } else {
+            self.end.spare_waiting(waited);
         }
     }
 

@@ -18,7 +18,8 @@ pub(crate) fn hear_bytes(
     taken: &mut Vec<ShownFrame>,
 ) -> Result<(), NoMemory>
     requires { WillHear server.old piece.now }
-    ensures plans { PlansAsBefore server.old server.new }
+    ensures plans { OnOk result (PlansAsBefore server.old server.new) }
+    ensures script { server.new.script ≡ server.old.script }
     ensures hears { OnOk result (ListensOpen (Ok tt) server.old server.new out.old out.new taken.old.items taken.new.items piece.now) }
     ensures is { (held : Held) → IsServerEndFrom held server.old → IsServerEndFrom held server.new }
 {

@@ -1,24 +1,27 @@
 //! The server's end of a session.
 
-ghost use Rattle.std.specs.Prelude.{◌≡◌, ◌≤◌, ◌+◌, ◌-◌, ◌&&◌, drop, false, if◌then◌else◌, IfOk, length, List, not, OnErr};
+ghost use Rattle.std.specs.Prelude.{◌≡◌, ◌≤◌, ◌+◌, ◌-◌, ◌&&◌, drop, false, if◌then◌else◌, IfOk, IsTrue, length, List, not, OnErr, take};
+ghost use Rattle.std.specs.List.{AllByRecursion};
 ghost use Rattle.gfx_base.specs.Outcome.{Gives};
 ghost use Rattle.gfx_import.specs.Imported.{imported};
 ghost use Rattle.gfx_planner.specs.Planned.{ready};
 ghost use Rattle.gfx_planner.specs.Server.{server_with};
 ghost use Rattle.gfx_prog_live.specs.Inside.{AreBy};
 ghost use Rattle.gfx_prog_live.specs.Raising.{AreRaisable};
-ghost use Rattle.gfx_schedule.specs.ServerEnd.{server_at_start, server_end_from};
+ghost use Rattle.gfx_schedule.specs.ServerEnd.{is_none, server_at_start, server_end_from};
 ghost use Rattle.gfx_schedule.specs.Starts.{MayImport, from_kept};
 ghost use Rattle.gfx_script.specs.Checks.{held_first, sides_of_all};
 ghost use Rattle.gfx_script.specs.Drafts.{frame_ended};
 ghost use Rattle.gfx_script.specs.Forgetting.{forgotten};
 ghost use Rattle.gfx_script.specs.Script.{IsAccepted, frames_in, held_at_start};
 ghost use Rattle.gfx_script.specs.declared.TheConstants.{MOST_STEPS};
+ghost use Rattle.gfx_script.specs.declared.step.Step.TheVariants.{Frame};
 ghost use Rattle.gfx_window.specs.Window.{has_room};
 ghost use Rattle.gfx_script.specs.Kinds.{Fits, KindedStep};
 ghost use Rattle.gfx_session.specs.Beginning.{IsOpened};
 ghost use Rattle.gfx_session.specs.Kept.{Stands, IsServerEndFrom};
 ghost use Rattle.gfx_session.specs.Live.{has_sent_all};
+ghost use Rattle.gfx_session.specs.Whole.{MaySpare, SparesWaiting};
 
 mod listening;
 mod serving;
@@ -145,7 +148,16 @@ impl ServerEnd {
         requires few { length self.now.script.steps ≤ MOST_STEPS }
         ensures { result ≡ has_sent_all self.now }
     {
-        self.window.due() == 0 && self.script.step(self.last + 1).is_none()
+        self.window.due() == 0 && self.has_queued_all()
+    }
+
+    /// Whether no step of the script is left to be queued.
+    fn has_queued_all(&self) -> bool
+        requires within { self.now.last ≤ length self.now.script.steps }
+        requires few { length self.now.script.steps ≤ MOST_STEPS }
+        ensures { result ≡ is_none (drop self.now.last self.now.script.steps) }
+    {
+        self.script.step(self.last + 1).is_none()
     }
 
     /// Forgets all steps and pictures of the script.
@@ -155,6 +167,52 @@ impl ServerEnd {
         ensures { self.new ≡ record self.old { script = forgotten self.old.script } }
     {
         self.script.forget();
+    }
+
+    /// How many steps wait for a frame.
+    pub(crate) fn due(&self) -> usize
+        ensures { result ≡ length self.now.window.pending }
+    {
+        self.window.due()
+    }
+
+    /// Forgets pixels of pictures whose paints wait and need not be sent: a step covers them that came behind the first so
+    /// many items. It does so where nothing is left to be queued and all that was sent is forgotten; without memory for the
+    /// marks it forgets none.
+    pub(crate) fn spare_waiting(&mut self, waited: usize)
+        requires waiting { length self.old.window.pending ≤ self.old.last }
+        requires within { self.old.last ≤ length self.old.script.steps }
+        requires few { length self.old.script.steps ≤ MOST_STEPS }
+        ensures { SparesWaiting waited self.old self.new }
+    {
+        if waited >= self.due() || !self.may_spare() {
+            return;
+        }
+        if let Ok(mut marks) = self.script.unmarked(self.alloc) {
+            self.window
+                .mark_surely_sent(&self.script, waited, &mut marks);
+            self.script.spare(&marks);
+        }
+    }
+
+    /// Whether nothing is left to be queued, and all steps before those that wait are forgotten.
+    fn may_spare(&self) -> bool
+        requires waiting { length self.now.window.pending ≤ self.now.last }
+        requires within { self.now.last ≤ length self.now.script.steps }
+        requires few { length self.now.script.steps ≤ MOST_STEPS }
+        ensures { IsTrue result → MaySpare self.now }
+    {
+        self.has_queued_all() && self.has_forgotten_sent()
+    }
+
+    /// Whether all steps before those that wait are forgotten.
+    fn has_forgotten_sent(&self) -> bool
+        requires waiting { length self.now.window.pending ≤ self.now.last }
+        requires within { self.now.last ≤ length self.now.script.steps }
+        requires few { length self.now.script.steps ≤ MOST_STEPS }
+        ensures { IsTrue result → AllByRecursion (λ step. step ≡ Frame) (take (self.now.last - length self.now.window.pending) self.now.script.steps) }
+    {
+        self.last - self.due() as u32 <= self.script.steps_forgotten()
     }
 
     /// The surfaces that have a tile which an improvement would raise.

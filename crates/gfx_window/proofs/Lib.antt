@@ -4,3 +4,8 @@ pub mod RuleLaws
 pub mod Watched
 pub mod LastFrame
 pub mod SureLaws
+pub mod IndexLaws
+pub mod FoundLaws
+pub mod HomeLoops
+pub mod LeavingLaws
+pub mod ListsLaws

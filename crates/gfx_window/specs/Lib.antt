@@ -3,3 +3,4 @@ pub mod Superseded
 pub mod Hulls
 pub mod Rule
 pub mod Sparing
+pub mod Index

@@ -76,7 +76,7 @@ pub(crate) fn is_covered(script: &Script, write: Write, items: &[Queued]) -> boo
 
 /// Whether an item covers a write.
 #[inline(always)]
-fn covers(script: &Script, item: Queued, write: Write) -> bool
+pub(crate) fn covers(script: &Script, item: Queued, write: Write) -> bool
     ensures { result ≡ hull_covers write (plain_area script.now item) }
 {
     match script.step(item.step) {

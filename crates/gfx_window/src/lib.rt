@@ -7,6 +7,8 @@
 #![tactic(auto)]
 
 mod covering;
+mod index;
+mod leaving;
 mod promises;
 mod sparing;
 mod window;

@@ -1,11 +1,13 @@
-ghost use Rattle.std.specs.Prelude.{◌≡◌, ◌++◌, ◌∷◌, ◌<◌, ◌≤◌, IsTrue, [], Some, drop, length, map, take, OnOk, OnErr};
+ghost use Rattle.std.specs.Prelude.{◌≡◌, ◌++◌, ◌∷◌, ◌<◌, ◌≤◌, IfOk, IsTrue, [], Some, drop, length, map, take, OnOk, OnErr};
 ghost use Rattle.std.specs.List.{slice_get, last_or};
 ghost use Rattle.gfx_base.specs.Outcome.{Says};
 ghost use Rattle.gfx_window.specs.Window.{no_frames, has_room, with_pending, sent, is_unwatched, left_flying, acknowledged, acknowledged_late};
 ghost use Rattle.gfx_window.specs.Sparing.{items_marked, surely_sent};
+ghost use Rattle.gfx_window.specs.Index.{AreLeftOut};
 ghost use Rattle.gfx_window.specs.Superseded.{superseded};
 
 use crate::covering::{is_covered, plain_write};
+use crate::leaving::left_out;
 use crate::sparing::mark_surely_sent;
 use gfx_base::NoMemory;
 use gfx_caps::SUSPENDS;
@@ -110,6 +112,13 @@ impl Window {
             None => false,
             Some(write) => is_covered(script, write, later),
         }
+    }
+
+    /// Of each item that waits whether it need not be sent, as `superseded` says it, found for all of them at once.
+    pub fn left_out(&self, script: &Script) -> Result<Vec<bool>, NoMemory>
+        ensures { IfOk result (λ left. AreLeftOut script.now self.now.pending left.items 0) }
+    {
+        left_out(*self.pending.allocator(), script, &self.pending)
     }
 
     /// Marks the pictures of the paints that wait, but for those that surely need not be sent: one of the items from this

@@ -13,7 +13,7 @@ ghost use Rattle.gfx_script.specs.Checks.{Held};
 ghost use Rattle.gfx_session.specs.Kept.{IsServerEndFrom};
 ghost use Rattle.gfx_session.specs.Listening.{LeavesPlan, Obeys, Hears, told_of};
 ghost use Rattle.gfx_session.specs.Noting.{Listens, taken_of};
-ghost use Rattle.gfx_session.specs.Taking.{Takes};
+ghost use Rattle.gfx_session.specs.Taking.{Takes, is_want_of_memory};
 
 use super::{ServerEnd, ServerFault};
 use gfx_base::{Bytes, Fault, NoMemory, Refusal};
@@ -90,7 +90,8 @@ impl From<AckUnknown> for ServerFault {
 impl ServerEnd {
     /// Takes the next bytes of the client, cut anywhere, and puts out what is answered to them; tells how
     /// many frames in flight were acknowledged. The first fault closes the server's end, which then takes
-    /// nothing; where memory ran out, no more than a front of what is answered was put out.
+    /// nothing; where memory ran out, what is answered to a whole number of messages was put out, and the server's end is
+    /// spent besides: `serve` sends nothing more.
     pub fn take(&mut self, piece: &[u8], out: &mut Bytes) -> Result<u32, ServerFault>
         ensures takes { Takes self.old.closed result self.old self.new out.old out.new piece.now }
         ensures is { (held : Held) → IsServerEndFrom held self.old → IsServerEndFrom held self.new }
@@ -120,6 +121,7 @@ impl ServerEnd {
             Ok(()) => Ok(()),
             Err(fault) => {
                 self.closed = true;
+                self.spent = is_want_of_memory(fault) | self.spent;
                 Err(fault)
             }
         }
@@ -253,6 +255,16 @@ impl ServerEnd {
         if self.window.is_suspended() {
             self.ends.clear();
         }
+    }
+}
+
+/// Whether a fault is want of memory.
+fn is_want_of_memory(fault: ServerFault) -> bool
+    ensures { result ≡ is_want_of_memory fault }
+{
+    match fault {
+        ServerFault::Memory => true,
+        _ => false,
     }
 }
 

@@ -1,10 +1,12 @@
 //! A turn of the server's end.
-ghost use Rattle.std.specs.Prelude.{◌≡◌, ◌≤◌, ◌+◌, ◌&&◌, ◌||◌, if◌then◌else◌, true, false, drop, length, OnOk};
+ghost use Rattle.std.specs.Prelude.{◌≡◌, ◌<◌, ◌≤◌, ◌+◌, ◌&&◌, ◌||◌, if◌then◌else◌, true, false, drop, length, OnOk};
 ghost use Rattle.gfx_chooser.specs.Seen.{seen};
 ghost use Rattle.gfx_schedule.specs.ServerEnd.{is_none, may_send};
 ghost use Rattle.gfx_schedule.specs.declared.turned.Turned.TheVariants.{Moved, Waiting};
 ghost use Rattle.gfx_script.specs.declared.TheConstants.{MOST_STEPS};
 ghost use Rattle.gfx_session.specs.Frames.{MayFrame, PutsFrame, SendsFrame, WatchesFrame, due_of};
+ghost use Rattle.gfx_window.specs.Index.{AreLeftOut};
+ghost use Rattle.gfx_window.specs.Superseded.{superseded};
 ghost use Rattle.gfx_window.specs.Window.{has_room};
 ghost use Rattle.gfx_script.specs.Checks.{Held};
 ghost use Rattle.gfx_session.specs.Kept.{IsServerEnd, IsServerEndFrom, digest_in, noted};
@@ -57,9 +59,7 @@ impl ServerEnd {
         requires few { length self.now.script.steps ≤ MOST_STEPS }
         ensures { result ≡ (is_none (drop self.now.last self.now.script.steps) && (is_none self.now.window.pending && is_none self.now.window.flying)) }
     {
-        self.script.step(self.last + 1).is_none()
-            && self.window.due() == 0
-            && self.window.in_flight() == 0
+        self.has_queued_all() && self.window.due() == 0 && self.window.in_flight() == 0
     }
 
     /// Whether a frame can go.
@@ -167,9 +167,10 @@ fn put_frame(
     requires may { MayFrame script.now planner.old.server window.now }
     ensures { PutsFrame result script.now (due_of script.now window.now) planner.old.server planner.new out.old out.new }
 {
+    let left_out = window.left_out(script)?;
     let frame = planner.open_frame(out)?;
     'places: for place in 0..window.due() {
-        if window.superseded(script, place) {
+        if superseded(script, window, &left_out, place) {
             continue;
         }
         let item = window.item(place);
@@ -177,4 +178,13 @@ fn put_frame(
     }
     planner.close_frame(out)?;
     Ok(frame)
+}
+
+/// Whether the item at a place is left out, as it was found of all of them.
+fn superseded(script: &Script, window: &Window, left_out: &[bool], place: usize) -> bool
+    requires place { place < length window.now.pending }
+    requires left_out { AreLeftOut script.now window.now.pending left_out.now 0 }
+    ensures { result ≡ superseded script.now window.now.pending place }
+{
+    left_out[place]
 }

@@ -1,8 +1,6 @@
-use Rattle.std.proofs.Common.{Ok, refl, sym, subst}
+use Rattle.std.proofs.Common.{refl}
 use Rattle.std.proofs.lemmas.Result.{err_from_is_err_and}
 use Rattle.gfx_chooser.specs.Seen.{seen}
-use Rattle.gfx_session.specs.declared.live_end.LiveEnd.{LiveEnd}
-use Rattle.gfx_session.specs.LiveServing.{ServesLive}
 use Rattle.gfx_session.proofs.LiveForgetting.{serves_live, serves_live_not}
 use Rattle.gfx_session.proofs.LiveLemmas.{serves_script, still_live}
 use Rattle.gfx_session.proofs.live_end.LiveEnd.serve.Goals as goal
@@ -19,8 +17,8 @@ returns-in_err-turned-clause-is g c =
     still_live c.args.self.now (record c.args.self.now { end = c.serve.new.self }) c.requires c.serve.ensures.is
     (serves_script c.serve.result c.args.self.now.end c.serve.new.self _ _ c.args.out.now c.serve.new.out c.serve.ensures.serves) refl
 
-pub forget_sent-requires-clause-live : goal.forget_sent-requires-clause-live
-forget_sent-requires-clause-live g c =
+pub forget-requires-clause-live : goal.forget-requires-clause-live
+forget-requires-clause-live g c =
     still_live c.args.self.now (record c.args.self.now { end = c.serve.new.self }) c.requires c.serve.ensures.is
     (serves_script c.serve.result c.args.self.now.end c.serve.new.self _ _ c.args.out.now c.serve.new.out c.serve.ensures.serves) refl
 
@@ -29,9 +27,6 @@ returns-clause-serves g c =
     let live =
     still_live c.args.self.now (record c.args.self.now { end = c.serve.new.self }) c.requires c.serve.ensures.is
     (serves_script c.serve.result c.args.self.now.end c.serve.new.self _ _ c.args.out.now c.serve.new.out c.serve.ensures.serves) refl in
-    subst
-    (λ (live : LiveEnd). ServesLive (Ok c.in_ok-turned.turned) c.args.self.now live (seen g.C.Chooser.reply g.C.Chooser.is_spent c.args.choosers.now.items)
-    (seen g.C.Chooser.reply g.C.Chooser.is_spent c.serve.new.choosers.items) c.args.out.now c.serve.new.out)
-    (sym c.forget_sent.ensures.forgets)
-    (serves_live c.in_ok-turned.turned c.args.self.now c.serve.new.self (seen g.C.Chooser.reply g.C.Chooser.is_spent c.args.choosers.now.items)
-    (seen g.C.Chooser.reply g.C.Chooser.is_spent c.serve.new.choosers.items) c.args.out.now c.serve.new.out live c.in_ok-turned.ensures.serves)
+    serves_live c.in_ok-turned.turned c.args.self.now c.serve.new.self (seen g.C.Chooser.reply g.C.Chooser.is_spent c.args.choosers.now.items)
+    (seen g.C.Chooser.reply g.C.Chooser.is_spent c.serve.new.choosers.items) c.args.out.now c.serve.new.out live c.in_ok-turned.ensures.serves
+    c.due-waited.result c.forget.new.self.end c.forget.new.self.draft c.forget.ensures.forgets

@@ -1,11 +1,16 @@
 use Rattle.std.proofs.Common.{◌∙◌, sym, arith}
 use Rattle.std.proofs.lemmas.Result.{err_from_is_err_and}
-use Rattle.gfx_session.proofs.Framing.{going_opened, not_opened, walks_past, walk_allowed, walks_on, walk_fails, walk_ends, walk_unended}
+use Rattle.gfx_session.proofs.Framing.{going_opened, none_put, not_opened, walks_past, walk_allowed, walks_on, walk_fails, walk_ends, walk_unended}
 use Rattle.gfx_session.proofs.server_end.serving.put_frame.Goals as goal
+
+pub returns-in_err-left_out : goal.returns-in_err-left_out
+returns-in_err-left_out c =
+    let p = err_from_is_err_and c.from_residual.result c.from_residual.ensures.1 in
+    rw p.1 (none_put c.args.script.now c.args.planner.now.server c.args.window.now c.args.out.now)
 
 pub returns-in_err-frame : goal.returns-in_err-frame
 returns-in_err-frame c =
-    let p = err_from_is_err_and c.from_residual.result c.from_residual.ensures.1 in
+    let p = err_from_is_err_and c.from_residual-in_err-frame.result c.from_residual-in_err-frame.ensures.1 in
     let s = c.in_err-frame.ensures.sends in
     rw p.1 (not_opened c.args.script.now c.args.planner.now.server c.args.window.now c.open_frame.new.self c.args.out.now c.open_frame.new.out s.0)
 

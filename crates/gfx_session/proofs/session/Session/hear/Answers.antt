@@ -13,7 +13,7 @@ returns-clause-does c =
     let old = c.args.self.now in
     heard old (record old { server = c.hear_bytes.new.server; down = c.put.new.self; up = c.pass.new.self; drawn = c.note_all.new.drawn; acks = c.note_all.new.acks })
     c.new-out.result c.hear_bytes.new.out c.front-piece.result.now c.new-taken.result.items c.hear_bytes.new.taken.items c.args.most (not c.is_empty-moved.result)
-    c.new-out.ensures c.new-taken.ensures.items c.front-piece.ensures (will_hear old c.args.most c.front-piece.result.now c.requires.is c.requires.fresh c.front-piece.ensures) c.in_ok-hear_bytes.ensures.hears c.hear_bytes.ensures.plans c.pass.ensures c.in_ok-put.ensures.ok
+    c.new-out.ensures c.new-taken.ensures.items c.front-piece.ensures (will_hear old c.args.most c.front-piece.result.now c.requires.is c.requires.fresh c.front-piece.ensures) c.in_ok-hear_bytes.ensures.hears c.in_ok-hear_bytes.ensures.plans c.pass.ensures c.in_ok-put.ensures.ok
     (c.in_ok-note_all.ensures.acks ∙ ap (λ z. old.acks ++ paired z old.drawn.items) c.as_slice.ensures.value)
     (c.in_ok-note_all.ensures.drawn ∙ ap (λ z. drop (length z) old.drawn.items) c.as_slice.ensures.value)
     (ap not c.is_empty-moved.ensures)
@@ -25,7 +25,7 @@ returns-clause-is c =
     c.requires.is c.requires.fresh (c.requires.is.server.0, c.hear_bytes.ensures.is c.requires.is.server.0 c.requires.is.server.1)
     (heard old (record old { server = c.hear_bytes.new.server; down = c.put.new.self; up = c.pass.new.self; drawn = c.note_all.new.drawn; acks = c.note_all.new.acks })
     c.new-out.result c.hear_bytes.new.out c.front-piece.result.now c.new-taken.result.items c.hear_bytes.new.taken.items c.args.most (not c.is_empty-moved.result)
-    c.new-out.ensures c.new-taken.ensures.items c.front-piece.ensures (will_hear old c.args.most c.front-piece.result.now c.requires.is c.requires.fresh c.front-piece.ensures) c.in_ok-hear_bytes.ensures.hears c.hear_bytes.ensures.plans c.pass.ensures c.in_ok-put.ensures.ok
+    c.new-out.ensures c.new-taken.ensures.items c.front-piece.ensures (will_hear old c.args.most c.front-piece.result.now c.requires.is c.requires.fresh c.front-piece.ensures) c.in_ok-hear_bytes.ensures.hears c.in_ok-hear_bytes.ensures.plans c.pass.ensures c.in_ok-put.ensures.ok
     (c.in_ok-note_all.ensures.acks ∙ ap (λ z. old.acks ++ paired z old.drawn.items) c.as_slice.ensures.value)
     (c.in_ok-note_all.ensures.drawn ∙ ap (λ z. drop (length z) old.drawn.items) c.as_slice.ensures.value)
     (ap not c.is_empty-moved.ensures))

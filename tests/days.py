@@ -3,8 +3,9 @@
 
     tests/days.py LIVE_SERVER LIVE_CLIENT [STEPS [MOVES]]
 
-A picture of 640 by 400 moves over a screen for MOVES frames, 1,500 where none is said; then small fills go, ten a frame,
-until STEPS steps were pushed, 1,000,000 where none is said; then the picture moves again. In between the client is slow,
+A picture of 640 by 400 moves over a screen for MOVES frames, 1,500 where none is said; then it is painted 1,000 times at
+one place while the client is silent; then small fills go, ten a frame, until STEPS steps were pushed, 1,000,000 where none
+is said; then the picture moves again. In between the client is slow,
 so that frames wait. Each program has 1,500 MB of addresses. More than 64 MB more than the server's end had after the
 first frames is a failure, and so are frames that take more than twice the time of the first ones. At the end the screen
 has to look as it should, and an idle server has to end at the best level, and then to send nothing. There is a line for
@@ -117,6 +118,13 @@ def main():
         move(session, 100, pictures)
         first, memory = move(session, moves, pictures), resident(server)
         say(f"{session.steps} steps, {moves} moves: {first * 1000:.2f} ms a frame, {memory >> 20} MB", True)
+        for number in range(1000):
+            server.paint(1, 100, 100, *SIDES, pictures[number % len(pictures)], "residual")
+            session.frame(1, waits=True)
+        now = resident(server)
+        say(f"{session.steps} steps: 1,000 paints wait, {now >> 20} MB", now < memory + GROWTH)
+        session.acknowledge()
+        session.turns()
         began = time.time()
         while session.steps < steps:
             for at in range(10):

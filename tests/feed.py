@@ -18,7 +18,6 @@ import collections
 import os
 import random
 import re
-import shutil
 import struct
 import subprocess
 import sys
@@ -33,6 +32,7 @@ sys.path.insert(0, os.path.join(HERE, "..", "tools"))
 
 from gfxtools import live, recording, scripted
 from gfxtools.live import Turned
+from tried import refusing
 
 MADE = range(1, 51)
 ADVERTISE, ACKNOWLEDGE, CONFIRM, END_FRAME, OFFER, QOE = 0x12, 0x0D, 0x13, 0x0C, 0x10, 0x16
@@ -789,29 +789,25 @@ class Fed:
     def record_without_memory(self):
         """The stored run with one allocation refused, for each number that it comes to: the first answer that differs
         says so, each command has its answer, or the program ends for want of memory. It needs a C compiler."""
-        if not shutil.which("cc"):
+        if not refusing.can_refuse():
             self.counts["left out for want of a C compiler"] += 1
             return
         data, whole = b"".join(stored()), list(records(self.raw(b"".join(stored()))[1]))
-        with tempfile.TemporaryDirectory() as work:
-            library, counted = os.path.join(work, "refused-memory.so"), os.path.join(work, "counted")
-            subprocess.run(["cc", "-O2", "-shared", "-fPIC", "-o", library, os.path.join(HERE, "refused-memory.c")],
-                           check=True)
+        with tempfile.TemporaryDirectory() as folder:
+            starved = refusing.Refusing(folder)
             refused = count = 0
             while refused <= count:
-                around = {"LD_PRELOAD": library, "REFUSED": str(refused), "COUNTED": counted}
-                done = subprocess.run([self.program], input=data, capture_output=True, env=around)
-                with open(counted) as file:
-                    count = max(count, int(file.read()))
-                got = list(records(done.stdout))
+                done = starved.run([self.program], data, refused)
+                count = max(count, starved.count())
+                got = list(records(done.out))
                 other = next((one for one, due in zip(got, whole) if one != due), None)
                 if other not in (None, ("N", b""), ("R", b"Memory")):
                     raise Differs(f"allocation {refused} is refused, and the first other answer is {other}")
-                if (done.returncode, done.stderr) == (1, b"memory: none left\n"):
+                if (done.number, done.line) == (1, b"memory: none left\n"):
                     self.counts["ends for want of memory"] += 1
                 else:
                     same(f"the end without allocation {refused}", (0, b"", len(whole)),
-                         (done.returncode, done.stderr, len(got)))
+                         (done.number, done.line, len(got)))
                     self.counts["answers for want of memory" if other else "needless allocations"] += 1
                 refused += 1
 

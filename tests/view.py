@@ -16,7 +16,6 @@ import collections
 import io
 import lzma
 import os
-import shutil
 import struct
 import subprocess
 import sys
@@ -30,6 +29,7 @@ STORED = os.path.join(HERE, "..", "crates", "live_client")
 sys.path.insert(0, os.path.join(HERE, "..", "tools"))
 
 from gfxtools import dump, live
+from tried import refusing
 
 MADE = range(1, 51)
 V8, V81, V10 = 0x00080004, 0x00080105, 0x000A0002
@@ -267,32 +267,28 @@ class Cases:
         """The stored run with one allocation refused, for each number that it comes to: each command has its answer, or
         the program ends for want of memory; behind a message that is refused for it every other one is. It needs a C
         compiler."""
-        if not shutil.which("cc"):
+        if not refusing.can_refuse():
             self.counts["left out for want of a C compiler"] += 1
             return
         data, lost = stored(), struct.pack("<Q", 0) + b"Memory"
         kinds = [kind for kind, _ in records(data)]
-        with tempfile.TemporaryDirectory() as work:
-            library, counted = os.path.join(work, "refused-memory.so"), os.path.join(work, "counted")
-            subprocess.run(["cc", "-O2", "-shared", "-fPIC", "-o", library, os.path.join(HERE, "refused-memory.c")],
-                           check=True)
+        with tempfile.TemporaryDirectory() as folder:
+            starved = refusing.Refusing(folder)
             refused = count = 0
             while refused <= count:
-                around = {"LD_PRELOAD": library, "REFUSED": str(refused), "COUNTED": counted}
-                done = subprocess.run([self.program], input=data, capture_output=True, env=around)
-                with open(counted) as file:
-                    count = max(count, int(file.read()))
-                got = list(records(done.stdout))
+                done = starved.run([self.program], data, refused)
+                count = max(count, starved.count())
+                got = list(records(done.out))
                 answers = [answer for kind, answer in zip(kinds, got) if kind == "M"]
                 if ("R", lost) in answers:
                     first = answers.index(("R", lost))
                     same(f"messages behind allocation {refused}", {("R", lost)}, set(answers[first:]))
                     self.counts["sessions that end for want of memory"] += 1
-                if (done.returncode, done.stderr) == (1, b"memory: none left\n"):
+                if (done.number, done.line) == (1, b"memory: none left\n"):
                     self.counts["ends for want of memory"] += 1
                 else:
                     same(f"the end without allocation {refused}", (0, b"", len(kinds)),
-                         (done.returncode, done.stderr, len(got)))
+                         (done.number, done.line, len(got)))
                 refused += 1
 
 

@@ -20,7 +20,9 @@ BARS, SHORTS = 32768, 16384
 
 
 class Server:
-    def __init__(self, seed):
+    def __init__(self, seed, counts=(20, 60, 60, 300)):
+        """It sends one of these counts of paints."""
+        self.counts = counts
         self.chance = random.Random(seed)
         self.sizes = {}      # surface: width, height
         self.sequence = self.below(256)
@@ -142,7 +144,7 @@ class Server:
         for number in range(2):
             self.sizes[number] = 64 + self.below(100), 64 + self.below(100)
             yield surface(number, *self.sizes[number], self.chance.choice((XRGB, ARGB)))
-        for _ in range(self.chance.choice((20, 60, 60, 300))):
+        for _ in range(self.chance.choice(self.counts)):
             yield self.paint()
             if not self.below(30):
                 yield reset(1 + self.below(500), 1 + self.below(500))
@@ -161,6 +163,7 @@ class Server:
         return text + (channel(payload) if payload else b"")
 
 
-if len(sys.argv) != 2 or not sys.argv[1].isdigit():
-    sys.exit(__doc__)
-sys.stdout.buffer.write(Server(int(sys.argv[1])).whole())
+if __name__ == "__main__":
+    if len(sys.argv) != 2 or not sys.argv[1].isdigit():
+        sys.exit(__doc__)
+    sys.stdout.buffer.write(Server(int(sys.argv[1])).whole())
